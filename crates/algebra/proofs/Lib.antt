@@ -1,0 +1,10 @@
+pub mod RingLaws
+pub mod Ring
+pub mod Order
+pub mod Claim
+pub mod Inequalities
+pub mod Vec
+pub mod Cone
+pub mod Separation
+pub mod Sized
+pub mod Tests

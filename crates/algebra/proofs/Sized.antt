@@ -1,0 +1,131 @@
+-- Bounds on numbers with a sign, and the way to `SFits`, which a signed operation asks for: the size of a sum, a difference, a product and a
+-- quotient, and one law for each operation on the bits of a signed 64-bit number. Closed bounds are answered by `tt`. Assumes nothing.
+use Prim.Native.Nat.{ℕ, zero, suc, _+_, _-_, _*_, _^_, _≤_, _<_}
+use native.Mathlib.Nat.{le-refl, le-trans, lt-of-le-of-lt, mul-le-mul, add-le-add, div-le-self}
+use native.Mathlib.Omega.{arith}
+use mathlib.Core.Path.{_≡_, refl, sym, subst}
+use mathlib.Core.Bool.{Bool, true, false, cond}
+use borrow.Author.Tests.{ltb-true}
+use lib.Dec.{T, ltb, ltb→lt}
+use lib.IntN.{ℤ, pos, negsuc, natAbs, negℤ, _+ℤ_, _-ℤ_, _*ℤ_}
+use lib.Signed.{mag, quotZ, ltZ, leZ}
+use mir.Syntax.{Width, w64}
+use mir.Val.{SFits, toZ, ofZ, hbits}
+use mir.Facts.{toZ-ofZ}
+use Rattle.algebra.specs.Sizes.{Upto}
+
+-- ---- sizes
+
+pub natAbs-neg : (z : ℤ) → natAbs (negℤ z) ≡ natAbs z
+natAbs-neg (pos zero) = refl
+natAbs-neg (pos (suc n)) = refl
+natAbs-neg (negsuc n) = refl
+
+difference-size : (a b : ℕ) (t : Bool) → ltb a b ≡ t → natAbs (cond t (negsuc (b - suc a)) (pos (a - b))) ≤ a + b
+difference-size a b true e = omega (arith, ltb-true a b e)
+difference-size a b false e = omega arith
+
+natAbs-add : (a b : ℤ) → natAbs (a +ℤ b) ≤ natAbs a + natAbs b
+natAbs-add (pos a) (pos b) = le-refl _
+natAbs-add (pos a) (negsuc b) = difference-size a (suc b) _ refl
+natAbs-add (negsuc a) (pos b) = omega (arith, difference-size b (suc a) _ refl)
+natAbs-add (negsuc a) (negsuc b) = omega arith
+
+pub natAbs-mul : (a b : ℤ) → natAbs (a *ℤ b) ≡ natAbs a * natAbs b
+natAbs-mul (pos a) (pos b) = refl
+natAbs-mul (pos a) (negsuc b) = natAbs-neg (pos (a * suc b))
+natAbs-mul (negsuc a) (pos b) = natAbs-neg (pos (suc a * b))
+natAbs-mul (negsuc a) (negsuc b) = refl
+
+natAbs-quot : (a b : ℤ) → natAbs (quotZ a b) ≤ natAbs a
+natAbs-quot (pos a) (pos b) = div-le-self a b
+natAbs-quot (pos a) (negsuc b) = rw natAbs-neg (div-le-self a (suc b))
+natAbs-quot (negsuc a) (pos b) = rw natAbs-neg (div-le-self (suc a) b)
+natAbs-quot (negsuc a) (negsuc b) = div-le-self (suc a) (suc b)
+
+pub upto-mono : {m n : ℕ} {z : ℤ} → m ≤ n → Upto m z → Upto n z
+upto-mono h p = record { le = le-trans (p .le) h }
+
+pub upto-neg : {n : ℕ} {z : ℤ} → Upto n z → Upto n (negℤ z)
+upto-neg p = record { le = rw natAbs-neg (p .le) }
+
+pub upto-add : {m n : ℕ} {y z : ℤ} → Upto m y → Upto n z → Upto (m + n) (y +ℤ z)
+upto-add {y = y} {z = z} p q = record { le = le-trans (natAbs-add y z) (add-le-add (p .le) (q .le)) }
+
+pub upto-sub : {m n : ℕ} {y z : ℤ} → Upto m y → Upto n z → Upto (m + n) (y -ℤ z)
+upto-sub p q = upto-add p (upto-neg q)
+
+pub upto-mul : {m n : ℕ} {y z : ℤ} → Upto m y → Upto n z → Upto (m * n) (y *ℤ z)
+upto-mul p q = record { le = rw natAbs-mul (mul-le-mul (p .le) (q .le)) }
+
+pub upto-quot : {m : ℕ} {y : ℤ} (z : ℤ) → Upto m y → Upto m (quotZ y z)
+upto-quot {y = y} z p = record { le = le-trans (natAbs-quot y z) (p .le) }
+
+-- ---- what fits a width
+
+mag≤natAbs : (z : ℤ) → mag z ≤ natAbs z
+mag≤natAbs (pos n) = le-refl _
+mag≤natAbs (negsuc n) = omega arith
+
+pub sfits : (w : Width) {n : ℕ} {z : ℤ} → Upto n z → T (ltb n (2 ^ hbits w)) → SFits w z
+sfits w {n} {z} h t = record { sfits = lt-of-le-of-lt (mag≤natAbs z) (lt-of-le-of-lt (h .le) (ltb→lt n (2 ^ hbits w) t)) }
+
+-- ---- the bits of a signed 64-bit number
+
+-- the bits b stand for z, whose size is at most n
+pub record Is (b : ℕ) (z : ℤ) (n : ℕ) : Type 0 where
+  pub eq : toZ w64 b ≡ z
+  pub size : Upto n z
+
+pub held : {n : ℕ} {z : ℤ} → Upto n z → T (ltb n (2 ^ 63)) → Is (ofZ w64 z) z n
+held h t = record { eq = toZ-ofZ (sfits w64 h t); size = h }
+
+-- an operation whose result on the bits is y, and on the numbers is z
+kept : {y z : ℤ} {n : ℕ} → y ≡ z → Upto n z → T (ltb n (2 ^ 63)) → Is (ofZ w64 y) z n
+kept {z} {n} e h t = subst (λ v. Is (ofZ w64 v) z n) (sym e) (held h t)
+
+fits : {y z : ℤ} {n : ℕ} → y ≡ z → Upto n z → T (ltb n (2 ^ 63)) → SFits w64 y
+fits e h t = subst (λ v. SFits w64 v) (sym e) (sfits w64 h t)
+
+module _ {b c : ℕ} {y z : ℤ} {m n : ℕ} (p : Is b y m) (q : Is c z n) where
+  add-eq : toZ w64 b +ℤ toZ w64 c ≡ y +ℤ z
+  add-eq i = p .eq i +ℤ q .eq i
+
+  sub-eq : toZ w64 b -ℤ toZ w64 c ≡ y -ℤ z
+  sub-eq i = p .eq i -ℤ q .eq i
+
+  mul-eq : toZ w64 b *ℤ toZ w64 c ≡ y *ℤ z
+  mul-eq i = p .eq i *ℤ q .eq i
+
+  div-eq : quotZ (toZ w64 b) (toZ w64 c) ≡ quotZ y z
+  div-eq i = quotZ (p .eq i) (q .eq i)
+
+  pub is-add : T (ltb (m + n) (2 ^ 63)) → Is (ofZ w64 (toZ w64 b +ℤ toZ w64 c)) (y +ℤ z) (m + n)
+  is-add t = kept add-eq (upto-add (p .size) (q .size)) t
+
+  pub is-sub : T (ltb (m + n) (2 ^ 63)) → Is (ofZ w64 (toZ w64 b -ℤ toZ w64 c)) (y -ℤ z) (m + n)
+  is-sub t = kept sub-eq (upto-sub (p .size) (q .size)) t
+
+  pub is-mul : T (ltb (m * n) (2 ^ 63)) → Is (ofZ w64 (toZ w64 b *ℤ toZ w64 c)) (y *ℤ z) (m * n)
+  is-mul t = kept mul-eq (upto-mul (p .size) (q .size)) t
+
+  pub is-div : T (ltb m (2 ^ 63)) → Is (ofZ w64 (quotZ (toZ w64 b) (toZ w64 c))) (quotZ y z) m
+  is-div t = kept div-eq (upto-quot z (p .size)) t
+
+  pub fits-add : T (ltb (m + n) (2 ^ 63)) → SFits w64 (toZ w64 b +ℤ toZ w64 c)
+  fits-add t = fits add-eq (upto-add (p .size) (q .size)) t
+
+  pub fits-sub : T (ltb (m + n) (2 ^ 63)) → SFits w64 (toZ w64 b -ℤ toZ w64 c)
+  fits-sub t = fits sub-eq (upto-sub (p .size) (q .size)) t
+
+  pub fits-mul : T (ltb (m * n) (2 ^ 63)) → SFits w64 (toZ w64 b *ℤ toZ w64 c)
+  fits-mul t = fits mul-eq (upto-mul (p .size) (q .size)) t
+
+  pub fits-div : zero < c → T (ltb m (2 ^ 63)) → (zero < c) × SFits w64 (quotZ (toZ w64 b) (toZ w64 c))
+  fits-div h t = (h, fits div-eq (upto-quot z (p .size)) t)
+
+  pub same-lt : ltZ (toZ w64 b) (toZ w64 c) ≡ ltZ y z
+  same-lt i = ltZ (p .eq i) (q .eq i)
+
+  pub same-le : leZ (toZ w64 b) (toZ w64 c) ≡ leZ y z
+  same-le i = leZ (p .eq i) (q .eq i)

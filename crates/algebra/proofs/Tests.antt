@@ -1,0 +1,94 @@
+-- Tests and what they say: Booleans joined by &&, the order tests of ℤ, tests over lists. Assumes nothing.
+use mathlib.Core.Path.{_≡_, refl, sym, subst, _∙_}
+use mathlib.Core.Bool.{Bool, true, false, _&&_, _||_, true≢false, false≢true}
+use mathlib.Core.List.{List, [], _∷_}
+use lib.Dec.{T}
+use lib.IntN.{ℤ}
+use lib.Signed.{leZ, ltZ, _≤ℤ_, _<ℤ_, leZ-yes, ltZ-yes, clashℤ}
+use Rattle.algebra.proofs.Order.{by-order}
+use Rattle.algebra.specs.Lists.{every, some}
+
+-- ---- Booleans
+
+pub holds-T : {b : Bool} → T b → b ≡ true
+holds-T {b = true} t = refl
+holds-T {b = false} t = absurd t
+
+pub T-holds : {b : Bool} → b ≡ true → T b
+T-holds e = subst T (sym e) tt
+
+pub and-left : (a b : Bool) → a && b ≡ true → a ≡ true
+and-left true b e = refl
+and-left false b e = e
+
+pub and-right : (a b : Bool) → a && b ≡ true → b ≡ true
+and-right true b e = e
+and-right false b e = absurd (false≢true e)
+
+pub and-both : {a b : Bool} → a ≡ true → b ≡ true → a && b ≡ true
+and-both {a} {b} e f = rw e f
+
+pub or-cases {ℓ} : (a b : Bool) {X : Type ℓ} → a || b ≡ true → (a ≡ true → X) → (b ≡ true → X) → X
+or-cases true b e f g = f refl
+or-cases false b e f g = g e
+
+pub or-left : (b : Bool) {a : Bool} → a ≡ true → a || b ≡ true
+or-left b e = rw e
+
+pub or-right : (a : Bool) {b : Bool} → b ≡ true → a || b ≡ true
+or-right true e = refl
+or-right false e = e
+
+pub and-no-left : (b : Bool) {a : Bool} → a ≡ false → a && b ≡ false
+and-no-left b e = rw e
+
+pub and-no-right : (a : Bool) {b : Bool} → b ≡ false → a && b ≡ false
+and-no-right true e = e
+and-no-right false e = refl
+
+pub split {ℓ} : (t : Bool) {X : Type ℓ} → (t ≡ true → X) → (t ≡ false → X) → X
+split true f g = f refl
+split false f g = g refl
+
+-- ---- the order of ℤ
+
+pub le-yes : {a b : ℤ} → leZ a b ≡ true → a ≤ℤ b
+le-yes e = leZ-yes (T-holds e)
+
+pub lt-yes : {a b : ℤ} → ltZ a b ≡ true → a <ℤ b
+lt-yes e = ltZ-yes (T-holds e)
+
+pub yes-le : {a b : ℤ} → a ≤ℤ b → leZ a b ≡ true
+yes-le h = holds-T (h .le)
+
+pub yes-lt : {a b : ℤ} → a <ℤ b → ltZ a b ≡ true
+yes-lt h = holds-T (h .lt)
+
+pub no-lt : {a b : ℤ} → b ≤ℤ a → ltZ a b ≡ false
+no-lt {a} {b} h = split (ltZ a b) (λ e. clashℤ (lt-yes e) h) (λ e. e)
+
+pub no-le : {a b : ℤ} → leZ a b ≡ false → b <ℤ a
+no-le {a} {b} e = by-order b a (λ l. l) (λ g. absurd (true≢false (sym (yes-le g) ∙ e)))
+
+-- ---- tests over lists
+
+module _ {A : Type 0} (f g : A → Bool) where
+  pub every-every : ((x : A) → f x ≡ true → g x ≡ true) → (xs : List A) → every f xs ≡ true → every g xs ≡ true
+  unfolding every
+  every-every h [] e = refl
+  every-every h (x ∷ xs) e = and-both (h x (and-left (f x) (every f xs) e)) (every-every h xs (and-right (f x) (every f xs) e))
+
+  pub some-some : ((x : A) → f x ≡ true → g x ≡ true) → (xs : List A) → some f xs ≡ true → some g xs ≡ true
+  unfolding some
+  some-some h [] e = e
+  some-some h (x ∷ xs) e = or-cases (f x) (some f xs) e (λ k. or-left (some g xs) (h x k)) (λ k. or-right (g x) (some-some h xs k))
+
+  pub every-none : ((x : A) → f x ≡ true → g x ≡ false) → (xs : List A) → every f xs ≡ true → some g xs ≡ false
+  unfolding every some
+  every-none h [] e = refl
+  every-none h (x ∷ xs) e = rw (h x (and-left (f x) (every f xs) e)) (every-none h xs (and-right (f x) (every f xs) e))
+
+  pub some-fails : ((x : A) → f x ≡ true → g x ≡ false) → (xs : List A) → some f xs ≡ true → every g xs ≡ false
+  unfolding every some
+  some-fails h [] e = absurd (false≢true e)
+  some-fails h (x ∷ xs) e = or-cases (f x) (some f xs) e (λ k. and-no-left (every g xs) (h x k)) (λ k. and-no-right (g x) (some-fails h xs k))

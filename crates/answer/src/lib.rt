@@ -1,0 +1,1 @@
+// Answers and the table of refusals: definitions only, in specs/.

@@ -1,0 +1,5 @@
+pub mod Edges
+pub mod WithinApart
+pub mod ClassLaws
+pub mod ELaws
+pub mod NeverBoth

@@ -1,0 +1,117 @@
+-- What the two tests say of a point p inside the trixel: within gives f·p > e·K, apart gives f·p < e·K.
+-- Within: by the cone lemma (f·p)² ≥ G² (p·p) ≥ (G (K − 2))², and G (K − 2) > e K.
+-- Apart: by the cone lemma (b·p)² ≥ E² (p·p). If f·p ≥ e K ≥ D (K + 2) then (f·p)² ≥ D² (p·p), against the separation lemma. Assumes nothing.
+use Prim.Native.Nat.{ℕ, _+_, _*_, _/_}
+use native.Mathlib.Omega.{arith}
+use mathlib.Core.Path.{_≡_, refl, sym, subst}
+use mathlib.Core.Bool.{true, _&&_}
+use mathlib.Core.List.{[], _∷_}
+use lib.Dec.{le→leb, lt→ltb}
+use lib.IntN.{ℤ, pos, natAbs, _-ℤ_, _*ℤ_, zero-*ℤ}
+use lib.Signed.{_≤ℤ_, _<ℤ_, leZ-yes, ltZ-yes, <ℤ-≤ℤ-trans}
+use Rattle.algebra.proofs.Ring.{_:*_}
+use Rattle.algebra.proofs.Claim.{_:≤_, nat, hyp, sq, _⊕_, _⊗_, prove}
+use Rattle.algebra.proofs.Order.{by-order, ≤ℤ-trans, nn-sq, nn-pos}
+use Rattle.algebra.proofs.Inequalities.{`0, <ℤ→≤ℤ, sq-≤ℤ}
+use Rattle.algebra.proofs.Tests.{and-left, and-right, and-both, le-yes, lt-yes, yes-le}
+use Rattle.algebra.proofs.Cone.{Far, cone}
+use Rattle.algebra.proofs.Separation.{separation}
+use Rattle.vector.specs.declared.Vec3.{Vec3}
+use Rattle.vector.specs.Numbers.{K, Kℕ}
+use Rattle.vector.specs.Vectors.{dot}
+use Rattle.vector.proofs.VectorLaws.{v3, Long}
+use Rattle.vector.proofs.GreatestLaws.{greatest-passes}
+use Rattle.mesh.specs.declared.Trixel.{Trixel}
+use Rattle.mesh.proofs.Path.{Inside}
+use Rattle.region.specs.declared.Halfspace.{Halfspace}
+use Rattle.classify.specs.Shape.{square, positive, ray0, ray1, ray2, volume, eOf, fOf, DOf, GOf, ahead, reachesRay, reaches, bOf, EOf, within, far, apart}
+
+-- ---- the cone lemma, from the tests
+
+module _ (p : Vec3) (t : Trixel) (i : Inside p t) where
+  pub reach : (f : Vec3) (g : ℤ) → positive (volume t) ≡ true → ahead f t ≡ true → reaches f g t ≡ true → Far (v3 f) (v3 p) g
+  reach f g vol a r =
+      let a0 = and-left (positive (dot f (ray0 t))) (positive (dot f (ray1 t)) && positive (dot f (ray2 t))) a in
+      let a12 = and-right (positive (dot f (ray0 t))) (positive (dot f (ray1 t)) && positive (dot f (ray2 t))) a in
+      let a1 = and-left (positive (dot f (ray1 t))) (positive (dot f (ray2 t))) a12 in
+      let a2 = and-right (positive (dot f (ray1 t))) (positive (dot f (ray2 t))) a12 in
+      let r0 = and-left (reachesRay f g (ray0 t)) (reachesRay f g (ray1 t) && reachesRay f g (ray2 t)) r in
+      let r12 = and-right (reachesRay f g (ray0 t)) (reachesRay f g (ray1 t) && reachesRay f g (ray2 t)) r in
+      let r1 = and-left (reachesRay f g (ray1 t)) (reachesRay f g (ray2 t)) r12 in
+      let r2 = and-right (reachesRay f g (ray1 t)) (reachesRay f g (ray2 t)) r12 in
+      cone (v3 f) (v3 (t .p0)) (v3 (t .p1)) (v3 (t .p2)) (v3 p) g (lt-yes vol) (i .in0) (i .in1) (i .in2)
+      (record { front = <ℤ→≤ℤ (lt-yes a0); far = le-yes r0 })
+      (record { front = <ℤ→≤ℤ (lt-yes a1); far = le-yes r1 })
+      (record { front = <ℤ→≤ℤ (lt-yes a2); far = le-yes r2 })
+
+-- ---- D and G of e
+
+below-G : (e : ℕ) → pos (e * 1048576) <ℤ (GOf (pos e) *ℤ pos 1048574)
+below-G e = ltZ-yes (lt→ltb (e * 1048576) ((e * 1048576 / 1048574 + 1) * 1048574) (omega arith))
+
+D-below : (e : ℕ) → (DOf (pos e) *ℤ pos 1048578) ≤ℤ pos (e * 1048576)
+D-below e = leZ-yes (le→leb (e * 1048576 / 1048578 * 1048578) (e * 1048576) (omega arith))
+
+-- ---- numbers
+
+-- q² ≤ N and G² N ≤ F²: (G q)² ≤ F²
+up : (G q N F : ℤ) → (q *ℤ q) ≤ℤ N → (G *ℤ G *ℤ N) ≤ℤ (F *ℤ F) → (G *ℤ q *ℤ (G *ℤ q)) ≤ℤ (F *ℤ F)
+up = prove 4
+    (λ G q N F. record {
+      given = (q :* q :≤ N) ∷ (G :* G :* N :≤ F :* F) ∷ [];
+      goal = G :* q :* (G :* q) :≤ F :* F;
+      cert = sq G ⊗ hyp 0 ⊕ hyp 1;
+    })
+    refl
+
+-- N ≤ q², 0 ≤ D q ≤ F: D² N ≤ F²
+down : (D q N F : ℤ) → N ≤ℤ (q *ℤ q) → pos 0 ≤ℤ (D *ℤ q) → (D *ℤ q) ≤ℤ F → (D *ℤ D *ℤ N) ≤ℤ (F *ℤ F)
+down = prove 4
+    (λ D q N F. record {
+      given = (N :≤ q :* q) ∷ (`0 :≤ D :* q) ∷ (D :* q :≤ F) ∷ [];
+      goal = D :* D :* N :≤ F :* F;
+      cert = sq D ⊗ hyp 0 ⊕ hyp 2 ⊗ hyp 2 ⊕ nat 2 ⊗ hyp 1 ⊗ hyp 2;
+    })
+    refl
+
+positive-square : (N : ℤ) → (pos 1048574 *ℤ pos 1048574) ≤ℤ N → pos 0 <ℤ N
+positive-square N h = <ℤ-≤ℤ-trans (ltZ-yes tt) h
+
+-- ---- E passes its own test
+
+no-reach : (f r : Vec3) → reachesRay f (pos 0) r ≡ true
+no-reach f r = yes-le (subst (λ z. z ≤ℤ square (dot f r)) (sym (zero-*ℤ (dot r r))) (nn-sq (dot f r)))
+
+pub E-reaches : (t : Trixel) → reaches (bOf t) (EOf t) t ≡ true
+unfolding EOf
+E-reaches t = greatest-passes (λ n. reaches (bOf t) (pos n) t) Kℕ (and-both (no-reach (bOf t) (ray0 t)) (and-both (no-reach (bOf t) (ray1 t)) (no-reach (bOf t) (ray2 t))))
+
+-- ---- the two tests
+
+module _ (p : Vec3) (l : Long p) (t : Trixel) (i : Inside p t) (h : Halfspace) where
+  pub within-above : within h t ≡ true → (eOf h *ℤ K) <ℤ dot (fOf h) p
+  unfolding within
+  within-above w =
+      let e : ℕ = natAbs (h .d) in
+      let vol = and-left (positive (volume t)) (ahead (fOf h) t && reaches (fOf h) (GOf (eOf h)) t) w in
+      let ar = and-right (positive (volume t)) (ahead (fOf h) t && reaches (fOf h) (GOf (eOf h)) t) w in
+      let c : Far (v3 (fOf h)) (v3 p) (GOf (eOf h)) = reach p t i (fOf h) (GOf (eOf h)) vol (and-left (ahead (fOf h) t) (reaches (fOf h) (GOf (eOf h)) t) ar) (and-right (ahead (fOf h) t) (reaches (fOf h) (GOf (eOf h)) t) ar) in
+      <ℤ-≤ℤ-trans (below-G e) (sq-≤ℤ (c .front) (up (GOf (pos e)) (pos 1048574) (dot p p) (dot (fOf h) p) (l .low) (c .far)))
+
+  pub apart-below : apart h t ≡ true → dot (fOf h) p <ℤ (eOf h *ℤ K)
+  unfolding apart
+  apart-below a =
+      let e : ℕ = natAbs (h .d) in
+      let vol = and-left (positive (volume t)) (ahead (bOf t) t && far (fOf h) (DOf (eOf h)) (bOf t) (EOf t)) a in
+      let rest = and-right (positive (volume t)) (ahead (bOf t) t && far (fOf h) (DOf (eOf h)) (bOf t) (EOf t)) a in
+      let b : Far (v3 (bOf t)) (v3 p) (EOf t) = reach p t i (bOf t) (EOf t) vol (and-left (ahead (bOf t) t) (far (fOf h) (DOf (eOf h)) (bOf t) (EOf t)) rest) (E-reaches t) in
+      let f = and-right (ahead (bOf t) t) (far (fOf h) (DOf (eOf h)) (bOf t) (EOf t)) rest in
+      by-order (dot (fOf h) p) (eOf h *ℤ K) (λ below. below)
+      (λ above.
+      let q : (DOf (pos e) *ℤ pos 1048578) ≤ℤ dot (fOf h) p = ≤ℤ-trans (D-below e) above in
+      let n : pos 0 ≤ℤ (DOf (pos e) *ℤ pos 1048578) = nn-pos (e * 1048576 / 1048578 * 1048578) in
+      absurd (separation (v3 (fOf h)) (v3 (bOf t)) (v3 p) (DOf (pos e)) (EOf t) (positive-square (dot p p) (l .low))
+      (record { front = ≤ℤ-trans n q; far = down (DOf (pos e)) (pos 1048578) (dot p p) (dot (fOf h) p) (l .high) n q })
+      b
+      (lt-yes (and-left (positive (DOf (eOf h) *ℤ EOf t -ℤ dot (fOf h) (bOf t))) _ f))
+      (lt-yes (and-right (positive (DOf (eOf h) *ℤ EOf t -ℤ dot (fOf h) (bOf t))) _ f))))

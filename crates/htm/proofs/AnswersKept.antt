@@ -1,0 +1,123 @@
+-- The promise of the answers: demand 3 said of what the lookup, the point test and the cover answer, and of the lists that stand in the lent list
+-- after the cover. The outer list is not over-written by the inner one, since it has at most the budget of ranges. Assumes nothing.
+use Prim.Native.Nat.{ℕ, _+_, _-_, _*_, _≤_}
+use native.Mathlib.Omega.{arith}
+use mathlib.Core.Path.{_≡_, refl, sym, ap, _∙_, subst, subst₂, subst₃}
+use mathlib.Core.Bool.{Bool, true}
+use mathlib.Core.List.{List, [], _∷_, _++_, append-assoc}
+use lib.Dec.{leb}
+use lib.ListN.{length, take, drop, length-append, length-drop}
+use lib.Seq.{take-append-add, drop-at, length-take-le}
+use borrow.Author.Tests.{leb-true}
+use Rattle.answer.specs.Answer.{gives, check, Vector, Space}
+use Rattle.answer.proofs.AnswerLaws.{check-passed, check-gives, same-value, then-gives, value-gives}
+use Rattle.vector.specs.declared.Vec3.{Vec3}
+use Rattle.vector.specs.Vectors.{isVector}
+use Rattle.region.specs.Regions.{holds}
+use Rattle.region.specs.Budgets.{budgetOf}
+use Rattle.region.specs.Reader.{File, read, Accepted}
+use Rattle.ranges.specs.Ranges.{Range, pairs}
+use Rattle.htm.specs.Cover.{cover}
+use Rattle.htm.specs.Answers.{put, room, stored, Counts, countsOf, coverInto, coverAnswer, bothLists, coverAfter, rangesIn, outerIn, innerIn, pointTest}
+use Rattle.htm.specs.Promise.{Kept, PromiseOfAnswers}
+use Rattle.htm.proofs.PromiseKept.{promise-kept}
+
+-- ---- pairs are read back as they were written
+
+length-pairs : (rs : List Range) → length (pairs rs) ≡ 2 * length rs
+unfolding pairs
+length-pairs [] = refl
+length-pairs (r ∷ rs) = omega (arith, length-pairs rs)
+
+read-back : (rs : List Range) (more : List ℕ) → rangesIn (length rs) (pairs rs ++ more) ≡ rs
+unfolding rangesIn pairs
+read-back [] more = refl
+read-back (r ∷ rs) more = ap (λ l. r ∷ l) (read-back rs more)
+
+-- ---- two lists in one: xs at the beginning, ys from element k on
+
+module _ (k : ℕ) (xs ys before : List ℕ) (small : length xs ≤ k) (long : k ≤ length before) where
+  outer-part : put k ys (put 0 xs before) ≡ xs ++ (take (k - length xs) (drop (0 + length xs) before) ++ (ys ++ drop (k + length ys) (put 0 xs before)))
+  outer-part =
+      let e : k ≡ length xs + (k - length xs) = omega arith in
+      ap (λ n. take n (xs ++ drop (0 + length xs) before) ++ (ys ++ drop (k + length ys) (put 0 xs before))) e
+      ∙ ap (λ l. l ++ (ys ++ drop (k + length ys) (put 0 xs before))) (take-append-add xs (drop (0 + length xs) before) (k - length xs))
+      ∙ append-assoc xs (take (k - length xs) (drop (0 + length xs) before)) (ys ++ drop (k + length ys) (put 0 xs before))
+
+  inner-part : drop k (put k ys (put 0 xs before)) ≡ ys ++ drop (k + length ys) (put 0 xs before)
+  inner-part = drop-at (take k (put 0 xs before)) (ys ++ drop (k + length ys) (put 0 xs before)) k
+      (length-take-le k (put 0 xs before) (omega (arith, length-append xs (drop (0 + length xs) before), length-drop (0 + length xs) before)))
+
+-- ---- the cover's lent list
+
+module _ (x : File) (before : List ℕ) (space : 4 * budgetOf (x .budget) ≤ length before) (small : length (cover x .outer) ≤ budgetOf (x .budget)) where
+  few : length (pairs (cover x .outer)) ≤ 2 * budgetOf (x .budget)
+  few = omega (arith, length-pairs (cover x .outer))
+
+  half : 2 * budgetOf (x .budget) ≤ length before
+  half = omega arith
+
+  outer-back : outerIn (countsOf (cover x)) (bothLists x before) ≡ cover x .outer
+  outer-back =
+      ap (rangesIn (length (cover x .outer))) (outer-part (2 * budgetOf (x .budget)) (pairs (cover x .outer)) (pairs (cover x .inner)) before few half)
+      ∙ read-back (cover x .outer) _
+
+  inner-back : innerIn (budgetOf (x .budget)) (countsOf (cover x)) (bothLists x before) ≡ cover x .inner
+  inner-back =
+      ap (rangesIn (length (cover x .inner))) (inner-part (2 * budgetOf (x .budget)) (pairs (cover x .outer)) (pairs (cover x .inner)) before few half)
+      ∙ read-back (cover x .inner) _
+
+-- ---- the three answers
+
+-- what a cover that gives says of its file
+record Covered (f before : List ℕ) (c : Counts) : Type 0 where
+  file : File
+  accepted : Accepted f file
+  space : 4 * budgetOf (file .budget) ≤ length before
+  counts : countsOf (cover file) ≡ c
+  lists : bothLists file before ≡ coverAfter f before
+
+covered : (f before : List ℕ) (c : Counts) → coverAnswer f before ≡ gives c → Covered f before c
+unfolding coverAnswer coverAfter
+covered f before c e =
+    let v = value-gives (λ x. countsOf (cover x)) (coverInto f before) c e in
+    let x = v .0 in
+    let t = then-gives (read f) (λ y. room (4 * budgetOf (y .budget)) before y) x (v .1) in
+    let n = 4 * budgetOf (t .0 .budget) in
+    let same : t .0 ≡ x = same-value (t .0) x (check-gives Space (leb n (length before)) (gives (t .0)) x (t .2)) in
+    let long : n ≤ length before = leb-true n (length before) (check-passed Space (leb n (length before)) (gives (t .0)) x (t .2)) in
+    record {
+      file = x;
+      accepted = t .1 ∙ ap gives same;
+      space = subst (λ y. 4 * budgetOf (y .budget) ≤ length before) same long;
+      counts = v .2;
+      lists = sym (ap (λ a. stored bothLists a before) (v .1));
+    }
+
+-- what a point test that gives says of its point
+tested : (f : List ℕ) (p : Vec3) (h : Bool) (x : File) → pointTest f p ≡ gives h → Accepted f x → (isVector p ≡ true) × (holds (x .region) p ≡ h)
+unfolding pointTest
+tested f p h x e r =
+    let t = then-gives (read f) (λ y. check Vector (isVector p) (gives (holds (y .region) p))) h e in
+    let held = gives (holds (t .0 .region) p) in
+    let s : t .0 ≡ x = same-value (t .0) x (sym (t .1) ∙ r) in (
+      check-passed Vector (isVector p) held h (t .2),
+      subst (λ z. holds (z .region) p ≡ h) s (same-value (holds (t .0 .region) p) h (check-gives Vector (isVector p) held h (t .2))),
+    )
+
+pub answers-kept : PromiseOfAnswers
+answers-kept p f before c h cov tst =
+    let v : Covered f before c = covered f before c cov in
+    let x = v .file in
+    let B = budgetOf (x .budget) in
+    let t = tested f p h x tst (v .accepted) in
+    let k = promise-kept p f x (t .0) (v .accepted) in
+    let few = k .2 .outer-list .few in
+    let lists : Kept (k .0) (outerIn (countsOf (cover x)) (bothLists x before)) (innerIn B (countsOf (cover x)) (bothLists x before)) B (holds (x .region) p) =
+    subst₂ (λ o n. Kept (k .0) o n B (holds (x .region) p)) (sym (outer-back x before (v .space) few)) (sym (inner-back x before (v .space) few)) (k .2) in (
+      x,
+      v .accepted,
+      k .0,
+      k .1,
+      subst₃ (λ y l b. Kept (k .0) (outerIn y l) (innerIn B y l) B b) (v .counts) (v .lists) (t .1) lists,
+    )

@@ -1,0 +1,5 @@
+pub mod Cover
+pub mod Answers
+pub mod Starred
+pub mod Refusals
+pub mod Promise

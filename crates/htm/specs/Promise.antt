@@ -1,0 +1,42 @@
+-- The promise: demand 3. Document 01, 'The two lists'.
+-- For every vector p and every accepted file: the lookup at the file's depth answers an identifier i, and of i and the file's two lists holds
+--   inner-held    where i is in an inner range, the region holds p
+--   held-outer    where the region holds p, i is in exactly one outer range
+--   outer-list, inner-list   each list ascends, leaves at least one identifier between neighbours, and has at most the budget of ranges
+-- `Promise` says so of the rules, `PromiseOfAnswers` of what the calls answer and of the lists that stand in the lent list afterwards.
+-- Both are proved: proofs/PromiseKept, proofs/AnswersKept.
+use Prim.Native.Nat.{ℕ}
+use mathlib.Core.Path.{_≡_}
+use mathlib.Core.Bool.{Bool, true}
+use mathlib.Core.List.{List}
+use Rattle.answer.specs.Answer.{gives}
+use Rattle.vector.specs.declared.Vec3.{Vec3}
+use Rattle.vector.specs.Vectors.{isVector}
+use Rattle.mesh.specs.Lookup.{lookup}
+use Rattle.region.specs.Regions.{holds}
+use Rattle.region.specs.Budgets.{budgetOf}
+use Rattle.region.specs.Reader.{File, Accepted}
+use Rattle.ranges.specs.Ranges.{Range, inSome, timesIn, Proper}
+use Rattle.htm.specs.Cover.{cover}
+use Rattle.htm.specs.Answers.{Counts, coverAnswer, coverAfter, pointTest, outerIn, innerIn}
+
+-- of an identifier i, two lists, the budget that is counted with, and whether the region holds the point
+pub record Kept (i : ℕ) (outer inner : List Range) (budget : ℕ) (held : Bool) : Type 0 where
+  pub inner-held : inSome i inner ≡ true → held ≡ true
+  pub held-outer : held ≡ true → timesIn i outer ≡ 1
+  pub outer-list : Proper budget outer
+  pub inner-list : Proper budget inner
+
+abbrev pub Promise : Type 0
+Promise =
+    (p : Vec3) (f : List ℕ) (x : File) → isVector p ≡ true → Accepted f x
+    → (i : ℕ) × (lookup p (x .depth) ≡ gives i)
+    × Kept i (cover x .outer) (cover x .inner) (budgetOf (x .budget)) (holds (x .region) p)
+
+-- Whatever the cover and the point test answer for one file: the file is accepted, the lookup answers at its depth, and the promise holds of
+-- the answers and of the two lists in the lent list as the cover leaves it.
+abbrev pub PromiseOfAnswers : Type 0
+PromiseOfAnswers =
+    (p : Vec3) (f before : List ℕ) (c : Counts) (held : Bool) → coverAnswer f before ≡ gives c → pointTest f p ≡ gives held
+    → (x : File) × Accepted f x × (i : ℕ) × (lookup p (x .depth) ≡ gives i)
+    × Kept i (outerIn c (coverAfter f before)) (innerIn (budgetOf (x .budget)) c (coverAfter f before)) (budgetOf (x .budget)) held

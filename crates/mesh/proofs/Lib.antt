@@ -1,0 +1,5 @@
+pub mod Ties
+pub mod Path
+pub mod SmallTrixels
+pub mod NameLaws
+pub mod NamesInverse

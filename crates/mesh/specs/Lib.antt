@@ -1,0 +1,5 @@
+pub mod Trixels
+pub mod Identifiers
+pub mod Lookup
+pub mod Names
+pub mod Table

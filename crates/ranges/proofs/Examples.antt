@@ -1,0 +1,25 @@
+-- Worked examples of the two lists, by computing: document 01's 'with budget 4 the first two outer ranges become S00 S10', the last range kept,
+-- the shortest dropped, and the earliest among equals. Assumes nothing.
+use Prim.Native.Nat.{ℕ}
+use mathlib.Core.Path.{_≡_, refl}
+use mathlib.Core.List.{List, [], _∷_}
+use Rattle.ranges.specs.Ranges.{Range}
+use Rattle.ranges.specs.Lists.{joined, joinedFrom, smallest, place, earliest, whileMore, gaps, joinAt, joinSmallest, outerOf, without, dropShortest, innerOf}
+
+abbrev r : ℕ → ℕ → Range
+r low high = record { low = low; high = high }
+
+-- the accepted trixels of document 01's example at depth 2, S00 to N33, some of them joined
+abbrev accepted : List Range
+accepted = r 32 32 ∷ r 34 35 ∷ r 36 36 ∷ r 38 40 ∷ r 42 44 ∷ r 46 47 ∷ r 48 63 ∷ []
+
+pub outer-examples : (outerOf 5 accepted ≡ r 32 32 ∷ r 34 36 ∷ r 38 40 ∷ r 42 44 ∷ r 46 63 ∷ [])
+    × (outerOf 4 accepted ≡ r 32 36 ∷ r 38 40 ∷ r 42 44 ∷ r 46 63 ∷ [])
+    × (outerOf 2 (r 1 1 ∷ r 5 5 ∷ r 7 7 ∷ []) ≡ r 1 1 ∷ r 5 7 ∷ [])
+unfolding joined joinedFrom smallest place earliest whileMore gaps joinAt joinSmallest outerOf
+outer-examples = (refl, refl, refl)
+
+pub inner-examples : (innerOf 2 (r 1 2 ∷ r 4 5 ∷ r 7 9 ∷ r 11 12 ∷ []) ≡ r 7 9 ∷ r 11 12 ∷ [])
+    × (innerOf 1 (r 1 4 ∷ r 5 6 ∷ r 8 9 ∷ []) ≡ r 1 6 ∷ [])
+unfolding joined joinedFrom smallest place earliest whileMore without dropShortest innerOf
+inner-examples = (refl, refl)

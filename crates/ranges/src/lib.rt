@@ -1,0 +1,1 @@
+// Lists of ranges under a budget: definitions only, in specs/.

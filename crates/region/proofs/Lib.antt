@@ -1,0 +1,11 @@
+pub mod Refusals
+pub mod HeldSide
+pub mod BudgetLaws
+pub mod RegionLaws
+pub mod AddLaws
+pub mod ReaderLaws
+pub mod GoodRegions
+pub mod ReadBack
+pub mod WriteBack
+pub mod RowsBack
+pub mod FileBack

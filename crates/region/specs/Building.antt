@@ -1,0 +1,56 @@
+-- A region as it is read from a file or taken from rows: it grows at its end. Document 01, 'Regions', the stated limits, and 'What is sent back', 7 to 9.
+--   lastConvex g, total g     the convex that halfspaces go to, and how many halfspaces there are in all
+--   withConvex g              one convex more, with no halfspace yet
+--   withHalfspace g h         one halfspace more, in the last convex
+--   begun g, filled g         a convex has begun; the last convex has a halfspace
+--   fewConvexes g             at most 64 convexes
+--   roomForHalfspace g        one more makes at most 100 halfspaces in the last convex and at most 512 in all
+--   add g h                   the region with the halfspace more: refusals 7, 8, 9
+use Prim.Native.Nat.{ℕ, _+_}
+use mathlib.Core.Bool.{Bool, _&&_}
+use mathlib.Core.List.{[], _∷_, _++_}
+use lib.Dec.{leb, ltb}
+use lib.ListN.{length}
+use lib.IntN.{ℤ, negℤ}
+use Rattle.answer.specs.Answer.{Answer, gives, check, Crowd, Vector, Offset}
+use Rattle.vector.specs.Numbers.{K, between}
+use Rattle.vector.specs.Vectors.{isVector}
+use Rattle.region.specs.declared.Halfspace.{Halfspace}
+use Rattle.region.specs.Regions.{Convex, Region}
+
+unfoldable pub lastConvex : Region → Convex
+lastConvex [] = []
+lastConvex (c ∷ []) = c
+lastConvex (c ∷ d ∷ cs) = lastConvex (d ∷ cs)
+
+unfoldable pub total : Region → ℕ
+total [] = 0
+total (c ∷ cs) = length c + total cs
+
+abbrev pub withConvex : Region → Region
+withConvex g = g ++ [] ∷ []
+
+unfoldable pub withHalfspace : Region → Halfspace → Region
+withHalfspace [] h = []
+withHalfspace (c ∷ []) h = (c ++ h ∷ []) ∷ []
+withHalfspace (c ∷ d ∷ cs) h = c ∷ withHalfspace (d ∷ cs) h
+
+abbrev pub begun : Region → Bool
+begun g = ltb 0 (length g)
+
+abbrev pub filled : Region → Bool
+filled g = ltb 0 (length (lastConvex g))
+
+-- ---- the stated limits
+
+abbrev pub fewConvexes : Region → Bool
+fewConvexes g = leb (length g) 64
+
+abbrev pub roomForHalfspace : Region → Bool
+roomForHalfspace g = ltb (length (lastConvex g)) 100 && ltb (total g) 512
+
+abbrev pub isOffset : ℤ → Bool
+isOffset d = between (negℤ K) K d
+
+unfoldable pub add : Region → Halfspace → Answer Region
+add g h = check Crowd (roomForHalfspace g) (check Vector (isVector (h .n)) (check Offset (isOffset (h .d)) (gives (withHalfspace g h))))

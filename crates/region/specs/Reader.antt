@@ -1,0 +1,100 @@
+-- The reader of region files. Document 01, 'Regions' and 'What is sent back'.
+-- A file is checked for 1, then record by record, each record for 2 to 9 in the order of the table.
+--   File           what has been read: depth and budget as written, and the region
+--   read f         the file f, or its first refusal
+--   Accepted f x   the file f is accepted, and says x
+-- In what follows `rest` is the file from the record on that is read next.
+use Prim.Native.Nat.{ℕ, zero, suc, _-_}
+use mathlib.Core.Path.{_≡_}
+use mathlib.Core.Bool.{Bool, true, false, cond, _&&_, _||_}
+use mathlib.Core.List.{List, []}
+use lib.Dec.{leb, eqb}
+use lib.ListN.{length, take, drop}
+use Rattle.vector.specs.Numbers.{isDepth}
+use Rattle.vector.specs.Vectors.{vec}
+use Rattle.answer.specs.Answer.{Answer, refused, gives, check, then, with-value, Long, Torn, Kind, Order, Depth, Budget, Crowd}
+use Rattle.region.specs.declared.Halfspace.{Halfspace}
+use Rattle.region.specs.Regions.{Region}
+use Rattle.region.specs.Budgets.{isBudget}
+use Rattle.region.specs.Building.{withConvex, begun, filled, fewConvexes, add}
+use Rattle.region.specs.Bytes.{word, signed}
+
+pub record File : Type 0 where
+  pub depth : ℕ
+  pub budget : ℕ
+  pub region : Region
+
+-- ---- a record: its length and kind, its payload, and what follows it
+
+abbrev pub lengthOf : List ℕ → ℕ
+lengthOf rest = word rest 0
+
+abbrev pub kindOf : List ℕ → ℕ
+kindOf rest = word rest 2
+
+abbrev pub payload : List ℕ → List ℕ
+payload rest = take (lengthOf rest - 4) (drop 4 rest)
+
+abbrev pub after : List ℕ → List ℕ
+after rest = drop (lengthOf rest) rest
+
+-- 2: four bytes are left, the length is four or more, and not past the end
+abbrev pub whole : List ℕ → Bool
+whole rest = leb 4 (length rest) && (leb 4 (lengthOf rest) && leb (lengthOf rest) (length rest))
+
+-- 3: a kind from 1 to 4, with its length
+abbrev pub known : ℕ → ℕ → Bool
+known kind len = (eqb kind 1 && eqb len 8) || (eqb kind 2 && eqb len 4) || (eqb kind 3 && eqb len 20) || (eqb kind 4 && eqb len 4)
+
+abbrev pub framed : List ℕ → Answer File → Answer File
+framed rest a = check Torn (whole rest) (check Kind (known (kindOf rest) (lengthOf rest)) a)
+
+-- ---- kind 1: the header, first and only there
+
+abbrev pub headerOf : List ℕ → Answer File
+headerOf s = check Depth (isDepth (word s 0)) (check Budget (isBudget (word s 2)) (gives (record { depth = word s 0; budget = word s 2; region = [] })))
+
+unfoldable pub header : List ℕ → Answer File
+header rest = framed rest (check Order (eqb (kindOf rest) 1) (headerOf (payload rest)))
+
+-- ---- the other kinds
+
+abbrev pub withRegion : File → Region → File
+withRegion x g = record { depth = x .depth; budget = x .budget; region = g }
+
+-- kind 2: a convex begins, after none or one with halfspaces
+abbrev pub convexIn : File → Answer File
+convexIn x =
+    check Order (cond (begun (x .region)) (filled (x .region)) true)
+    (check Crowd (fewConvexes (withConvex (x .region))) (gives (withRegion x (withConvex (x .region)))))
+
+-- kind 3: a halfspace, in a convex
+abbrev pub halfspaceOf : List ℕ → Halfspace
+halfspaceOf s = record { n = vec (signed s 0) (signed s 4) (signed s 8); d = signed s 12 }
+
+abbrev pub halfspaceIn : File → List ℕ → Answer File
+halfspaceIn x s = check Order (begun (x .region)) (with-value (withRegion x) (add (x .region) (halfspaceOf s)))
+
+-- kind 4: the end, after a convex with halfspaces, and no byte follows
+abbrev pub endIn : File → List ℕ → Answer File
+endIn x following = check Order (begun (x .region) && (filled (x .region) && eqb (length following) 0)) (gives x)
+
+unfoldable pub recordIn : File → List ℕ → Answer File
+recordIn x rest =
+    framed rest
+    (cond (eqb (kindOf rest) 1) (refused Order)
+    (cond (eqb (kindOf rest) 2) (convexIn x)
+    (cond (eqb (kindOf rest) 3) (halfspaceIn x (payload rest)) (endIn x (after rest)))))
+
+-- ---- record by record to the end. The first argument bounds the records; a file has fewer of them than bytes.
+
+unfoldable pub recordsIn : ℕ → File → List ℕ → Answer File
+recordsIn zero x rest = refused Torn
+recordsIn (suc n) x rest = then (recordIn x rest) (λ y. elim (eqb (kindOf rest) 4) [ true ↦ gives y | false ↦ recordsIn n y (after rest) ])
+
+unfoldable pub read : List ℕ → Answer File
+read f = check Long (leb (length f) 10508) (then (header f) (λ x. recordsIn (length f) x (after f)))
+
+-- a file is accepted when none of its checks fails: the file f is accepted, and x is what it says
+abbrev pub Accepted : List ℕ → File → Type 0
+Accepted f x = read f ≡ gives x

@@ -1,0 +1,5 @@
+pub mod GreatestLaws
+pub mod RootLaws
+pub mod QuotLaws
+pub mod SizeLaws
+pub mod VectorLaws

@@ -1,0 +1,68 @@
+-- How large numbers get: Unit and Scale give components within ±K, whatever they are given. n is at least every component, since its square
+-- is the greatest square up to the sum of their squares; and so is m. Assumes nothing.
+use Prim.Native.Nat.{ℕ, suc, _+_, _*_, _/_, _≤_}
+use native.Mathlib.Nat.{div-le-of-le-mul, mul-le-mul-right}
+use native.Mathlib.Omega.{arith}
+use mathlib.Core.Path.{_≡_, refl, sym, ap, _∙_, subst}
+use mathlib.Core.Bool.{Bool, true, false, cond}
+use lib.Dec.{T, leb, leb→le, eqb}
+use lib.IntN.{ℤ, pos, negsuc, natAbs, _+ℤ_, _*ℤ_}
+use Rattle.algebra.specs.Sizes.{Upto}
+use Rattle.algebra.proofs.Sized.{natAbs-neg, upto-neg}
+use Rattle.vector.specs.declared.Vec3.{Vec3}
+use Rattle.vector.specs.Numbers.{Kℕ, K, quot, root}
+use Rattle.vector.specs.Vectors.{vec, dot, minus, dividedBy, unit, largest, scale, AtMost, Small}
+use Rattle.vector.proofs.RootLaws.{root-greatest}
+
+pub at-most-minus : {n : ℕ} {v : Vec3} → AtMost n v → AtMost n (minus v)
+at-most-minus h = record { x = upto-neg (h .x); y = upto-neg (h .y); z = upto-neg (h .z) }
+
+-- by three tests: for numbers that are written, `small-test v tt tt tt`
+pub small-test : (v : Vec3) → T (leb (natAbs (v .x)) Kℕ) → T (leb (natAbs (v .y)) Kℕ) → T (leb (natAbs (v .z)) Kℕ) → Small v
+small-test v a b c = record { x = record { le = leb→le _ _ a }; y = record { le = leb→le _ _ b }; z = record { le = leb→le _ _ c } }
+
+-- ---- K times a, divided by n
+
+natAbs-quot : (z : ℤ) (n : ℕ) → natAbs (quot z (pos n)) ≡ natAbs z / n
+natAbs-quot (pos a) n = refl
+natAbs-quot (negsuc a) n = natAbs-neg (pos (suc a / n))
+
+quot-size : (a : ℤ) (n : ℕ) → natAbs (quot (K *ℤ a) (pos n)) ≡ 1048576 * natAbs a / n
+quot-size (pos a) n = refl
+quot-size (negsuc a) n = natAbs-quot (K *ℤ negsuc a) n ∙ ap (λ m. m / n) (natAbs-neg (pos (1048576 * suc a)))
+
+part-small : {a : ℤ} (n : ℕ) → Upto n a → Upto Kℕ (quot (K *ℤ a) (pos n))
+part-small {a} n h = record { le = subst (λ m. m ≤ 1048576) (sym (quot-size a n)) (div-le-of-le-mul n (omega (arith, mul-le-mul-right 1048576 (h .le)))) }
+
+divided-small′ : (v : Vec3) (n : ℕ) (t : Bool) → AtMost n v → Small (cond t (vec (pos 0) (pos 0) (pos 0)) (vec (quot (K *ℤ v .x) (pos n)) (quot (K *ℤ v .y) (pos n)) (quot (K *ℤ v .z) (pos n))))
+divided-small′ v n true h = small-test (vec (pos 0) (pos 0) (pos 0)) tt tt tt
+divided-small′ v n false h = record { x = part-small n (h .x); y = part-small n (h .y); z = part-small n (h .z) }
+
+divided-small : (v : Vec3) (n : ℕ) → AtMost n v → Small (dividedBy n v)
+divided-small v n h = divided-small′ v n (eqb n 0) h
+
+-- ---- the square length
+
+sq : (z : ℤ) → z *ℤ z ≡ pos (natAbs z * natAbs z)
+sq (pos n) = refl
+sq (negsuc n) = refl
+
+pub dot-self : (v : Vec3) → dot v v ≡ pos (natAbs (v .x) * natAbs (v .x) + natAbs (v .y) * natAbs (v .y) + natAbs (v .z) * natAbs (v .z))
+dot-self v = λ i. sq (v .x) i +ℤ sq (v .y) i +ℤ sq (v .z) i
+
+pub root-at-most : (v : Vec3) → AtMost (root (natAbs (dot v v))) v
+root-at-most v =
+    let e = ap natAbs (dot-self v) in
+    record {
+      x = record { le = root-greatest (natAbs (dot v v)) (natAbs (v .x)) (omega arith) };
+      y = record { le = root-greatest (natAbs (dot v v)) (natAbs (v .y)) (omega arith) };
+      z = record { le = root-greatest (natAbs (dot v v)) (natAbs (v .z)) (omega arith) };
+    }
+
+pub unit-small : (v : Vec3) → Small (unit v)
+unfolding unit
+unit-small v = divided-small v (root (natAbs (dot v v))) (root-at-most v)
+
+pub scale-small : (v : Vec3) → Small (scale v)
+unfolding scale
+scale-small v = divided-small v (largest v) (record { x = record { le = omega arith }; y = record { le = omega arith }; z = record { le = omega arith } })

@@ -1,0 +1,63 @@
+-- What the vector rule says of the components and of the square length, and vectors as the algebra has them. Assumes nothing.
+use native.Mathlib.Omega.{arith}
+use mathlib.Core.Path.{_≡_, refl}
+use mathlib.Core.Bool.{Bool, true, _&&_}
+use lib.Dec.{leb}
+use borrow.Author.Tests.{leb-true}
+use lib.IntN.{ℤ, pos, negsuc, negℤ, _+ℤ_, _-ℤ_, _*ℤ_}
+use lib.Signed.{leZ, _≤ℤ_}
+use Rattle.algebra.specs.Sizes.{Upto}
+use Rattle.algebra.proofs.Ring.{_:+_, _:*_, :neg}
+use Rattle.algebra.proofs.Claim.{_:≡_, ring}
+use Rattle.algebra.proofs.Tests.{and-left, and-right, le-yes}
+use Rattle.algebra.proofs.Vec.{V3}
+use Rattle.vector.specs.declared.Vec3.{Vec3}
+use Rattle.vector.specs.Numbers.{Kℕ, K, between}
+use Rattle.vector.specs.Vectors.{dot, minus, isVector, Small}
+
+-- a vector as the algebra has it: `dot` and `cross` of the two are the same by computing
+abbrev pub v3 : Vec3 → V3
+v3 a = record { x = a .x; y = a .y; z = a .z }
+
+-- (K − 2)² ≤ p·p ≤ (K + 2)²
+pub record Long (p : Vec3) : Type 0 where
+  pub low : (pos 1048574 *ℤ pos 1048574) ≤ℤ dot p p
+  pub high : dot p p ≤ℤ (pos 1048578 *ℤ pos 1048578)
+
+-- −K ≤ z ≤ K
+pub between-upto : (z : ℤ) → between (negℤ K) K z ≡ true → Upto Kℕ z
+between-upto (pos n) e = record { le = leb-true n 1048576 (and-right true (leb n 1048576) e) }
+between-upto (negsuc n) e = record { le = omega (arith, leb-true n 1048575 (and-left (leb n 1048575) true e)) }
+
+module _ (p : Vec3) (e : isVector p ≡ true) where
+  abbrev inX : Bool
+  inX = between (negℤ K) K (p .x)
+
+  abbrev inY : Bool
+  inY = between (negℤ K) K (p .y)
+
+  abbrev inZ : Bool
+  inZ = between (negℤ K) K (p .z)
+
+  abbrev atLeast : Bool
+  atLeast = leZ ((K -ℤ pos 2) *ℤ (K -ℤ pos 2)) (dot p p)
+
+  abbrev atMost : Bool
+  atMost = leZ (dot p p) ((K +ℤ pos 2) *ℤ (K +ℤ pos 2))
+
+  pub vector-small : Small p
+  unfolding isVector
+  vector-small =
+      let s = and-left (inX && inY && inZ) (atLeast && atMost) e in
+      let xy = and-left (inX && inY) inZ s in
+      record { x = between-upto (p .x) (and-left inX inY xy); y = between-upto (p .y) (and-right inX inY xy); z = between-upto (p .z) (and-right (inX && inY) inZ s) }
+
+  pub vector-long : Long p
+  unfolding isVector
+  vector-long =
+      let l = and-right (inX && inY && inZ) (atLeast && atMost) e in
+      record { low = le-yes (and-left atLeast atMost l); high = le-yes (and-right atLeast atMost l) }
+
+-- (−a)·p = −(a·p)
+pub dot-minus : (a p : Vec3) → dot (minus a) p ≡ negℤ (dot a p)
+dot-minus a p = ring 6 (λ a b c x y z. :neg a :* x :+ :neg b :* y :+ :neg c :* z :≡ :neg (a :* x :+ b :* y :+ c :* z)) refl (a .x) (a .y) (a .z) (p .x) (p .y) (p .z)
