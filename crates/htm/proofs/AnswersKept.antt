@@ -10,15 +10,17 @@ use lib.ListN.{length, take, drop, length-append, length-drop}
 use lib.Seq.{take-append-add, drop-at, length-take-le}
 use borrow.Author.Tests.{leb-true}
 use Rattle.answer.specs.Answer.{gives, check, Vector, Space}
+use Rattle.answer.specs.Lent.{put, room, stored}
 use Rattle.answer.proofs.AnswerLaws.{check-passed, check-gives, same-value, then-gives, value-gives}
 use Rattle.vector.specs.declared.Vec3.{Vec3}
 use Rattle.vector.specs.Vectors.{isVector}
 use Rattle.region.specs.Regions.{holds}
 use Rattle.region.specs.Budgets.{budgetOf}
 use Rattle.region.specs.Reader.{File, read, Accepted}
+use Rattle.region.specs.Answers.{pointTest}
 use Rattle.ranges.specs.Ranges.{Range, pairs}
 use Rattle.htm.specs.Cover.{cover}
-use Rattle.htm.specs.Answers.{put, room, stored, Counts, countsOf, coverInto, coverAnswer, bothLists, coverAfter, rangesIn, outerIn, innerIn, pointTest}
+use Rattle.htm.specs.Answers.{Counts, countsOf, coverInto, coverAnswer, bothLists, coverAfter, rangesIn, outerIn, innerIn}
 use Rattle.htm.specs.Promise.{Kept, PromiseOfAnswers}
 use Rattle.htm.proofs.PromiseKept.{promise-kept}
 

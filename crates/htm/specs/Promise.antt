@@ -16,9 +16,10 @@ use Rattle.mesh.specs.Lookup.{lookup}
 use Rattle.region.specs.Regions.{holds}
 use Rattle.region.specs.Budgets.{budgetOf}
 use Rattle.region.specs.Reader.{File, Accepted}
+use Rattle.region.specs.Answers.{pointTest}
 use Rattle.ranges.specs.Ranges.{Range, inSome, timesIn, Proper}
 use Rattle.htm.specs.Cover.{cover}
-use Rattle.htm.specs.Answers.{Counts, coverAnswer, coverAfter, pointTest, outerIn, innerIn}
+use Rattle.htm.specs.Answers.{Counts, coverAnswer, coverAfter, outerIn, innerIn}
 
 -- of an identifier i, two lists, the budget that is counted with, and whether the region holds the point
 pub record Kept (i : ℕ) (outer inner : List Range) (budget : ℕ) (held : Bool) : Type 0 where

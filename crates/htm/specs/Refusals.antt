@@ -8,9 +8,11 @@ use mathlib.Core.List.{List}
 use lib.IntN.{ℤ}
 use Rattle.answer.specs.Answer.{refused}
 use Rattle.mesh.specs.Names.{nameOf}
+use Rattle.mesh.specs.Answers.{nameAnswer, nameAfter}
 use Rattle.region.specs.Reader.{read}
 use Rattle.region.specs.Writer.{write}
-use Rattle.htm.specs.Answers.{nameAnswer, nameAfter, readAnswer, readAfter, writeAnswer, writeAfter, coverAnswer, coverAfter}
+use Rattle.region.specs.Answers.{readAnswer, readAfter, writeAnswer, writeAfter}
+use Rattle.htm.specs.Answers.{coverAnswer, coverAfter}
 
 abbrev pub SpaceLast : Type 0
 SpaceLast =

@@ -6,3 +6,4 @@ pub mod Rows
 pub mod Reader
 pub mod Writer
 pub mod RoundTrip
+pub mod Answers

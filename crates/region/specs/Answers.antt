@@ -1,0 +1,58 @@
+-- What reader, writer and point test answer, and what each lent list holds afterwards. Document 01, 'Regions' and 'What is sent back'.
+-- A call that writes has three definitions: `..Into`, what it has to write or its refusal, with 10 after all other checks;
+-- `..Answer`, the values it gives; `..After`, the lent list afterwards, of the list before. A refusal leaves the list as it was.
+--   readInto readAnswer readAfter      the reader: count, depth and budget as written; the rows at the list's beginning
+--   writeInto writeAnswer writeAfter   the writer: the file's length; the file at the list's beginning
+--   pointTest f p                      whether the region of the file f holds the point p
+use Prim.Native.Nat.{ℕ}
+use mathlib.Core.Bool.{Bool}
+use mathlib.Core.List.{List}
+use lib.ListN.{length}
+use lib.IntN.{ℤ}
+use Rattle.answer.specs.Answer.{Answer, gives, check, then, with-value, Vector}
+use Rattle.answer.specs.Lent.{put, stored, room}
+use Rattle.vector.specs.declared.Vec3.{Vec3}
+use Rattle.vector.specs.Vectors.{isVector}
+use Rattle.region.specs.Regions.{holds}
+use Rattle.region.specs.Building.{total}
+use Rattle.region.specs.Rows.{rows}
+use Rattle.region.specs.Reader.{File, read}
+use Rattle.region.specs.Writer.{write}
+
+-- ---- the reader: depth and budget as written and the count of the rows, and the rows at the list's beginning
+
+pub record Header : Type 0 where
+  pub depth : ℕ
+  pub budget : ℕ
+  pub count : ℕ
+
+abbrev pub headerOf : File → Header
+headerOf x = record { depth = x .depth; budget = x .budget; count = total (x .region) }
+
+abbrev pub readInto : List ℕ → List ℤ → Answer File
+readInto f before = then (read f) (λ x. room (length (rows (x .region))) before x)
+
+unfoldable pub readAnswer : List ℕ → List ℤ → Answer Header
+readAnswer f before = with-value headerOf (readInto f before)
+
+abbrev pub rowsInto : File → List ℤ → List ℤ
+rowsInto x before = put 0 (rows (x .region)) before
+
+unfoldable pub readAfter : List ℕ → List ℤ → List ℤ
+readAfter f before = stored rowsInto (readInto f before) before
+
+-- ---- the writer: the file's length, and the file at the list's beginning
+
+abbrev pub writeInto : ℕ → ℕ → List ℤ → List ℕ → Answer (List ℕ)
+writeInto d b rs before = then (write d b rs) (λ f. room (length f) before f)
+
+unfoldable pub writeAnswer : ℕ → ℕ → List ℤ → List ℕ → Answer ℕ
+writeAnswer d b rs before = with-value length (writeInto d b rs before)
+
+unfoldable pub writeAfter : ℕ → ℕ → List ℤ → List ℕ → List ℕ
+writeAfter d b rs before = stored (put 0) (writeInto d b rs before) before
+
+-- ---- the point test: the file's checks, then 8
+
+unfoldable pub pointTest : List ℕ → Vec3 → Answer Bool
+pointTest f p = then (read f) (λ x. check Vector (isVector p) (gives (holds (x .region) p)))
