@@ -1,14 +1,24 @@
 // What is sent back: the table of refusals, and the answer of a call that gives one number. The rules stand in specs/.
 pub const LONG: u32 = 1;
+
 pub const TORN: u32 = 2;
+
 pub const KIND: u32 = 3;
+
 pub const ORDER: u32 = 4;
+
 pub const DEPTH: u32 = 5;
+
 pub const BUDGET: u32 = 6;
+
 pub const CROWD: u32 = 7;
+
 pub const VECTOR: u32 = 8;
+
 pub const OFFSET: u32 = 9;
+
 pub const SPACE: u32 = 10;
+
 pub const NAME: u32 = 11;
 
 // An identifier or a length, or the number of the first check that failed.
