@@ -34,6 +34,13 @@ pub <ℤ-add : {a b c d : ℤ} → a <ℤ b → c ≤ℤ d → (a +ℤ c) <ℤ (
 pub ≤ℤ-neg : {a b : ℤ} → a ≤ℤ b → negℤ b ≤ℤ negℤ a
 ≤ℤ-neg {a} {b} = prove 2 (λ a b. record { given = (a :≤ b) ∷ []; goal = :neg b :≤ :neg a; cert = hyp 0 }) refl a b
 
+-- a sign goes to the other side
+pub <ℤ-turn : {a b : ℤ} → a <ℤ negℤ b → b <ℤ negℤ a
+<ℤ-turn {a} {b} = prove 2 (λ a b. record { given = (a :< :neg b) ∷ []; goal = b :< :neg a; cert = hyp 0 }) refl a b
+
+pub <ℤ-turn-back : {a b : ℤ} → negℤ b <ℤ a → negℤ a <ℤ b
+<ℤ-turn-back {a} {b} = prove 2 (λ a b. record { given = (:neg b :< a) ∷ []; goal = :neg a :< b; cert = hyp 0 }) refl a b
+
 pub <ℤ→≤ℤ : {a b : ℤ} → a <ℤ b → a ≤ℤ b
 <ℤ→≤ℤ {a} {b} = prove 2 (λ a b. record { given = (a :< b) ∷ []; goal = a :≤ b; cert = hyp 0 ⊕ nat 1 }) refl a b
 

@@ -6,13 +6,14 @@ use native.Mathlib.Omega.{arith}
 use mathlib.Core.Path.{_≡_, refl, sym, subst}
 use mathlib.Core.Bool.{Bool, true, false, cond}
 use borrow.Author.Tests.{ltb-true}
-use lib.Dec.{T, ltb, ltb→lt}
+use lib.Dec.{T, ltb, ltb→lt, le→leb}
 use lib.IntN.{ℤ, pos, negsuc, natAbs, negℤ, _+ℤ_, _-ℤ_, _*ℤ_}
-use lib.Signed.{mag, quotZ, ltZ, leZ}
+use lib.Signed.{mag, quotZ, ltZ, leZ, _≤ℤ_, leZ-yes}
 use mir.Syntax.{Width, w64}
 use mir.Val.{SFits, toZ, ofZ, hbits}
 use mir.Facts.{toZ-ofZ}
 use Rattle.algebra.specs.Sizes.{Upto}
+use Rattle.algebra.proofs.Order.{nn-pos}
 
 -- ---- sizes
 
@@ -60,6 +61,23 @@ upto-mul p q = record { le = rw natAbs-mul (mul-le-mul (p .le) (q .le)) }
 
 pub upto-quot : {m : ℕ} {y : ℤ} (z : ℤ) → Upto m y → Upto m (quotZ y z)
 upto-quot {y = y} z p = record { le = le-trans (natAbs-quot y z) (p .le) }
+
+-- the two sides of a size
+upto-low′ : (z : ℤ) (n : ℕ) → natAbs z ≤ n → negℤ (pos n) ≤ℤ z
+upto-low′ (pos a) zero h = nn-pos a
+upto-low′ (pos a) (suc n) h = leZ-yes tt
+upto-low′ (negsuc a) zero h = absurd (omega arith)
+upto-low′ (negsuc a) (suc n) h = leZ-yes (le→leb a n (omega arith))
+
+upto-high′ : (z : ℤ) (n : ℕ) → natAbs z ≤ n → z ≤ℤ pos n
+upto-high′ (pos a) n h = leZ-yes (le→leb a n h)
+upto-high′ (negsuc a) n h = leZ-yes tt
+
+pub upto-low : {n : ℕ} {z : ℤ} → Upto n z → negℤ (pos n) ≤ℤ z
+upto-low {n} {z} p = upto-low′ z n (p .le)
+
+pub upto-high : {n : ℕ} {z : ℤ} → Upto n z → z ≤ℤ pos n
+upto-high {n} {z} p = upto-high′ z n (p .le)
 
 -- ---- what fits a width
 

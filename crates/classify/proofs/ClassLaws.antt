@@ -3,11 +3,9 @@
 use Prim.Native.Nat.{suc}
 use mathlib.Core.Path.{_≡_, refl, subst}
 use mathlib.Core.Bool.{Bool, true, false, cond}
-use mathlib.Core.List.{[], _∷_}
-use lib.IntN.{ℤ, pos, negsuc, negℤ, _*ℤ_}
+use lib.IntN.{ℤ, pos, negsuc, _*ℤ_}
 use lib.Signed.{_<ℤ_}
-use Rattle.algebra.proofs.Ring.{:neg}
-use Rattle.algebra.proofs.Claim.{_:<_, hyp, prove}
+use Rattle.algebra.proofs.Inequalities.{<ℤ-turn, <ℤ-turn-back}
 use Rattle.algebra.specs.Lists.{every, some}
 use Rattle.algebra.proofs.Tests.{every-every, some-some, every-none, some-fails}
 use Rattle.vector.specs.declared.Vec3.{Vec3}
@@ -23,14 +21,6 @@ use Rattle.classify.specs.declared.Class.the-variants.{Outside, Partial,
 use Rattle.classify.specs.Shape.{within, apart}
 use Rattle.classify.specs.Classes.{isOutside, isFull, halfspaceClass, convexClass, regionClass}
 use Rattle.classify.proofs.WithinApart.{within-above, apart-below}
-
--- ---- signs turned round
-
-turn-above : (a b : ℤ) → a <ℤ negℤ b → b <ℤ negℤ a
-turn-above = prove 2 (λ a b. record { given = (a :< :neg b) ∷ []; goal = b :< :neg a; cert = hyp 0 }) refl
-
-turn-below : (a b : ℤ) → negℤ b <ℤ a → negℤ a <ℤ b
-turn-below = prove 2 (λ a b. record { given = (:neg b :< a) ∷ []; goal = :neg a :< b; cert = hyp 0 }) refl
 
 -- ---- which test gave the class: for d ≥ 0, and for d < 0
 
@@ -73,7 +63,7 @@ module _ (p : Vec3) (l : Long p) (t : Trixel) (i : Inside p t) where
   full-halfspace′ n (negsuc e) c =
       let h : Halfspace = record { n = n; d = negsuc e } in
       let b : dot (minus n) p <ℤ (pos (suc e) *ℤ K) = apart-below p l t i h (full-apart (within h t) (apart h t) c) in
-      above-held (turn-below (pos (suc e) *ℤ K) (dot n p) (subst (λ z. z <ℤ (pos (suc e) *ℤ K)) (dot-minus n p) b))
+      above-held (<ℤ-turn-back (subst (λ z. z <ℤ (pos (suc e) *ℤ K)) (dot-minus n p) b))
 
   outside-halfspace′ : (n : Vec3) (d : ℤ) → isOutside (halfspaceClass (record { n = n; d = d }) t) ≡ true → holdsHalfspace (record { n = n; d = d }) p ≡ false
   unfolding halfspaceClass
@@ -83,7 +73,7 @@ module _ (p : Vec3) (l : Long p) (t : Trixel) (i : Inside p t) where
   outside-halfspace′ n (negsuc e) c =
       let h : Halfspace = record { n = n; d = negsuc e } in
       let b : (pos (suc e) *ℤ K) <ℤ dot (minus n) p = within-above p l t i h (outside-within (within h t) (apart h t) c) in
-      below-not-held (turn-above (pos (suc e) *ℤ K) (dot n p) (subst (λ z. (pos (suc e) *ℤ K) <ℤ z) (dot-minus n p) b))
+      below-not-held (<ℤ-turn (subst (λ z. (pos (suc e) *ℤ K) <ℤ z) (dot-minus n p) b))
 
   pub full-halfspace : (h : Halfspace) → isFull (halfspaceClass h t) ≡ true → holdsHalfspace h p ≡ true
   full-halfspace h c = full-halfspace′ (h .n) (h .d) c

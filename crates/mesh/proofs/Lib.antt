@@ -3,3 +3,4 @@ pub mod Path
 pub mod SmallTrixels
 pub mod NameLaws
 pub mod NamesInverse
+pub mod CornerLaws

@@ -4,3 +4,4 @@ pub mod Lookup
 pub mod Names
 pub mod Table
 pub mod Answers
+pub mod Corners

@@ -45,7 +45,7 @@ pub unit-minus : (s : Vec3) → unit (minus s) ≡ minus (unit s)
 unfolding unit
 unit-minus s = ap (λ q. dividedBy (root (natAbs q)) (minus s)) (square-minus s) ∙ divided-minus (root (natAbs (dot s s))) s
 
-largest-minus : (c : Vec3) → largest (minus c) ≡ largest c
+pub largest-minus : (c : Vec3) → largest (minus c) ≡ largest c
 largest-minus c = λ i. max (max (natAbs-neg (c .x) i) (natAbs-neg (c .y) i)) (natAbs-neg (c .z) i)
 
 pub scale-minus : (c : Vec3) → scale (minus c) ≡ minus (scale c)

@@ -8,7 +8,7 @@ use mathlib.Core.Bool.{Bool, true, false, cond}
 use lib.Dec.{T, leb, leb→le, eqb}
 use lib.IntN.{ℤ, pos, negsuc, natAbs, _+ℤ_, _*ℤ_}
 use Rattle.algebra.specs.Sizes.{Upto}
-use Rattle.algebra.proofs.Sized.{natAbs-neg, upto-neg}
+use Rattle.algebra.proofs.Sized.{natAbs-neg, upto-neg, upto-add, upto-mul}
 use Rattle.vector.specs.declared.Vec3.{Vec3}
 use Rattle.vector.specs.Numbers.{Kℕ, K, quot, root}
 use Rattle.vector.specs.Vectors.{vec, dot, minus, dividedBy, unit, largest, scale, AtMost, Small}
@@ -63,6 +63,14 @@ pub unit-small : (v : Vec3) → Small (unit v)
 unfolding unit
 unit-small v = divided-small v (root (natAbs (dot v v))) (root-at-most v)
 
+pub largest-at-most : (v : Vec3) → AtMost (largest v) v
+largest-at-most v = record { x = record { le = omega arith }; y = record { le = omega arith }; z = record { le = omega arith } }
+
 pub scale-small : (v : Vec3) → Small (scale v)
 unfolding scale
-scale-small v = divided-small v (largest v) (record { x = record { le = omega arith }; y = record { le = omega arith }; z = record { le = omega arith } })
+scale-small v = divided-small v (largest v) (largest-at-most v)
+
+-- ---- products
+
+pub dot-upto : {m n : ℕ} {a b : Vec3} → AtMost m a → AtMost n b → Upto (m * n + m * n + m * n) (dot a b)
+dot-upto p q = upto-add (upto-add (upto-mul (p .x) (q .x)) (upto-mul (p .y) (q .y))) (upto-mul (p .z) (q .z))

@@ -1,0 +1,25 @@
+-- Corners alone. Document 01, 'Pointings and the mesh': cutting makes midpoints and cuts from corners, so a descent can do without the parent's normals.
+--   bare c           a trixel of which only the corners are known; cutting and descent look at nothing else (proofs/CornerLaws)
+--   SmallCorners c   each component of each corner is within ±K
+--   cornersGiven r   what the call that gives corners answered
+use lib.IntN.{pos}
+use Rattle.answer.specs.Answer.{Answer, refused, gives}
+use Rattle.vector.specs.Vectors.{vec, Small}
+use Rattle.mesh.specs.declared.Trixel.{Trixel}
+use Rattle.mesh.specs.declared.Corners.{Corners}
+use Rattle.mesh.specs.declared.CornersOf.{CornersOf}
+use Rattle.mesh.specs.declared.CornersOf.the-variants.{Gives, Refused}
+
+abbrev pub bare : Corners → Trixel
+bare c =
+    let none = vec (pos 0) (pos 0) (pos 0) in
+    record { v0 = c .v0; v1 = c .v1; v2 = c .v2; p0 = none; p1 = none; p2 = none }
+
+pub record SmallCorners (c : Corners) : Type 0 where
+  pub v0 : Small (c .v0)
+  pub v1 : Small (c .v1)
+  pub v2 : Small (c .v2)
+
+abbrev pub cornersGiven : CornersOf → Answer Corners
+cornersGiven (Gives c) = gives c
+cornersGiven (Refused n) = refused n
