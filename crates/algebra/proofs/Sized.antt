@@ -1,17 +1,17 @@
 -- Bounds on numbers with a sign, and the way to `SFits`, which a signed operation asks for: the size of a sum, a difference, a product and a
 -- quotient, and one law for each operation on the bits of a signed 64-bit number. Closed bounds are answered by `tt`. Assumes nothing.
 use Prim.Native.Nat.{ℕ, zero, suc, _+_, _-_, _*_, _^_, _≤_, _<_}
-use native.Mathlib.Nat.{le-refl, le-trans, lt-of-le-of-lt, mul-le-mul, add-le-add, div-le-self}
+use native.Mathlib.Nat.{le-refl, le-trans, lt-of-le-of-lt, mul-le-mul, add-le-add, div-le-self, lt-trans}
 use native.Mathlib.Omega.{arith}
-use mathlib.Core.Path.{_≡_, refl, sym, subst}
-use mathlib.Core.Bool.{Bool, true, false, cond}
+use mathlib.Core.Path.{_≡_, refl, sym, subst, _∙_}
+use mathlib.Core.Bool.{Bool, true, false, cond, true≢false}
 use borrow.Author.Tests.{ltb-true}
-use lib.Dec.{T, ltb, ltb→lt, le→leb}
+use lib.Dec.{T, ltb, ltb→lt, le→leb, lit<}
 use lib.IntN.{ℤ, pos, negsuc, natAbs, negℤ, _+ℤ_, _-ℤ_, _*ℤ_}
-use lib.Signed.{mag, quotZ, ltZ, leZ, _≤ℤ_, leZ-yes}
-use mir.Syntax.{Width, w64}
-use mir.Val.{SFits, toZ, ofZ, hbits}
-use mir.Facts.{toZ-ofZ}
+use lib.Signed.{mag, quotZ, ltZ, leZ, _≤ℤ_, leZ-yes, nonNeg}
+use mir.Syntax.{Width, w32, w64}
+use mir.Val.{SFits, toZ, ofZ, hbits, Fits}
+use mir.Facts.{toZ-ofZ, fits-le}
 use Rattle.algebra.specs.Sizes.{Upto}
 use Rattle.algebra.proofs.Order.{nn-pos}
 
@@ -97,6 +97,37 @@ pub record Is (b : ℕ) (z : ℤ) (n : ℕ) : Type 0 where
 
 pub held : {n : ℕ} {z : ℤ} → Upto n z → T (ltb n (2 ^ 63)) → Is (ofZ w64 z) z n
 held h t = record { eq = toZ-ofZ (sfits w64 h t); size = h }
+
+-- a number that is handed on by its bits
+pub upto-held : {n : ℕ} {z : ℤ} → Upto n z → T (ltb n (2 ^ 63)) → Upto n (toZ w64 (ofZ w64 z))
+upto-held {n} h t = subst (Upto n) (sym (held h t .eq)) h
+
+-- a number without a sign, which is its own bits; and one that is written
+pub nat : {m n : ℕ} → m ≤ n → T (ltb n (2 ^ 63)) → Is m (pos m) n
+nat {m} h t = held {z = pos m} (record { le = h }) t
+
+pub lit : (n : ℕ) → T (ltb n (2 ^ 63)) → Is n (pos n) n
+lit n t = nat (le-refl n) t
+
+-- a number that is tested against 0: it has no sign, or what it is taken from 0 has none
+pub no-sign : (z : ℤ) → ltZ z (pos 0) ≡ false → T (nonNeg z)
+no-sign (pos n) e = tt
+no-sign (negsuc n) e = absurd (true≢false e)
+
+pub taken-from-zero : (z : ℤ) → ltZ z (pos 0) ≡ true → T (nonNeg (pos 0 -ℤ z))
+taken-from-zero (pos n) e = absurd (omega (arith, ltb-true n 0 e))
+taken-from-zero (negsuc n) e = tt
+
+-- what a cast to a number without a sign asks
+pub fits-cast : {b n : ℕ} {z : ℤ} → Is b z n → T (nonNeg z) → T (ltb n (2 ^ 63)) → T (nonNeg (toZ w64 b)) × Fits w64 (natAbs (toZ w64 b))
+fits-cast {n = n} p h t = subst (λ v. T (nonNeg v) × Fits w64 (natAbs v)) (sym (p .eq)) (h, fits-le (p .size .le) (record { fits = lt-trans (ltb→lt n (2 ^ 63) t) (lit< tt) }))
+
+-- a signed 32-bit number that is cast to 64 bits: it fits, and is the same number
+pub fits-wider : {z : ℤ} → SFits w32 z → SFits w64 (toZ w32 (ofZ w32 z))
+fits-wider h = subst (SFits w64) (sym (toZ-ofZ h)) (record { sfits = lt-trans (h .sfits) (lit< tt) })
+
+pub same-wider : {z : ℤ} → SFits w32 z → toZ w64 (ofZ w64 (toZ w32 (ofZ w32 z))) ≡ z
+same-wider h = toZ-ofZ (fits-wider h) ∙ toZ-ofZ h
 
 -- an operation whose result on the bits is y, and on the numbers is z
 kept : {y z : ℤ} {n : ℕ} → y ≡ z → Upto n z → T (ltb n (2 ^ 63)) → Is (ofZ w64 y) z n

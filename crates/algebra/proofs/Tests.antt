@@ -28,6 +28,13 @@ and-right false b e = absurd (false≢true e)
 pub and-both : {a b : Bool} → a ≡ true → b ≡ true → a && b ≡ true
 and-both {a} {b} e f = rw e f
 
+-- a && b where a is known: as a program tests b only where a holds
+pub and-then : {a : Bool} (b : Bool) → a ≡ true → b ≡ a && b
+and-then b e = rw e
+
+pub and-else : {a : Bool} (b : Bool) → a ≡ false → a ≡ a && b
+and-else b e = rw e
+
 pub or-cases {ℓ} : (a b : Bool) {X : Type ℓ} → a || b ≡ true → (a ≡ true → X) → (b ≡ true → X) → X
 or-cases true b e f g = f refl
 or-cases false b e f g = g e
@@ -66,6 +73,9 @@ yes-lt h = holds-T (h .lt)
 
 pub no-lt : {a b : ℤ} → b ≤ℤ a → ltZ a b ≡ false
 no-lt {a} {b} h = split (ltZ a b) (λ e. clashℤ (lt-yes e) h) (λ e. e)
+
+pub not-le : {a b : ℤ} → b <ℤ a → leZ a b ≡ false
+not-le {a} {b} h = split (leZ a b) (λ e. clashℤ h (le-yes e)) (λ e. e)
 
 pub no-le : {a b : ℤ} → leZ a b ≡ false → b <ℤ a
 no-le {a} {b} e = by-order b a (λ l. l) (λ g. absurd (true≢false (sym (yes-le g) ∙ e)))

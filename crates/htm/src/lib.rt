@@ -1,1 +1,62 @@
-// No code yet
+// The public face: every exported call. Each answers by the rule that its contract names, for good and bad input alike, and none has a `requires`.
+// A refusal carries its number only (crate answer), and then every lent element keeps its value.
+use answer::Number;
+use mesh::CornersOf;
+use vector::Vec3;
+ghost use mathlib.Core.Path.{_≡_};
+ghost use Rattle.answer.specs.Calls.{numberOf};
+ghost use Rattle.vector.specs.Vectors.{vec};
+ghost use Rattle.mesh.specs.Lookup as mesh_lookup;
+ghost use Rattle.mesh.specs.Names.{identifierOf};
+ghost use Rattle.mesh.specs.Identifiers as identifiers;
+ghost use Rattle.mesh.specs.Corners.{cornersGiven};
+ghost use Rattle.mesh.specs.Answers.{nameAnswer, nameAfter};
+ghost use Rattle.htm.specs.Answers.{entry};
+
+// The identifier of the trixel of a depth from 1 to 12 in which a pointing lies; refusals 5, 8.
+pub fn locate(x: i32, y: i32, z: i32, depth: u32) -> Number
+    ensures { λ r. ⌜ numberOf r ≡ mesh_lookup.lookup (vec x y z) depth ⌝ }
+{
+    descent::lookup(
+        Vec3 {
+            x: x as i64,
+            y: y as i64,
+            z: z as i64,
+        },
+        depth,
+    )
+}
+
+// The name of an identifier, written at the beginning of `out`, and its length; refusals 11, then 10.
+pub fn name(id: u64, out: &mut [u8]) -> Number
+    ensures { λ r. ⌜ numberOf r ≡ nameAnswer id (now (out .entry)) ⌝ }
+    ensures { λ r. ⌜ now (out .exit) ≡ nameAfter id (now (out .entry)) ⌝ }
+{
+    mesh::names::name_of(id, out)
+}
+
+// The identifier of a name; refusal 11.
+pub fn identifier(name: &[u8]) -> Number
+    ensures { λ r. ⌜ numberOf r ≡ identifierOf (now (name .entry)) ⌝ }
+{
+    mesh::names::id_of(name)
+}
+
+// The corners of the trixel of an identifier to depth 12; refusal 11.
+pub fn corners(id: u64) -> CornersOf
+    ensures { λ r. ⌜ cornersGiven r ≡ identifiers.corners id ⌝ }
+{
+    mesh::cutting::corners_of(id)
+}
+
+// The lookup for a host in C: the identifier, or 0 for a refusal.
+#[no_mangle]
+pub extern "C" fn lookup(x: i32, y: i32, z: i32, depth: u32) -> u64
+    ensures { λ r. ⌜ r ≡ entry x y z depth ⌝ }
+{
+    let answer = locate(x, y, z, depth);
+    match answer {
+        Number::Gives(id) => id,
+        Number::Refused(_) => 0,
+    }
+}

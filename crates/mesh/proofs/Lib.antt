@@ -4,3 +4,6 @@ pub mod SmallTrixels
 pub mod NameLaws
 pub mod NamesInverse
 pub mod CornerLaws
+pub mod DepthBits
+pub mod NameWriting
+pub mod NameReading

@@ -17,10 +17,10 @@ use Rattle.mesh.specs.Names.{letterS, digit0, digits, letter, nameAt, is
 
 -- ---- the depth
 
-at-low : (d i : ℕ) → identifierAt d i ≡ true → 2 ^ (2 * d + 1) ≤ i
+pub at-low : (d i : ℕ) → identifierAt d i ≡ true → 2 ^ (2 * d + 1) ≤ i
 at-low d i e = leb-true (2 ^ (2 * d + 1)) i (and-left (leb (2 ^ (2 * d + 1)) i) (ltb i (2 ^ (2 * d + 2))) e)
 
-at-high : (d i : ℕ) → identifierAt d i ≡ true → i < 2 ^ (2 * d + 2)
+pub at-high : (d i : ℕ) → identifierAt d i ≡ true → i < 2 ^ (2 * d + 2)
 at-high d i e = ltb-true i (2 ^ (2 * d + 2)) (and-right (leb (2 ^ (2 * d + 1)) i) (ltb i (2 ^ (2 * d + 2))) e)
 
 -- an identifier has one depth
@@ -66,7 +66,7 @@ digits-lead-back (suc n) i =
 
 -- ---- a name of an identifier is a name
 
-digits-length : (n i : ℕ) → length (digits n i) ≡ n
+pub digits-length : (n i : ℕ) → length (digits n i) ≡ n
 unfolding digits
 digits-length zero i = refl
 digits-length (suc n) i = omega (arith, length-append (digits n (i / 4)) ((digit0 + i % 4) ∷ []), digits-length n (i / 4))

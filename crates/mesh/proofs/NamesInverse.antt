@@ -28,7 +28,7 @@ name-then-identifier i s e =
 -- ---- what stands before the digits comes back
 
 -- a digit's value is 0 to 3
-digit-small : (c : ℕ) → isDigit c ≡ true → (digit0 ≤ c) × (c - digit0 < 4)
+pub digit-small : (c : ℕ) → isDigit c ≡ true → (digit0 ≤ c) × (c - digit0 < 4)
 digit-small c e =
     let l = leb-true digit0 c (and-left (leb digit0 c) (leb c (digit0 + 3)) e) in
     let h = leb-true c (digit0 + 3) (and-right (leb digit0 c) (leb c (digit0 + 3)) e) in
@@ -79,7 +79,7 @@ letter-of-value c e = or-cases (eqb c letterS) (eqb c letterN) e
     (λ t. subst (λ x. letter (cond (eqb x letterS) 2 3) ≡ x) (sym (eqb-true c letterS t)) refl)
     (λ t. subst (λ x. letter (cond (eqb x letterS) 2 3) ≡ x) (sym (eqb-true c letterN t)) refl)
 
-letter-value : (c : ℕ) → (2 ≤ cond (eqb c letterS) 2 3) × (cond (eqb c letterS) 2 3 < 4)
+pub letter-value : (c : ℕ) → (2 ≤ cond (eqb c letterS) 2 3) × (cond (eqb c letterS) 2 3 < 4)
 letter-value c = split (eqb c letterS) (λ t. rw t (omega arith)) (λ t. rw t (omega arith))
 
 -- ---- the depth, and the name at that depth

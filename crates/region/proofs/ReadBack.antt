@@ -12,7 +12,8 @@ use Rattle.algebra.proofs.Tests.{and-both}
 use Rattle.algebra.specs.Sizes.{Upto}
 use Rattle.vector.specs.Numbers.{Kℕ, isDepth}
 use Rattle.vector.specs.Vectors.{vec, isVector}
-use Rattle.vector.proofs.VectorLaws.{between-upto, vector-small}
+use Rattle.vector.proofs.SizeLaws.{between-upto}
+use Rattle.vector.proofs.VectorLaws.{vector-small}
 use Rattle.answer.specs.Answer.{Answer, gives, check, then, with-value, Long, Torn, Kind, Order, Depth, Budget, Crowd, Vector, Offset}
 use Rattle.region.specs.declared.Halfspace.{Halfspace}
 use Rattle.region.specs.Regions.{Convex, Region}

@@ -2,14 +2,15 @@
 -- Of a fourth of s the root q has q² ≤ s / 4 < (q + 1)², so (2 q)² ≤ s < (2 q + 2)²: the root of s is 2 q or 2 q + 1. Assumes nothing.
 use Prim.Native.Nat.{ℕ, zero, suc, _+_, _*_, _/_, _<_, _≤_}
 use mathlib.Core.Path.{_≡_, refl, ap}
-use mathlib.Core.Bool.{Bool, true, false, cond}
+use mathlib.Core.Bool.{Bool, true, false, cond, _&&_}
 use native.Mathlib.Nat.{mul-le-mul}
 use native.Mathlib.Omega.{arith}
-use borrow.Author.Tests.{leb-true, leb-false, eqb-true}
-use lib.Dec.{leb, eqb}
+use borrow.Author.Tests.{leb-true, leb-false, ltb-true, eqb-true}
+use lib.Dec.{leb, ltb, eqb}
 use lib.IntN.{pos, natAbs}
 use Rattle.algebra.proofs.Ring.{con, _:+_, _:*_}
 use Rattle.algebra.proofs.Claim.{_:≡_, ring}
+use Rattle.algebra.proofs.Tests.{and-left, and-right}
 use Rattle.algebra.proofs.Inequalities.{`1}
 use Rattle.vector.specs.Numbers.{root, rootIn, orNext, IsRoot}
 
@@ -59,3 +60,7 @@ root-unique {s} {r} h = by (leb (root s) r) refl
     by : (b : Bool) → leb (root s) r ≡ b → r ≡ root s
     by true e = omega (arith, leb-true (root s) r e, root-greatest s r (h .low))
     by false e = let l : r + 1 ≤ root s = omega (arith, leb-false (root s) r e) in omega (arith, mul-le-mul l l, (root-is s) .low, h .high)
+
+-- what passes the two tests is the root
+pub root-tested : (s r : ℕ) → leb (r * r) s && ltb s ((r + 1) * (r + 1)) ≡ true → r ≡ root s
+root-tested s r e = root-unique (record { low = leb-true (r * r) s (and-left (leb (r * r) s) _ e); high = ltb-true s ((r + 1) * (r + 1)) (and-right (leb (r * r) s) _ e) })

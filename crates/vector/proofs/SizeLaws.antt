@@ -4,22 +4,55 @@ use Prim.Native.Nat.{ℕ, suc, _+_, _*_, _/_, _≤_}
 use native.Mathlib.Nat.{div-le-of-le-mul, mul-le-mul-right}
 use native.Mathlib.Omega.{arith}
 use mathlib.Core.Path.{_≡_, refl, sym, ap, _∙_, subst}
-use mathlib.Core.Bool.{Bool, true, false, cond}
+use mathlib.Core.Bool.{Bool, true, false, cond, _&&_}
+use borrow.Author.Tests.{leb-true}
 use lib.Dec.{T, leb, leb→le, eqb}
-use lib.IntN.{ℤ, pos, negsuc, natAbs, _+ℤ_, _*ℤ_}
+use lib.IntN.{ℤ, pos, negsuc, negℤ, natAbs, _+ℤ_, _*ℤ_}
+use lib.Signed.{nonNeg}
 use Rattle.algebra.specs.Sizes.{Upto}
-use Rattle.algebra.proofs.Sized.{natAbs-neg, upto-neg, upto-add, upto-mul}
+use Rattle.algebra.proofs.Tests.{and-left, and-right}
+use Rattle.algebra.proofs.Sized.{natAbs-neg, upto-mono, upto-neg, upto-add, upto-sub, upto-mul}
 use Rattle.vector.specs.declared.Vec3.{Vec3}
-use Rattle.vector.specs.Numbers.{Kℕ, K, quot, root}
-use Rattle.vector.specs.Vectors.{vec, dot, minus, dividedBy, unit, largest, scale, AtMost, Small}
+use Rattle.vector.specs.Numbers.{Kℕ, K, quot, between, root}
+use Rattle.vector.specs.Vectors.{vec, plus, minus, dot, cross, dividedBy, unit, largest, scale, AtMost, Small}
 use Rattle.vector.proofs.RootLaws.{root-greatest}
+
+pub at-most-mono : {m n : ℕ} {v : Vec3} → m ≤ n → AtMost m v → AtMost n v
+at-most-mono l h = record { x = upto-mono l (h .x); y = upto-mono l (h .y); z = upto-mono l (h .z) }
 
 pub at-most-minus : {n : ℕ} {v : Vec3} → AtMost n v → AtMost n (minus v)
 at-most-minus h = record { x = upto-neg (h .x); y = upto-neg (h .y); z = upto-neg (h .z) }
 
+pub at-most-plus : {m n : ℕ} {a b : Vec3} → AtMost m a → AtMost n b → AtMost (m + n) (plus a b)
+at-most-plus p q = record { x = upto-add (p .x) (q .x); y = upto-add (p .y) (q .y); z = upto-add (p .z) (q .z) }
+
+pub at-most-cross : {m n : ℕ} {a b : Vec3} → AtMost m a → AtMost n b → AtMost (m * n + m * n) (cross a b)
+at-most-cross p q = record {
+  x = upto-sub (upto-mul (p .y) (q .z)) (upto-mul (p .z) (q .y));
+  y = upto-sub (upto-mul (p .z) (q .x)) (upto-mul (p .x) (q .z));
+  z = upto-sub (upto-mul (p .x) (q .y)) (upto-mul (p .y) (q .x));
+}
+
+pub dot-upto : {m n : ℕ} {a b : Vec3} → AtMost m a → AtMost n b → Upto (m * n + m * n + m * n) (dot a b)
+dot-upto p q = upto-add (upto-add (upto-mul (p .x) (q .x)) (upto-mul (p .y) (q .y))) (upto-mul (p .z) (q .z))
+
 -- by three tests: for numbers that are written, `small-test v tt tt tt`
 pub small-test : (v : Vec3) → T (leb (natAbs (v .x)) Kℕ) → T (leb (natAbs (v .y)) Kℕ) → T (leb (natAbs (v .z)) Kℕ) → Small v
 small-test v a b c = record { x = record { le = leb→le _ _ a }; y = record { le = leb→le _ _ b }; z = record { le = leb→le _ _ c } }
+
+-- by the tests of the vector rule
+pub between-upto : (z : ℤ) → between (negℤ K) K z ≡ true → Upto Kℕ z
+between-upto (pos n) e = record { le = leb-true n 1048576 e }
+between-upto (negsuc n) e = record { le = omega (arith, leb-true n 1048575 (and-left (leb n 1048575) true e)) }
+
+pub small-tested : (v : Vec3) → between (negℤ K) K (v .x) && between (negℤ K) K (v .y) && between (negℤ K) K (v .z) ≡ true → Small v
+small-tested v e =
+    let xy = and-left (between (negℤ K) K (v .x) && between (negℤ K) K (v .y)) _ e in
+    record {
+      x = between-upto (v .x) (and-left (between (negℤ K) K (v .x)) _ xy);
+      y = between-upto (v .y) (and-right (between (negℤ K) K (v .x)) _ xy);
+      z = between-upto (v .z) (and-right (between (negℤ K) K (v .x) && between (negℤ K) K (v .y)) _ e);
+    }
 
 -- ---- K times a, divided by n
 
@@ -50,6 +83,9 @@ sq (negsuc n) = refl
 pub dot-self : (v : Vec3) → dot v v ≡ pos (natAbs (v .x) * natAbs (v .x) + natAbs (v .y) * natAbs (v .y) + natAbs (v .z) * natAbs (v .z))
 dot-self v = λ i. sq (v .x) i +ℤ sq (v .y) i +ℤ sq (v .z) i
 
+pub dot-self-positive : (v : Vec3) → T (nonNeg (dot v v))
+dot-self-positive v = subst (λ z. T (nonNeg z)) (sym (dot-self v)) tt
+
 pub root-at-most : (v : Vec3) → AtMost (root (natAbs (dot v v))) v
 root-at-most v =
     let e = ap natAbs (dot-self v) in
@@ -66,11 +102,9 @@ unit-small v = divided-small v (root (natAbs (dot v v))) (root-at-most v)
 pub largest-at-most : (v : Vec3) → AtMost (largest v) v
 largest-at-most v = record { x = record { le = omega arith }; y = record { le = omega arith }; z = record { le = omega arith } }
 
+pub largest-bound : {n : ℕ} {v : Vec3} → AtMost n v → largest v ≤ n
+largest-bound h = omega (arith, h .x .le, h .y .le, h .z .le)
+
 pub scale-small : (v : Vec3) → Small (scale v)
 unfolding scale
 scale-small v = divided-small v (largest v) (largest-at-most v)
-
--- ---- products
-
-pub dot-upto : {m n : ℕ} {a b : Vec3} → AtMost m a → AtMost n b → Upto (m * n + m * n + m * n) (dot a b)
-dot-upto p q = upto-add (upto-add (upto-mul (p .x) (q .x)) (upto-mul (p .y) (q .y))) (upto-mul (p .z) (q .z))

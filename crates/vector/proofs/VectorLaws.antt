@@ -1,19 +1,16 @@
 -- What the vector rule says of the components and of the square length, and vectors as the algebra has them. Assumes nothing.
-use native.Mathlib.Omega.{arith}
 use mathlib.Core.Path.{_≡_, refl}
 use mathlib.Core.Bool.{Bool, true, _&&_}
-use lib.Dec.{leb}
-use borrow.Author.Tests.{leb-true}
-use lib.IntN.{ℤ, pos, negsuc, negℤ, _+ℤ_, _-ℤ_, _*ℤ_}
+use lib.IntN.{pos, negℤ, _+ℤ_, _-ℤ_, _*ℤ_}
 use lib.Signed.{leZ, _≤ℤ_}
-use Rattle.algebra.specs.Sizes.{Upto}
 use Rattle.algebra.proofs.Ring.{_:+_, _:*_, :neg}
 use Rattle.algebra.proofs.Claim.{_:≡_, ring}
 use Rattle.algebra.proofs.Tests.{and-left, and-right, le-yes}
 use Rattle.algebra.proofs.Vec.{V3}
 use Rattle.vector.specs.declared.Vec3.{Vec3}
-use Rattle.vector.specs.Numbers.{Kℕ, K, between}
+use Rattle.vector.specs.Numbers.{K, between}
 use Rattle.vector.specs.Vectors.{dot, minus, isVector, Small}
+use Rattle.vector.proofs.SizeLaws.{small-tested}
 
 -- a vector as the algebra has it: `dot` and `cross` of the two are the same by computing
 abbrev pub v3 : Vec3 → V3
@@ -23,11 +20,6 @@ v3 a = record { x = a .x; y = a .y; z = a .z }
 pub record Long (p : Vec3) : Type 0 where
   pub low : (pos 1048574 *ℤ pos 1048574) ≤ℤ dot p p
   pub high : dot p p ≤ℤ (pos 1048578 *ℤ pos 1048578)
-
--- −K ≤ z ≤ K
-pub between-upto : (z : ℤ) → between (negℤ K) K z ≡ true → Upto Kℕ z
-between-upto (pos n) e = record { le = leb-true n 1048576 (and-right true (leb n 1048576) e) }
-between-upto (negsuc n) e = record { le = omega (arith, leb-true n 1048575 (and-left (leb n 1048575) true e)) }
 
 module _ (p : Vec3) (e : isVector p ≡ true) where
   abbrev inX : Bool
@@ -47,10 +39,7 @@ module _ (p : Vec3) (e : isVector p ≡ true) where
 
   pub vector-small : Small p
   unfolding isVector
-  vector-small =
-      let s = and-left (inX && inY && inZ) (atLeast && atMost) e in
-      let xy = and-left (inX && inY) inZ s in
-      record { x = between-upto (p .x) (and-left inX inY xy); y = between-upto (p .y) (and-right inX inY xy); z = between-upto (p .z) (and-right (inX && inY) inZ s) }
+  vector-small = small-tested p (and-left (inX && inY && inZ) (atLeast && atMost) e)
 
   pub vector-long : Long p
   unfolding isVector
@@ -61,3 +50,6 @@ module _ (p : Vec3) (e : isVector p ≡ true) where
 -- (−a)·p = −(a·p)
 pub dot-minus : (a p : Vec3) → dot (minus a) p ≡ negℤ (dot a p)
 dot-minus a p = ring 6 (λ a b c x y z. :neg a :* x :+ :neg b :* y :+ :neg c :* z :≡ :neg (a :* x :+ b :* y :+ c :* z)) refl (a .x) (a .y) (a .z) (p .x) (p .y) (p .z)
+
+pub dot-comm : (a b : Vec3) → dot a b ≡ dot b a
+dot-comm a b = ring 6 (λ a b c x y z. a :* x :+ b :* y :+ c :* z :≡ x :* a :+ y :* b :+ z :* c) refl (a .x) (a .y) (a .z) (b .x) (b .y) (b .z)

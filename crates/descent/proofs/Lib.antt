@@ -1,0 +1,4 @@
+pub mod StepLaws
+pub mod DescentLaws
+pub mod TableLaws
+pub mod AnswerLaws

@@ -1,0 +1,229 @@
+// The lookup: the descent of a pointing from its root, and deeper ones from the table of depth 3 on. The rules stand in mesh/specs/Lookup.
+use answer::DEPTH;
+use answer::Number;
+use answer::VECTOR;
+use mesh::Corners;
+use vector::Vec3;
+ghost use mathlib.Core.Path.{_≡_};
+ghost use mathlib.Core.Bool.{cond};
+ghost use Prim.Native.Nat.{_+_, _*_, _^_, _≤_, _<_};
+ghost use lib.IntN.{pos};
+ghost use lib.Signed.{leZ};
+ghost use Rattle.answer.specs.Calls.{numberOf};
+ghost use Rattle.vector.specs.Vectors as vectors;
+ghost use Rattle.vector.specs.Vectors.{AtMost, Small};
+ghost use Rattle.mesh.specs.Lookup as rule;
+ghost use Rattle.mesh.specs.Lookup.{notNegative, northRoot, southRoot, rootNumber};
+ghost use Rattle.mesh.specs.Table.{vectorAt};
+ghost use Rattle.mesh.specs.Corners.{bare, SmallCorners};
+ghost use Rattle.descent.specs.Places.{Stepped, Started};
+
+// A digit, and the corners of that child.
+pub struct Child {
+    pub digit: u64,
+    pub corners: Corners,
+}
+
+// An identifier, and the corners of its trixel.
+pub struct Place {
+    pub id: u64,
+    pub corners: Corners,
+}
+
+// ---- one level
+
+// Whether p is on the side of Scale(c): Scale(c)·p ≥ 0. Where c·p is beyond three times the largest component it has the same sign.
+fn on_side(c: Vec3, p: Vec3) -> bool
+    requires { ⌜ AtMost (2 ^ 41) c ⌝ }
+    requires { ⌜ Small p ⌝ }
+    ensures { λ t. ⌜ t ≡ notNegative (vectors.dot (vectors.scale c) p) ⌝ }
+{
+    let s = vector::dot(p, c);
+    let m = 3 * vector::largest(c) as i64;
+    if m < s {
+        return true;
+    }
+    if s < -m {
+        return false;
+    }
+    0 <= vector::dot(vector::scale(c), p)
+}
+
+// The child that p goes to, by the cuts; the middle of the edge v1 v2 is found only where it is needed.
+fn step(p: Vec3, c: Corners) -> Child
+    requires { ⌜ Small p ⌝ }
+    requires { ⌜ SmallCorners c ⌝ }
+    ensures { λ r. ⌜ Stepped p c r ⌝ }
+{
+    let v0 = c.v0;
+    let v1 = c.v1;
+    let v2 = c.v2;
+    let w1 = mesh::cutting::midpoint(v0, v2);
+    let w2 = mesh::cutting::midpoint(v0, v1);
+    if on_side(vector::cross(w2, w1), p) {
+        return Child {
+            digit: 0,
+            corners: Corners {
+                v0: v0,
+                v1: w2,
+                v2: w1,
+            },
+        };
+    }
+    let w0 = mesh::cutting::midpoint(v1, v2);
+    if on_side(vector::cross(w0, w2), p) {
+        return Child {
+            digit: 1,
+            corners: Corners {
+                v0: v1,
+                v1: w0,
+                v2: w2,
+            },
+        };
+    }
+    if on_side(vector::cross(w1, w0), p) {
+        return Child {
+            digit: 2,
+            corners: Corners {
+                v0: v2,
+                v1: w1,
+                v2: w0,
+            },
+        };
+    }
+    Child {
+        digit: 3,
+        corners: Corners {
+            v0: w0,
+            v1: w1,
+            v2: w2,
+        },
+    }
+}
+
+// n levels down from the trixel with the identifier id and the corners c.
+fn descend(p: Vec3, c: Corners, id: u64, n: u32) -> u64
+    requires { ⌜ Small p ⌝ }
+    requires { ⌜ SmallCorners c ⌝ }
+    requires { ⌜ (id < 256) × (n ≤ 11) ⌝ }
+    ensures { λ r. ⌜ r ≡ rule.descend p n (bare c) id ⌝ }
+{
+    let mut at = c;
+    let mut i = id;
+    let mut k: u32 = 0;
+    while k < n {
+        let s = step(p, at);
+        at = s.corners;
+        i = 4 * i + s.digit;
+        k += 1;
+    }
+    i
+}
+
+// ---- the root, and the table of depth 3
+
+// The root by the signs: S0 S1 S2 S3 N0 N1 N2 N3 are 0 to 7.
+fn root_by(x: bool, y: bool, z: bool) -> u64
+    ensures { λ r. ⌜ (r ≡ cond z (northRoot x y) (southRoot x y)) × (r < 8) ⌝ }
+{
+    if z {
+        if y {
+            return if x { 7 } else { 6 };
+        }
+        return if x { 4 } else { 5 };
+    }
+    if y {
+        return if x { 0 } else { 1 };
+    }
+    if x { 3 } else { 2 }
+}
+
+fn root_number(p: Vec3) -> u64
+    requires { ⌜ Small p ⌝ }
+    ensures { λ r. ⌜ (r ≡ rootNumber p) × (r < 8) ⌝ }
+{
+    root_by(0 <= p.x, 0 <= p.y, 0 <= p.z)
+}
+
+// Whether vector number k of the table, the normal of a cut turned round, leaves p on the side of the cut.
+fn passes(p: Vec3, k: usize) -> bool
+    requires { ⌜ Small p ⌝ }
+    requires { ⌜ k < 768 ⌝ }
+    ensures { λ t. ⌜ t ≡ leZ (vectors.dot (vectorAt k) p) (pos 0) ⌝ }
+{
+    vector::dot(p, table::vector_at(k)) <= 0
+}
+
+// The child that p goes to, by the three normals turned round that stand at a, b and c of the table.
+fn digit_at(p: Vec3, a: usize, b: usize, c: usize) -> u64
+    requires { ⌜ Small p ⌝ }
+    requires { ⌜ (a < 768) × (b < 768) × (c < 768) ⌝ }
+    ensures { λ r. ⌜ r ≡ cond (leZ (vectors.dot (vectorAt a) p) (pos 0)) 0 (cond (leZ (vectors.dot (vectorAt b) p) (pos 0)) 1 (cond (leZ (vectors.dot (vectorAt c) p) (pos 0)) 2 3)) ⌝ }
+    ensures { λ r. ⌜ r < 4 ⌝ }
+{
+    if passes(p, a) {
+        return 0;
+    }
+    if passes(p, b) {
+        return 1;
+    }
+    if passes(p, c) {
+        return 2;
+    }
+    3
+}
+
+// The trixel of depth 3 that p goes to, from the table. The cuts of a root stand there as normals of two children of its middle child, those of a
+// trixel of depth 2 as the normals of its middle child.
+fn from_table(p: Vec3, root: u64) -> Place
+    requires { ⌜ Small p ⌝ }
+    requires { ⌜ root < 8 ⌝ }
+    ensures { λ r. ⌜ Started p root r ⌝ }
+{
+    let at = 96 * root as usize;
+    let d = digit_at(p, at + 83, at + 76, at + 77);
+    let below = at + 24 * d as usize;
+    let e = digit_at(p, below + 21, below + 22, below + 23);
+    let found = below + 6 * e as usize;
+    Place {
+        id: 128 + 16 * root + 4 * d + e,
+        corners: Corners {
+            v0: table::vector_at(found),
+            v1: table::vector_at(found + 1),
+            v2: table::vector_at(found + 2),
+        },
+    }
+}
+
+// ---- the lookup
+
+// The identifier of p at a depth.
+fn identifier(p: Vec3, depth: u32) -> u64
+    requires { ⌜ Small p ⌝ }
+    requires { ⌜ (1 ≤ depth) × (depth ≤ 12) ⌝ }
+    ensures { λ r. ⌜ r ≡ rule.identifier p depth ⌝ }
+{
+    let root = root_number(p);
+    if depth < 3 {
+        return descend(p, mesh::cutting::root_corners(root), 8 + root, depth - 1);
+    }
+    let start = from_table(p, root);
+    let c = start.corners;
+    descend(p, c, start.id, depth - 3)
+}
+
+// The identifier of the trixel that a pointing lies in, or the refusal 5 or 8.
+pub fn lookup(p: Vec3, depth: u32) -> Number
+    ensures { λ r. ⌜ numberOf r ≡ rule.lookup p depth ⌝ }
+{
+    if depth < 1 {
+        return Number::Refused(DEPTH);
+    }
+    if 12 < depth {
+        return Number::Refused(DEPTH);
+    }
+    if vector::is_vector(p) {
+        return Number::Gives(identifier(p, depth));
+    }
+    Number::Refused(VECTOR)
+}

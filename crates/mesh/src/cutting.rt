@@ -1,0 +1,169 @@
+// Corners of trixels, by the cutting rule: from the root down, child by child. The rules stand in specs/Trixels, specs/Identifiers and specs/Corners.
+use crate::Corners;
+use crate::CornersOf;
+use crate::names;
+use answer::NAME;
+use vector::Vec3;
+ghost use mathlib.Core.Path.{_≡_};
+ghost use Prim.Native.Nat.{_+_, _*_, _-_, _^_, _≤_, _<_};
+ghost use Rattle.vector.specs.Vectors.{Small, unit, plus};
+ghost use Rattle.mesh.specs.Trixels as rule;
+ghost use Rattle.mesh.specs.Identifiers as identifiers;
+ghost use Rattle.mesh.specs.Corners.{bare, SmallCorners, cornersGiven};
+
+const K: i64 = 1048576;
+
+const MINUS_K: i64 = -1048576;
+
+// The middle of an edge: Unit(a + b).
+pub fn midpoint(a: Vec3, b: Vec3) -> Vec3
+    requires { ⌜ Small a ⌝ }
+    requires { ⌜ Small b ⌝ }
+    ensures { λ r. ⌜ (r ≡ unit (plus a b)) × Small r ⌝ }
+{
+    vector::unit(vector::sum(a, b))
+}
+
+// The corners of a root: S0 S1 S2 S3 N0 N1 N2 N3 are 0 to 7.
+pub fn root_corners(k: u64) -> Corners
+    requires { ⌜ k < 8 ⌝ }
+    ensures { λ r. ⌜ (r ≡ identifiers.cornersOf (rule.rootTrixel k)) × SmallCorners r ⌝ }
+{
+    let x = Vec3 { x: K, y: 0, z: 0 };
+    let y = Vec3 { x: 0, y: K, z: 0 };
+    let z = Vec3 { x: 0, y: 0, z: K };
+    let left = Vec3 {
+        x: MINUS_K,
+        y: 0,
+        z: 0,
+    };
+    let back = Vec3 {
+        x: 0,
+        y: MINUS_K,
+        z: 0,
+    };
+    let down = Vec3 {
+        x: 0,
+        y: 0,
+        z: MINUS_K,
+    };
+    if k == 0 {
+        return Corners {
+            v0: x,
+            v1: down,
+            v2: y,
+        };
+    }
+    if k == 1 {
+        return Corners {
+            v0: y,
+            v1: down,
+            v2: left,
+        };
+    }
+    if k == 2 {
+        return Corners {
+            v0: left,
+            v1: down,
+            v2: back,
+        };
+    }
+    if k == 3 {
+        return Corners {
+            v0: back,
+            v1: down,
+            v2: x,
+        };
+    }
+    if k == 4 {
+        return Corners {
+            v0: x,
+            v1: z,
+            v2: back,
+        };
+    }
+    if k == 5 {
+        return Corners {
+            v0: back,
+            v1: z,
+            v2: left,
+        };
+    }
+    if k == 6 {
+        return Corners {
+            v0: left,
+            v1: z,
+            v2: y,
+        };
+    }
+    Corners {
+        v0: y,
+        v1: z,
+        v2: x,
+    }
+}
+
+// The corners of the child number k, by the table of children; 3 and above is the one in the middle.
+pub fn child_corners(c: Corners, k: u64) -> Corners
+    requires { ⌜ SmallCorners c ⌝ }
+    ensures { λ r. ⌜ (r ≡ identifiers.cornersOf (rule.child k (bare c))) × SmallCorners r ⌝ }
+{
+    let v0 = c.v0;
+    let v1 = c.v1;
+    let v2 = c.v2;
+    let w0 = midpoint(v1, v2);
+    let w1 = midpoint(v0, v2);
+    let w2 = midpoint(v0, v1);
+    if k == 0 {
+        return Corners {
+            v0: v0,
+            v1: w2,
+            v2: w1,
+        };
+    }
+    if k == 1 {
+        return Corners {
+            v0: v1,
+            v1: w0,
+            v2: w2,
+        };
+    }
+    if k == 2 {
+        return Corners {
+            v0: v2,
+            v1: w1,
+            v2: w0,
+        };
+    }
+    Corners {
+        v0: w0,
+        v1: w1,
+        v2: w2,
+    }
+}
+
+// The corners of the trixel with the identifier id, n levels below its root.
+fn corners_below(id: u64, n: u32) -> Corners
+    requires { ⌜ 8 * 4 ^ n ≤ id ⌝ }
+    requires { ⌜ id < 16 * 4 ^ n ⌝ }
+    ensures { λ r. ⌜ (r ≡ identifiers.cornersOf (identifiers.trixel n id)) × SmallCorners r ⌝ }
+{
+    if n == 0 {
+        return root_corners(id - 8);
+    }
+    child_corners(corners_below(id / 4, n - 1), id % 4)
+}
+
+// The corners of a trixel to depth 12, or the refusal 11.
+pub fn corners_of(id: u64) -> CornersOf
+    ensures { λ r. ⌜ cornersGiven r ≡ identifiers.corners id ⌝ }
+{
+    let depth = names::depth_of(id);
+    if depth == 0 {
+        return CornersOf::Refused(NAME);
+    }
+    if 12 < depth {
+        return CornersOf::Refused(NAME);
+    }
+    CornersOf::Gives(corners_below(id, depth - 1))
+}

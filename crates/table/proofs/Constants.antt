@@ -1,0 +1,170 @@
+-- The 2304 constants of the table once more, as one list, for the one test that is computed over all of them: they are the table by the cutting rule.
+-- The lines are printed by tools/table.py. Assumes nothing.
+use Prim.Native.Nat.{ℕ, zero, suc, _+_, _<_}
+use native.Mathlib.Nat.{add-zero}
+use native.Mathlib.Omega.{arith}
+use mathlib.Core.Path.{_≡_, refl, sym, ap, _∙_}
+use mathlib.Core.List.{List, [], _∷_}
+use lib.ListN.{take, drop}
+use lib.IntN.{ℤ, pos, negsuc}
+use Rattle.vector.specs.Numbers.{root, rootIn}
+use Rattle.vector.specs.Vectors.{unit, scale}
+use Rattle.mesh.specs.Trixels.{rootTrixel, cut, child}
+use Rattle.mesh.specs.Identifiers.{trixel}
+use Rattle.mesh.specs.Table.{numbers, tableFrom, table}
+
+abbrev pub constants : List ℤ
+constants =
+    pos 1048576 ∷ pos 0 ∷ pos 0 ∷ pos 968758 ∷ pos 0 ∷ negsuc 401271 ∷ pos 968758 ∷ pos 401272 ∷ pos 0 ∷ pos 434333 ∷ negsuc 1048575 ∷ pos 1048576 ∷ pos 0 ∷ pos 0 ∷ negsuc 1048575 ∷ pos 0 ∷ pos 1048576 ∷ pos 0 ∷
+    pos 741455 ∷ pos 0 ∷ negsuc 741454 ∷ pos 856158 ∷ pos 428079 ∷ negsuc 428078 ∷ pos 968758 ∷ pos 0 ∷ negsuc 401271 ∷ negsuc 434332 ∷ negsuc 179907 ∷ negsuc 1048575 ∷ pos 0 ∷ pos 1048576 ∷ pos 0 ∷ pos 1048576 ∷ negsuc 1048575 ∷ pos 1048576 ∷
+    pos 741455 ∷ pos 741455 ∷ pos 0 ∷ pos 968758 ∷ pos 401272 ∷ pos 0 ∷ pos 856158 ∷ pos 428079 ∷ negsuc 428078 ∷ negsuc 434332 ∷ pos 1048576 ∷ pos 179908 ∷ pos 1048576 ∷ negsuc 1048575 ∷ pos 1048576 ∷ pos 0 ∷ pos 0 ∷ negsuc 1048575 ∷
+    pos 856158 ∷ pos 428079 ∷ negsuc 428078 ∷ pos 968758 ∷ pos 401272 ∷ pos 0 ∷ pos 968758 ∷ pos 0 ∷ negsuc 401271 ∷ negsuc 434332 ∷ pos 1048576 ∷ negsuc 1048575 ∷ pos 434333 ∷ pos 179908 ∷ pos 1048576 ∷ pos 434333 ∷ negsuc 1048575 ∷ negsuc 179907 ∷
+    pos 0 ∷ pos 0 ∷ negsuc 1048575 ∷ pos 0 ∷ pos 401272 ∷ negsuc 968757 ∷ pos 401272 ∷ pos 0 ∷ negsuc 968757 ∷ negsuc 1048575 ∷ negsuc 1048575 ∷ negsuc 434332 ∷ pos 0 ∷ pos 1048576 ∷ pos 0 ∷ pos 1048576 ∷ pos 0 ∷ pos 0 ∷
+    pos 0 ∷ pos 741455 ∷ negsuc 741454 ∷ pos 428079 ∷ pos 428079 ∷ negsuc 856157 ∷ pos 0 ∷ pos 401272 ∷ negsuc 968757 ∷ negsuc 179907 ∷ pos 1048576 ∷ pos 434333 ∷ pos 1048576 ∷ pos 0 ∷ pos 0 ∷ negsuc 1048575 ∷ negsuc 1048575 ∷ negsuc 1048575 ∷
+    pos 741455 ∷ pos 0 ∷ negsuc 741454 ∷ pos 401272 ∷ pos 0 ∷ negsuc 968757 ∷ pos 428079 ∷ pos 428079 ∷ negsuc 856157 ∷ pos 1048576 ∷ negsuc 179907 ∷ pos 434333 ∷ negsuc 1048575 ∷ negsuc 1048575 ∷ negsuc 1048575 ∷ pos 0 ∷ pos 1048576 ∷ pos 0 ∷
+    pos 428079 ∷ pos 428079 ∷ negsuc 856157 ∷ pos 401272 ∷ pos 0 ∷ negsuc 968757 ∷ pos 0 ∷ pos 401272 ∷ negsuc 968757 ∷ pos 1048576 ∷ pos 1048576 ∷ pos 434333 ∷ pos 179908 ∷ negsuc 1048575 ∷ negsuc 434332 ∷ negsuc 1048575 ∷ pos 179908 ∷ negsuc 434332 ∷
+    pos 0 ∷ pos 1048576 ∷ pos 0 ∷ pos 401272 ∷ pos 968758 ∷ pos 0 ∷ pos 0 ∷ pos 968758 ∷ negsuc 401271 ∷ negsuc 1048575 ∷ pos 434333 ∷ pos 1048576 ∷ pos 1048576 ∷ pos 0 ∷ pos 0 ∷ pos 0 ∷ pos 0 ∷ negsuc 1048575 ∷
+    pos 741455 ∷ pos 741455 ∷ pos 0 ∷ pos 428079 ∷ pos 856158 ∷ negsuc 428078 ∷ pos 401272 ∷ pos 968758 ∷ pos 0 ∷ pos 1048576 ∷ negsuc 434332 ∷ pos 179908 ∷ pos 0 ∷ pos 0 ∷ negsuc 1048575 ∷ negsuc 1048575 ∷ pos 1048576 ∷ pos 1048576 ∷
+    pos 0 ∷ pos 741455 ∷ negsuc 741454 ∷ pos 0 ∷ pos 968758 ∷ negsuc 401271 ∷ pos 428079 ∷ pos 856158 ∷ negsuc 428078 ∷ negsuc 179907 ∷ negsuc 434332 ∷ negsuc 1048575 ∷ negsuc 1048575 ∷ pos 1048576 ∷ pos 1048576 ∷ pos 1048576 ∷ pos 0 ∷ pos 0 ∷
+    pos 428079 ∷ pos 856158 ∷ negsuc 428078 ∷ pos 0 ∷ pos 968758 ∷ negsuc 401271 ∷ pos 401272 ∷ pos 968758 ∷ pos 0 ∷ pos 1048576 ∷ negsuc 434332 ∷ negsuc 1048575 ∷ negsuc 1048575 ∷ pos 434333 ∷ negsuc 179907 ∷ pos 179908 ∷ pos 434333 ∷ pos 1048576 ∷
+    pos 0 ∷ pos 741455 ∷ negsuc 741454 ∷ pos 428079 ∷ pos 856158 ∷ negsuc 428078 ∷ pos 428079 ∷ pos 428079 ∷ negsuc 856157 ∷ negsuc 1048575 ∷ pos 349525 ∷ negsuc 349524 ∷ pos 1048576 ∷ pos 1048576 ∷ pos 1048576 ∷ pos 1048576 ∷ negsuc 1048575 ∷ negsuc 1048575 ∷
+    pos 741455 ∷ pos 741455 ∷ pos 0 ∷ pos 856158 ∷ pos 428079 ∷ negsuc 428078 ∷ pos 428079 ∷ pos 856158 ∷ negsuc 428078 ∷ pos 349525 ∷ pos 349525 ∷ pos 1048576 ∷ pos 1048576 ∷ negsuc 1048575 ∷ negsuc 1048575 ∷ negsuc 1048575 ∷ pos 1048576 ∷ negsuc 1048575 ∷
+    pos 741455 ∷ pos 0 ∷ negsuc 741454 ∷ pos 428079 ∷ pos 428079 ∷ negsuc 856157 ∷ pos 856158 ∷ pos 428079 ∷ negsuc 428078 ∷ pos 349525 ∷ negsuc 1048575 ∷ negsuc 349524 ∷ negsuc 1048575 ∷ pos 1048576 ∷ negsuc 1048575 ∷ pos 1048576 ∷ pos 1048576 ∷ pos 1048576 ∷
+    pos 856158 ∷ pos 428079 ∷ negsuc 428078 ∷ pos 428079 ∷ pos 428079 ∷ negsuc 856157 ∷ pos 428079 ∷ pos 856158 ∷ negsuc 428078 ∷ pos 1048576 ∷ negsuc 349524 ∷ pos 349525 ∷ negsuc 349524 ∷ negsuc 349524 ∷ negsuc 1048575 ∷ negsuc 349524 ∷ pos 1048576 ∷ pos 349525 ∷
+    pos 0 ∷ pos 1048576 ∷ pos 0 ∷ pos 0 ∷ pos 968758 ∷ negsuc 401271 ∷ negsuc 401271 ∷ pos 968758 ∷ pos 0 ∷ pos 1048576 ∷ pos 434333 ∷ pos 1048576 ∷ pos 0 ∷ pos 0 ∷ negsuc 1048575 ∷ negsuc 1048575 ∷ pos 0 ∷ pos 0 ∷
+    pos 0 ∷ pos 741455 ∷ negsuc 741454 ∷ negsuc 428078 ∷ pos 856158 ∷ negsuc 428078 ∷ pos 0 ∷ pos 968758 ∷ negsuc 401271 ∷ pos 179908 ∷ negsuc 434332 ∷ negsuc 1048575 ∷ negsuc 1048575 ∷ pos 0 ∷ pos 0 ∷ pos 1048576 ∷ pos 1048576 ∷ pos 1048576 ∷
+    negsuc 741454 ∷ pos 741455 ∷ pos 0 ∷ negsuc 401271 ∷ pos 968758 ∷ pos 0 ∷ negsuc 428078 ∷ pos 856158 ∷ negsuc 428078 ∷ negsuc 1048575 ∷ negsuc 434332 ∷ pos 179908 ∷ pos 1048576 ∷ pos 1048576 ∷ pos 1048576 ∷ pos 0 ∷ pos 0 ∷ negsuc 1048575 ∷
+    negsuc 428078 ∷ pos 856158 ∷ negsuc 428078 ∷ negsuc 401271 ∷ pos 968758 ∷ pos 0 ∷ pos 0 ∷ pos 968758 ∷ negsuc 401271 ∷ negsuc 1048575 ∷ negsuc 434332 ∷ negsuc 1048575 ∷ negsuc 179907 ∷ pos 434333 ∷ pos 1048576 ∷ pos 1048576 ∷ pos 434333 ∷ negsuc 179907 ∷
+    pos 0 ∷ pos 0 ∷ negsuc 1048575 ∷ negsuc 401271 ∷ pos 0 ∷ negsuc 968757 ∷ pos 0 ∷ pos 401272 ∷ negsuc 968757 ∷ pos 1048576 ∷ negsuc 1048575 ∷ negsuc 434332 ∷ negsuc 1048575 ∷ pos 0 ∷ pos 0 ∷ pos 0 ∷ pos 1048576 ∷ pos 0 ∷
+    negsuc 741454 ∷ pos 0 ∷ negsuc 741454 ∷ negsuc 428078 ∷ pos 428079 ∷ negsuc 856157 ∷ negsuc 401271 ∷ pos 0 ∷ negsuc 968757 ∷ negsuc 1048575 ∷ negsuc 179907 ∷ pos 434333 ∷ pos 0 ∷ pos 1048576 ∷ pos 0 ∷ pos 1048576 ∷ negsuc 1048575 ∷ negsuc 1048575 ∷
+    pos 0 ∷ pos 741455 ∷ negsuc 741454 ∷ pos 0 ∷ pos 401272 ∷ negsuc 968757 ∷ negsuc 428078 ∷ pos 428079 ∷ negsuc 856157 ∷ pos 179908 ∷ pos 1048576 ∷ pos 434333 ∷ pos 1048576 ∷ negsuc 1048575 ∷ negsuc 1048575 ∷ negsuc 1048575 ∷ pos 0 ∷ pos 0 ∷
+    negsuc 428078 ∷ pos 428079 ∷ negsuc 856157 ∷ pos 0 ∷ pos 401272 ∷ negsuc 968757 ∷ negsuc 401271 ∷ pos 0 ∷ negsuc 968757 ∷ negsuc 1048575 ∷ pos 1048576 ∷ pos 434333 ∷ pos 1048576 ∷ pos 179908 ∷ negsuc 434332 ∷ negsuc 179907 ∷ negsuc 1048575 ∷ negsuc 434332 ∷
+    negsuc 1048575 ∷ pos 0 ∷ pos 0 ∷ negsuc 968757 ∷ pos 401272 ∷ pos 0 ∷ negsuc 968757 ∷ pos 0 ∷ negsuc 401271 ∷ negsuc 434332 ∷ negsuc 1048575 ∷ pos 1048576 ∷ pos 0 ∷ pos 1048576 ∷ pos 0 ∷ pos 0 ∷ pos 0 ∷ negsuc 1048575 ∷
+    negsuc 741454 ∷ pos 741455 ∷ pos 0 ∷ negsuc 856157 ∷ pos 428079 ∷ negsuc 428078 ∷ negsuc 968757 ∷ pos 401272 ∷ pos 0 ∷ pos 434333 ∷ pos 1048576 ∷ pos 179908 ∷ pos 0 ∷ pos 0 ∷ negsuc 1048575 ∷ negsuc 1048575 ∷ negsuc 1048575 ∷ pos 1048576 ∷
+    negsuc 741454 ∷ pos 0 ∷ negsuc 741454 ∷ negsuc 968757 ∷ pos 0 ∷ negsuc 401271 ∷ negsuc 856157 ∷ pos 428079 ∷ negsuc 428078 ∷ pos 434333 ∷ negsuc 179907 ∷ negsuc 1048575 ∷ negsuc 1048575 ∷ negsuc 1048575 ∷ pos 1048576 ∷ pos 0 ∷ pos 1048576 ∷ pos 0 ∷
+    negsuc 856157 ∷ pos 428079 ∷ negsuc 428078 ∷ negsuc 968757 ∷ pos 0 ∷ negsuc 401271 ∷ negsuc 968757 ∷ pos 401272 ∷ pos 0 ∷ pos 434333 ∷ pos 1048576 ∷ negsuc 1048575 ∷ negsuc 434332 ∷ negsuc 1048575 ∷ negsuc 179907 ∷ negsuc 434332 ∷ pos 179908 ∷ pos 1048576 ∷
+    negsuc 741454 ∷ pos 0 ∷ negsuc 741454 ∷ negsuc 856157 ∷ pos 428079 ∷ negsuc 428078 ∷ negsuc 428078 ∷ pos 428079 ∷ negsuc 856157 ∷ negsuc 349524 ∷ negsuc 1048575 ∷ negsuc 349524 ∷ negsuc 1048575 ∷ pos 1048576 ∷ pos 1048576 ∷ pos 1048576 ∷ pos 1048576 ∷ negsuc 1048575 ∷
+    negsuc 741454 ∷ pos 741455 ∷ pos 0 ∷ negsuc 428078 ∷ pos 856158 ∷ negsuc 428078 ∷ negsuc 856157 ∷ pos 428079 ∷ negsuc 428078 ∷ negsuc 349524 ∷ pos 349525 ∷ pos 1048576 ∷ pos 1048576 ∷ pos 1048576 ∷ negsuc 1048575 ∷ negsuc 1048575 ∷ negsuc 1048575 ∷ negsuc 1048575 ∷
+    pos 0 ∷ pos 741455 ∷ negsuc 741454 ∷ negsuc 428078 ∷ pos 428079 ∷ negsuc 856157 ∷ negsuc 428078 ∷ pos 856158 ∷ negsuc 428078 ∷ pos 1048576 ∷ pos 349525 ∷ negsuc 349524 ∷ negsuc 1048575 ∷ negsuc 1048575 ∷ negsuc 1048575 ∷ negsuc 1048575 ∷ pos 1048576 ∷ pos 1048576 ∷
+    negsuc 428078 ∷ pos 856158 ∷ negsuc 428078 ∷ negsuc 428078 ∷ pos 428079 ∷ negsuc 856157 ∷ negsuc 856157 ∷ pos 428079 ∷ negsuc 428078 ∷ pos 349525 ∷ pos 1048576 ∷ pos 349525 ∷ pos 349525 ∷ negsuc 349524 ∷ negsuc 1048575 ∷ negsuc 1048575 ∷ negsuc 349524 ∷ pos 349525 ∷
+    negsuc 1048575 ∷ pos 0 ∷ pos 0 ∷ negsuc 968757 ∷ pos 0 ∷ negsuc 401271 ∷ negsuc 968757 ∷ negsuc 401271 ∷ pos 0 ∷ negsuc 434332 ∷ pos 1048576 ∷ pos 1048576 ∷ pos 0 ∷ pos 0 ∷ negsuc 1048575 ∷ pos 0 ∷ negsuc 1048575 ∷ pos 0 ∷
+    negsuc 741454 ∷ pos 0 ∷ negsuc 741454 ∷ negsuc 856157 ∷ negsuc 428078 ∷ negsuc 428078 ∷ negsuc 968757 ∷ pos 0 ∷ negsuc 401271 ∷ pos 434333 ∷ pos 179908 ∷ negsuc 1048575 ∷ pos 0 ∷ negsuc 1048575 ∷ pos 0 ∷ negsuc 1048575 ∷ pos 1048576 ∷ pos 1048576 ∷
+    negsuc 741454 ∷ negsuc 741454 ∷ pos 0 ∷ negsuc 968757 ∷ negsuc 401271 ∷ pos 0 ∷ negsuc 856157 ∷ negsuc 428078 ∷ negsuc 428078 ∷ pos 434333 ∷ negsuc 1048575 ∷ pos 179908 ∷ negsuc 1048575 ∷ pos 1048576 ∷ pos 1048576 ∷ pos 0 ∷ pos 0 ∷ negsuc 1048575 ∷
+    negsuc 856157 ∷ negsuc 428078 ∷ negsuc 428078 ∷ negsuc 968757 ∷ negsuc 401271 ∷ pos 0 ∷ negsuc 968757 ∷ pos 0 ∷ negsuc 401271 ∷ pos 434333 ∷ negsuc 1048575 ∷ negsuc 1048575 ∷ negsuc 434332 ∷ negsuc 179907 ∷ pos 1048576 ∷ negsuc 434332 ∷ pos 1048576 ∷ negsuc 179907 ∷
+    pos 0 ∷ pos 0 ∷ negsuc 1048575 ∷ pos 0 ∷ negsuc 401271 ∷ negsuc 968757 ∷ negsuc 401271 ∷ pos 0 ∷ negsuc 968757 ∷ pos 1048576 ∷ pos 1048576 ∷ negsuc 434332 ∷ pos 0 ∷ negsuc 1048575 ∷ pos 0 ∷ negsuc 1048575 ∷ pos 0 ∷ pos 0 ∷
+    pos 0 ∷ negsuc 741454 ∷ negsuc 741454 ∷ negsuc 428078 ∷ negsuc 428078 ∷ negsuc 856157 ∷ pos 0 ∷ negsuc 401271 ∷ negsuc 968757 ∷ pos 179908 ∷ negsuc 1048575 ∷ pos 434333 ∷ negsuc 1048575 ∷ pos 0 ∷ pos 0 ∷ pos 1048576 ∷ pos 1048576 ∷ negsuc 1048575 ∷
+    negsuc 741454 ∷ pos 0 ∷ negsuc 741454 ∷ negsuc 401271 ∷ pos 0 ∷ negsuc 968757 ∷ negsuc 428078 ∷ negsuc 428078 ∷ negsuc 856157 ∷ negsuc 1048575 ∷ pos 179908 ∷ pos 434333 ∷ pos 1048576 ∷ pos 1048576 ∷ negsuc 1048575 ∷ pos 0 ∷ negsuc 1048575 ∷ pos 0 ∷
+    negsuc 428078 ∷ negsuc 428078 ∷ negsuc 856157 ∷ negsuc 401271 ∷ pos 0 ∷ negsuc 968757 ∷ pos 0 ∷ negsuc 401271 ∷ negsuc 968757 ∷ negsuc 1048575 ∷ negsuc 1048575 ∷ pos 434333 ∷ negsuc 179907 ∷ pos 1048576 ∷ negsuc 434332 ∷ pos 1048576 ∷ negsuc 179907 ∷ negsuc 434332 ∷
+    pos 0 ∷ negsuc 1048575 ∷ pos 0 ∷ negsuc 401271 ∷ negsuc 968757 ∷ pos 0 ∷ pos 0 ∷ negsuc 968757 ∷ negsuc 401271 ∷ pos 1048576 ∷ negsuc 434332 ∷ pos 1048576 ∷ negsuc 1048575 ∷ pos 0 ∷ pos 0 ∷ pos 0 ∷ pos 0 ∷ negsuc 1048575 ∷
+    negsuc 741454 ∷ negsuc 741454 ∷ pos 0 ∷ negsuc 428078 ∷ negsuc 856157 ∷ negsuc 428078 ∷ negsuc 401271 ∷ negsuc 968757 ∷ pos 0 ∷ negsuc 1048575 ∷ pos 434333 ∷ pos 179908 ∷ pos 0 ∷ pos 0 ∷ negsuc 1048575 ∷ pos 1048576 ∷ negsuc 1048575 ∷ pos 1048576 ∷
+    pos 0 ∷ negsuc 741454 ∷ negsuc 741454 ∷ pos 0 ∷ negsuc 968757 ∷ negsuc 401271 ∷ negsuc 428078 ∷ negsuc 856157 ∷ negsuc 428078 ∷ pos 179908 ∷ pos 434333 ∷ negsuc 1048575 ∷ pos 1048576 ∷ negsuc 1048575 ∷ pos 1048576 ∷ negsuc 1048575 ∷ pos 0 ∷ pos 0 ∷
+    negsuc 428078 ∷ negsuc 856157 ∷ negsuc 428078 ∷ pos 0 ∷ negsuc 968757 ∷ negsuc 401271 ∷ negsuc 401271 ∷ negsuc 968757 ∷ pos 0 ∷ negsuc 1048575 ∷ pos 434333 ∷ negsuc 1048575 ∷ pos 1048576 ∷ negsuc 434332 ∷ negsuc 179907 ∷ negsuc 179907 ∷ negsuc 434332 ∷ pos 1048576 ∷
+    pos 0 ∷ negsuc 741454 ∷ negsuc 741454 ∷ negsuc 428078 ∷ negsuc 856157 ∷ negsuc 428078 ∷ negsuc 428078 ∷ negsuc 428078 ∷ negsuc 856157 ∷ pos 1048576 ∷ negsuc 349524 ∷ negsuc 349524 ∷ negsuc 1048575 ∷ negsuc 1048575 ∷ pos 1048576 ∷ negsuc 1048575 ∷ pos 1048576 ∷ negsuc 1048575 ∷
+    negsuc 741454 ∷ negsuc 741454 ∷ pos 0 ∷ negsuc 856157 ∷ negsuc 428078 ∷ negsuc 428078 ∷ negsuc 428078 ∷ negsuc 856157 ∷ negsuc 428078 ∷ negsuc 349524 ∷ negsuc 349524 ∷ pos 1048576 ∷ negsuc 1048575 ∷ pos 1048576 ∷ negsuc 1048575 ∷ pos 1048576 ∷ negsuc 1048575 ∷ negsuc 1048575 ∷
+    negsuc 741454 ∷ pos 0 ∷ negsuc 741454 ∷ negsuc 428078 ∷ negsuc 428078 ∷ negsuc 856157 ∷ negsuc 856157 ∷ negsuc 428078 ∷ negsuc 428078 ∷ negsuc 349524 ∷ pos 1048576 ∷ negsuc 349524 ∷ pos 1048576 ∷ negsuc 1048575 ∷ negsuc 1048575 ∷ negsuc 1048575 ∷ negsuc 1048575 ∷ pos 1048576 ∷
+    negsuc 856157 ∷ negsuc 428078 ∷ negsuc 428078 ∷ negsuc 428078 ∷ negsuc 428078 ∷ negsuc 856157 ∷ negsuc 428078 ∷ negsuc 856157 ∷ negsuc 428078 ∷ negsuc 1048575 ∷ pos 349525 ∷ pos 349525 ∷ pos 349525 ∷ pos 349525 ∷ negsuc 1048575 ∷ pos 349525 ∷ negsuc 1048575 ∷ pos 349525 ∷
+    pos 0 ∷ negsuc 1048575 ∷ pos 0 ∷ pos 0 ∷ negsuc 968757 ∷ negsuc 401271 ∷ pos 401272 ∷ negsuc 968757 ∷ pos 0 ∷ negsuc 1048575 ∷ negsuc 434332 ∷ pos 1048576 ∷ pos 0 ∷ pos 0 ∷ negsuc 1048575 ∷ pos 1048576 ∷ pos 0 ∷ pos 0 ∷
+    pos 0 ∷ negsuc 741454 ∷ negsuc 741454 ∷ pos 428079 ∷ negsuc 856157 ∷ negsuc 428078 ∷ pos 0 ∷ negsuc 968757 ∷ negsuc 401271 ∷ negsuc 179907 ∷ pos 434333 ∷ negsuc 1048575 ∷ pos 1048576 ∷ pos 0 ∷ pos 0 ∷ negsuc 1048575 ∷ negsuc 1048575 ∷ pos 1048576 ∷
+    pos 741455 ∷ negsuc 741454 ∷ pos 0 ∷ pos 401272 ∷ negsuc 968757 ∷ pos 0 ∷ pos 428079 ∷ negsuc 856157 ∷ negsuc 428078 ∷ pos 1048576 ∷ pos 434333 ∷ pos 179908 ∷ negsuc 1048575 ∷ negsuc 1048575 ∷ pos 1048576 ∷ pos 0 ∷ pos 0 ∷ negsuc 1048575 ∷
+    pos 428079 ∷ negsuc 856157 ∷ negsuc 428078 ∷ pos 401272 ∷ negsuc 968757 ∷ pos 0 ∷ pos 0 ∷ negsuc 968757 ∷ negsuc 401271 ∷ pos 1048576 ∷ pos 434333 ∷ negsuc 1048575 ∷ pos 179908 ∷ negsuc 434332 ∷ pos 1048576 ∷ negsuc 1048575 ∷ negsuc 434332 ∷ negsuc 179907 ∷
+    pos 0 ∷ pos 0 ∷ negsuc 1048575 ∷ pos 401272 ∷ pos 0 ∷ negsuc 968757 ∷ pos 0 ∷ negsuc 401271 ∷ negsuc 968757 ∷ negsuc 1048575 ∷ pos 1048576 ∷ negsuc 434332 ∷ pos 1048576 ∷ pos 0 ∷ pos 0 ∷ pos 0 ∷ negsuc 1048575 ∷ pos 0 ∷
+    pos 741455 ∷ pos 0 ∷ negsuc 741454 ∷ pos 428079 ∷ negsuc 428078 ∷ negsuc 856157 ∷ pos 401272 ∷ pos 0 ∷ negsuc 968757 ∷ pos 1048576 ∷ pos 179908 ∷ pos 434333 ∷ pos 0 ∷ negsuc 1048575 ∷ pos 0 ∷ negsuc 1048575 ∷ pos 1048576 ∷ negsuc 1048575 ∷
+    pos 0 ∷ negsuc 741454 ∷ negsuc 741454 ∷ pos 0 ∷ negsuc 401271 ∷ negsuc 968757 ∷ pos 428079 ∷ negsuc 428078 ∷ negsuc 856157 ∷ negsuc 179907 ∷ negsuc 1048575 ∷ pos 434333 ∷ negsuc 1048575 ∷ pos 1048576 ∷ negsuc 1048575 ∷ pos 1048576 ∷ pos 0 ∷ pos 0 ∷
+    pos 428079 ∷ negsuc 428078 ∷ negsuc 856157 ∷ pos 0 ∷ negsuc 401271 ∷ negsuc 968757 ∷ pos 401272 ∷ pos 0 ∷ negsuc 968757 ∷ pos 1048576 ∷ negsuc 1048575 ∷ pos 434333 ∷ negsuc 1048575 ∷ negsuc 179907 ∷ negsuc 434332 ∷ pos 179908 ∷ pos 1048576 ∷ negsuc 434332 ∷
+    pos 1048576 ∷ pos 0 ∷ pos 0 ∷ pos 968758 ∷ negsuc 401271 ∷ pos 0 ∷ pos 968758 ∷ pos 0 ∷ negsuc 401271 ∷ pos 434333 ∷ pos 1048576 ∷ pos 1048576 ∷ pos 0 ∷ negsuc 1048575 ∷ pos 0 ∷ pos 0 ∷ pos 0 ∷ negsuc 1048575 ∷
+    pos 741455 ∷ negsuc 741454 ∷ pos 0 ∷ pos 856158 ∷ negsuc 428078 ∷ negsuc 428078 ∷ pos 968758 ∷ negsuc 401271 ∷ pos 0 ∷ negsuc 434332 ∷ negsuc 1048575 ∷ pos 179908 ∷ pos 0 ∷ pos 0 ∷ negsuc 1048575 ∷ pos 1048576 ∷ pos 1048576 ∷ pos 1048576 ∷
+    pos 741455 ∷ pos 0 ∷ negsuc 741454 ∷ pos 968758 ∷ pos 0 ∷ negsuc 401271 ∷ pos 856158 ∷ negsuc 428078 ∷ negsuc 428078 ∷ negsuc 434332 ∷ pos 179908 ∷ negsuc 1048575 ∷ pos 1048576 ∷ pos 1048576 ∷ pos 1048576 ∷ pos 0 ∷ negsuc 1048575 ∷ pos 0 ∷
+    pos 856158 ∷ negsuc 428078 ∷ negsuc 428078 ∷ pos 968758 ∷ pos 0 ∷ negsuc 401271 ∷ pos 968758 ∷ negsuc 401271 ∷ pos 0 ∷ negsuc 434332 ∷ negsuc 1048575 ∷ negsuc 1048575 ∷ pos 434333 ∷ pos 1048576 ∷ negsuc 179907 ∷ pos 434333 ∷ negsuc 179907 ∷ pos 1048576 ∷
+    pos 741455 ∷ pos 0 ∷ negsuc 741454 ∷ pos 856158 ∷ negsuc 428078 ∷ negsuc 428078 ∷ pos 428079 ∷ negsuc 428078 ∷ negsuc 856157 ∷ pos 349525 ∷ pos 1048576 ∷ negsuc 349524 ∷ pos 1048576 ∷ negsuc 1048575 ∷ pos 1048576 ∷ negsuc 1048575 ∷ negsuc 1048575 ∷ negsuc 1048575 ∷
+    pos 741455 ∷ negsuc 741454 ∷ pos 0 ∷ pos 428079 ∷ negsuc 856157 ∷ negsuc 428078 ∷ pos 856158 ∷ negsuc 428078 ∷ negsuc 428078 ∷ pos 349525 ∷ negsuc 349524 ∷ pos 1048576 ∷ negsuc 1048575 ∷ negsuc 1048575 ∷ negsuc 1048575 ∷ pos 1048576 ∷ pos 1048576 ∷ negsuc 1048575 ∷
+    pos 0 ∷ negsuc 741454 ∷ negsuc 741454 ∷ pos 428079 ∷ negsuc 428078 ∷ negsuc 856157 ∷ pos 428079 ∷ negsuc 856157 ∷ negsuc 428078 ∷ negsuc 1048575 ∷ negsuc 349524 ∷ negsuc 349524 ∷ pos 1048576 ∷ pos 1048576 ∷ negsuc 1048575 ∷ pos 1048576 ∷ negsuc 1048575 ∷ pos 1048576 ∷
+    pos 428079 ∷ negsuc 856157 ∷ negsuc 428078 ∷ pos 428079 ∷ negsuc 428078 ∷ negsuc 856157 ∷ pos 856158 ∷ negsuc 428078 ∷ negsuc 428078 ∷ negsuc 349524 ∷ negsuc 1048575 ∷ pos 349525 ∷ negsuc 349524 ∷ pos 349525 ∷ negsuc 1048575 ∷ pos 1048576 ∷ pos 349525 ∷ pos 349525 ∷
+    pos 1048576 ∷ pos 0 ∷ pos 0 ∷ pos 968758 ∷ pos 0 ∷ pos 401272 ∷ pos 968758 ∷ negsuc 401271 ∷ pos 0 ∷ pos 434333 ∷ pos 1048576 ∷ negsuc 1048575 ∷ pos 0 ∷ pos 0 ∷ pos 1048576 ∷ pos 0 ∷ negsuc 1048575 ∷ pos 0 ∷
+    pos 741455 ∷ pos 0 ∷ pos 741455 ∷ pos 856158 ∷ negsuc 428078 ∷ pos 428079 ∷ pos 968758 ∷ pos 0 ∷ pos 401272 ∷ negsuc 434332 ∷ pos 179908 ∷ pos 1048576 ∷ pos 0 ∷ negsuc 1048575 ∷ pos 0 ∷ pos 1048576 ∷ pos 1048576 ∷ negsuc 1048575 ∷
+    pos 741455 ∷ negsuc 741454 ∷ pos 0 ∷ pos 968758 ∷ negsuc 401271 ∷ pos 0 ∷ pos 856158 ∷ negsuc 428078 ∷ pos 428079 ∷ negsuc 434332 ∷ negsuc 1048575 ∷ negsuc 179907 ∷ pos 1048576 ∷ pos 1048576 ∷ negsuc 1048575 ∷ pos 0 ∷ pos 0 ∷ pos 1048576 ∷
+    pos 856158 ∷ negsuc 428078 ∷ pos 428079 ∷ pos 968758 ∷ negsuc 401271 ∷ pos 0 ∷ pos 968758 ∷ pos 0 ∷ pos 401272 ∷ negsuc 434332 ∷ negsuc 1048575 ∷ pos 1048576 ∷ pos 434333 ∷ negsuc 179907 ∷ negsuc 1048575 ∷ pos 434333 ∷ pos 1048576 ∷ pos 179908 ∷
+    pos 0 ∷ pos 0 ∷ pos 1048576 ∷ pos 0 ∷ negsuc 401271 ∷ pos 968758 ∷ pos 401272 ∷ pos 0 ∷ pos 968758 ∷ negsuc 1048575 ∷ pos 1048576 ∷ pos 434333 ∷ pos 0 ∷ negsuc 1048575 ∷ pos 0 ∷ pos 1048576 ∷ pos 0 ∷ pos 0 ∷
+    pos 0 ∷ negsuc 741454 ∷ pos 741455 ∷ pos 428079 ∷ negsuc 428078 ∷ pos 856158 ∷ pos 0 ∷ negsuc 401271 ∷ pos 968758 ∷ negsuc 179907 ∷ negsuc 1048575 ∷ negsuc 434332 ∷ pos 1048576 ∷ pos 0 ∷ pos 0 ∷ negsuc 1048575 ∷ pos 1048576 ∷ pos 1048576 ∷
+    pos 741455 ∷ pos 0 ∷ pos 741455 ∷ pos 401272 ∷ pos 0 ∷ pos 968758 ∷ pos 428079 ∷ negsuc 428078 ∷ pos 856158 ∷ pos 1048576 ∷ pos 179908 ∷ negsuc 434332 ∷ negsuc 1048575 ∷ pos 1048576 ∷ pos 1048576 ∷ pos 0 ∷ negsuc 1048575 ∷ pos 0 ∷
+    pos 428079 ∷ negsuc 428078 ∷ pos 856158 ∷ pos 401272 ∷ pos 0 ∷ pos 968758 ∷ pos 0 ∷ negsuc 401271 ∷ pos 968758 ∷ pos 1048576 ∷ negsuc 1048575 ∷ negsuc 434332 ∷ pos 179908 ∷ pos 1048576 ∷ pos 434333 ∷ negsuc 1048575 ∷ negsuc 179907 ∷ pos 434333 ∷
+    pos 0 ∷ negsuc 1048575 ∷ pos 0 ∷ pos 401272 ∷ negsuc 968757 ∷ pos 0 ∷ pos 0 ∷ negsuc 968757 ∷ pos 401272 ∷ negsuc 1048575 ∷ negsuc 434332 ∷ negsuc 1048575 ∷ pos 1048576 ∷ pos 0 ∷ pos 0 ∷ pos 0 ∷ pos 0 ∷ pos 1048576 ∷
+    pos 741455 ∷ negsuc 741454 ∷ pos 0 ∷ pos 428079 ∷ negsuc 856157 ∷ pos 428079 ∷ pos 401272 ∷ negsuc 968757 ∷ pos 0 ∷ pos 1048576 ∷ pos 434333 ∷ negsuc 179907 ∷ pos 0 ∷ pos 0 ∷ pos 1048576 ∷ negsuc 1048575 ∷ negsuc 1048575 ∷ negsuc 1048575 ∷
+    pos 0 ∷ negsuc 741454 ∷ pos 741455 ∷ pos 0 ∷ negsuc 968757 ∷ pos 401272 ∷ pos 428079 ∷ negsuc 856157 ∷ pos 428079 ∷ negsuc 179907 ∷ pos 434333 ∷ pos 1048576 ∷ negsuc 1048575 ∷ negsuc 1048575 ∷ negsuc 1048575 ∷ pos 1048576 ∷ pos 0 ∷ pos 0 ∷
+    pos 428079 ∷ negsuc 856157 ∷ pos 428079 ∷ pos 0 ∷ negsuc 968757 ∷ pos 401272 ∷ pos 401272 ∷ negsuc 968757 ∷ pos 0 ∷ pos 1048576 ∷ pos 434333 ∷ pos 1048576 ∷ negsuc 1048575 ∷ negsuc 434332 ∷ pos 179908 ∷ pos 179908 ∷ negsuc 434332 ∷ negsuc 1048575 ∷
+    pos 0 ∷ negsuc 741454 ∷ pos 741455 ∷ pos 428079 ∷ negsuc 856157 ∷ pos 428079 ∷ pos 428079 ∷ negsuc 428078 ∷ pos 856158 ∷ negsuc 1048575 ∷ negsuc 349524 ∷ pos 349525 ∷ pos 1048576 ∷ negsuc 1048575 ∷ negsuc 1048575 ∷ pos 1048576 ∷ pos 1048576 ∷ pos 1048576 ∷
+    pos 741455 ∷ negsuc 741454 ∷ pos 0 ∷ pos 856158 ∷ negsuc 428078 ∷ pos 428079 ∷ pos 428079 ∷ negsuc 856157 ∷ pos 428079 ∷ pos 349525 ∷ negsuc 349524 ∷ negsuc 1048575 ∷ pos 1048576 ∷ pos 1048576 ∷ pos 1048576 ∷ negsuc 1048575 ∷ negsuc 1048575 ∷ pos 1048576 ∷
+    pos 741455 ∷ pos 0 ∷ pos 741455 ∷ pos 428079 ∷ negsuc 428078 ∷ pos 856158 ∷ pos 856158 ∷ negsuc 428078 ∷ pos 428079 ∷ pos 349525 ∷ pos 1048576 ∷ pos 349525 ∷ negsuc 1048575 ∷ negsuc 1048575 ∷ pos 1048576 ∷ pos 1048576 ∷ negsuc 1048575 ∷ negsuc 1048575 ∷
+    pos 856158 ∷ negsuc 428078 ∷ pos 428079 ∷ pos 428079 ∷ negsuc 428078 ∷ pos 856158 ∷ pos 428079 ∷ negsuc 856157 ∷ pos 428079 ∷ pos 1048576 ∷ pos 349525 ∷ negsuc 349524 ∷ negsuc 349524 ∷ pos 349525 ∷ pos 1048576 ∷ negsuc 349524 ∷ negsuc 1048575 ∷ negsuc 349524 ∷
+    pos 0 ∷ negsuc 1048575 ∷ pos 0 ∷ pos 0 ∷ negsuc 968757 ∷ pos 401272 ∷ negsuc 401271 ∷ negsuc 968757 ∷ pos 0 ∷ pos 1048576 ∷ negsuc 434332 ∷ negsuc 1048575 ∷ pos 0 ∷ pos 0 ∷ pos 1048576 ∷ negsuc 1048575 ∷ pos 0 ∷ pos 0 ∷
+    pos 0 ∷ negsuc 741454 ∷ pos 741455 ∷ negsuc 428078 ∷ negsuc 856157 ∷ pos 428079 ∷ pos 0 ∷ negsuc 968757 ∷ pos 401272 ∷ pos 179908 ∷ pos 434333 ∷ pos 1048576 ∷ negsuc 1048575 ∷ pos 0 ∷ pos 0 ∷ pos 1048576 ∷ negsuc 1048575 ∷ negsuc 1048575 ∷
+    negsuc 741454 ∷ negsuc 741454 ∷ pos 0 ∷ negsuc 401271 ∷ negsuc 968757 ∷ pos 0 ∷ negsuc 428078 ∷ negsuc 856157 ∷ pos 428079 ∷ negsuc 1048575 ∷ pos 434333 ∷ negsuc 179907 ∷ pos 1048576 ∷ negsuc 1048575 ∷ negsuc 1048575 ∷ pos 0 ∷ pos 0 ∷ pos 1048576 ∷
+    negsuc 428078 ∷ negsuc 856157 ∷ pos 428079 ∷ negsuc 401271 ∷ negsuc 968757 ∷ pos 0 ∷ pos 0 ∷ negsuc 968757 ∷ pos 401272 ∷ negsuc 1048575 ∷ pos 434333 ∷ pos 1048576 ∷ negsuc 179907 ∷ negsuc 434332 ∷ negsuc 1048575 ∷ pos 1048576 ∷ negsuc 434332 ∷ pos 179908 ∷
+    pos 0 ∷ pos 0 ∷ pos 1048576 ∷ negsuc 401271 ∷ pos 0 ∷ pos 968758 ∷ pos 0 ∷ negsuc 401271 ∷ pos 968758 ∷ pos 1048576 ∷ pos 1048576 ∷ pos 434333 ∷ negsuc 1048575 ∷ pos 0 ∷ pos 0 ∷ pos 0 ∷ negsuc 1048575 ∷ pos 0 ∷
+    negsuc 741454 ∷ pos 0 ∷ pos 741455 ∷ negsuc 428078 ∷ negsuc 428078 ∷ pos 856158 ∷ negsuc 401271 ∷ pos 0 ∷ pos 968758 ∷ negsuc 1048575 ∷ pos 179908 ∷ negsuc 434332 ∷ pos 0 ∷ negsuc 1048575 ∷ pos 0 ∷ pos 1048576 ∷ pos 1048576 ∷ pos 1048576 ∷
+    pos 0 ∷ negsuc 741454 ∷ pos 741455 ∷ pos 0 ∷ negsuc 401271 ∷ pos 968758 ∷ negsuc 428078 ∷ negsuc 428078 ∷ pos 856158 ∷ pos 179908 ∷ negsuc 1048575 ∷ negsuc 434332 ∷ pos 1048576 ∷ pos 1048576 ∷ pos 1048576 ∷ negsuc 1048575 ∷ pos 0 ∷ pos 0 ∷
+    negsuc 428078 ∷ negsuc 428078 ∷ pos 856158 ∷ pos 0 ∷ negsuc 401271 ∷ pos 968758 ∷ negsuc 401271 ∷ pos 0 ∷ pos 968758 ∷ negsuc 1048575 ∷ negsuc 1048575 ∷ negsuc 434332 ∷ pos 1048576 ∷ negsuc 179907 ∷ pos 434333 ∷ negsuc 179907 ∷ pos 1048576 ∷ pos 434333 ∷
+    negsuc 1048575 ∷ pos 0 ∷ pos 0 ∷ negsuc 968757 ∷ negsuc 401271 ∷ pos 0 ∷ negsuc 968757 ∷ pos 0 ∷ pos 401272 ∷ negsuc 434332 ∷ pos 1048576 ∷ negsuc 1048575 ∷ pos 0 ∷ negsuc 1048575 ∷ pos 0 ∷ pos 0 ∷ pos 0 ∷ pos 1048576 ∷
+    negsuc 741454 ∷ negsuc 741454 ∷ pos 0 ∷ negsuc 856157 ∷ negsuc 428078 ∷ pos 428079 ∷ negsuc 968757 ∷ negsuc 401271 ∷ pos 0 ∷ pos 434333 ∷ negsuc 1048575 ∷ negsuc 179907 ∷ pos 0 ∷ pos 0 ∷ pos 1048576 ∷ negsuc 1048575 ∷ pos 1048576 ∷ negsuc 1048575 ∷
+    negsuc 741454 ∷ pos 0 ∷ pos 741455 ∷ negsuc 968757 ∷ pos 0 ∷ pos 401272 ∷ negsuc 856157 ∷ negsuc 428078 ∷ pos 428079 ∷ pos 434333 ∷ pos 179908 ∷ pos 1048576 ∷ negsuc 1048575 ∷ pos 1048576 ∷ negsuc 1048575 ∷ pos 0 ∷ negsuc 1048575 ∷ pos 0 ∷
+    negsuc 856157 ∷ negsuc 428078 ∷ pos 428079 ∷ negsuc 968757 ∷ pos 0 ∷ pos 401272 ∷ negsuc 968757 ∷ negsuc 401271 ∷ pos 0 ∷ pos 434333 ∷ negsuc 1048575 ∷ pos 1048576 ∷ negsuc 434332 ∷ pos 1048576 ∷ pos 179908 ∷ negsuc 434332 ∷ negsuc 179907 ∷ negsuc 1048575 ∷
+    negsuc 741454 ∷ pos 0 ∷ pos 741455 ∷ negsuc 856157 ∷ negsuc 428078 ∷ pos 428079 ∷ negsuc 428078 ∷ negsuc 428078 ∷ pos 856158 ∷ negsuc 349524 ∷ pos 1048576 ∷ pos 349525 ∷ negsuc 1048575 ∷ negsuc 1048575 ∷ negsuc 1048575 ∷ pos 1048576 ∷ negsuc 1048575 ∷ pos 1048576 ∷
+    negsuc 741454 ∷ negsuc 741454 ∷ pos 0 ∷ negsuc 428078 ∷ negsuc 856157 ∷ pos 428079 ∷ negsuc 856157 ∷ negsuc 428078 ∷ pos 428079 ∷ negsuc 349524 ∷ negsuc 349524 ∷ negsuc 1048575 ∷ pos 1048576 ∷ negsuc 1048575 ∷ pos 1048576 ∷ negsuc 1048575 ∷ pos 1048576 ∷ pos 1048576 ∷
+    pos 0 ∷ negsuc 741454 ∷ pos 741455 ∷ negsuc 428078 ∷ negsuc 428078 ∷ pos 856158 ∷ negsuc 428078 ∷ negsuc 856157 ∷ pos 428079 ∷ pos 1048576 ∷ negsuc 349524 ∷ pos 349525 ∷ negsuc 1048575 ∷ pos 1048576 ∷ pos 1048576 ∷ negsuc 1048575 ∷ negsuc 1048575 ∷ negsuc 1048575 ∷
+    negsuc 428078 ∷ negsuc 856157 ∷ pos 428079 ∷ negsuc 428078 ∷ negsuc 428078 ∷ pos 856158 ∷ negsuc 856157 ∷ negsuc 428078 ∷ pos 428079 ∷ pos 349525 ∷ negsuc 1048575 ∷ negsuc 349524 ∷ pos 349525 ∷ pos 349525 ∷ pos 1048576 ∷ negsuc 1048575 ∷ pos 349525 ∷ negsuc 349524 ∷
+    negsuc 1048575 ∷ pos 0 ∷ pos 0 ∷ negsuc 968757 ∷ pos 0 ∷ pos 401272 ∷ negsuc 968757 ∷ pos 401272 ∷ pos 0 ∷ negsuc 434332 ∷ negsuc 1048575 ∷ negsuc 1048575 ∷ pos 0 ∷ pos 0 ∷ pos 1048576 ∷ pos 0 ∷ pos 1048576 ∷ pos 0 ∷
+    negsuc 741454 ∷ pos 0 ∷ pos 741455 ∷ negsuc 856157 ∷ pos 428079 ∷ pos 428079 ∷ negsuc 968757 ∷ pos 0 ∷ pos 401272 ∷ pos 434333 ∷ negsuc 179907 ∷ pos 1048576 ∷ pos 0 ∷ pos 1048576 ∷ pos 0 ∷ negsuc 1048575 ∷ negsuc 1048575 ∷ negsuc 1048575 ∷
+    negsuc 741454 ∷ pos 741455 ∷ pos 0 ∷ negsuc 968757 ∷ pos 401272 ∷ pos 0 ∷ negsuc 856157 ∷ pos 428079 ∷ pos 428079 ∷ pos 434333 ∷ pos 1048576 ∷ negsuc 179907 ∷ negsuc 1048575 ∷ negsuc 1048575 ∷ negsuc 1048575 ∷ pos 0 ∷ pos 0 ∷ pos 1048576 ∷
+    negsuc 856157 ∷ pos 428079 ∷ pos 428079 ∷ negsuc 968757 ∷ pos 401272 ∷ pos 0 ∷ negsuc 968757 ∷ pos 0 ∷ pos 401272 ∷ pos 434333 ∷ pos 1048576 ∷ pos 1048576 ∷ negsuc 434332 ∷ pos 179908 ∷ negsuc 1048575 ∷ negsuc 434332 ∷ negsuc 1048575 ∷ pos 179908 ∷
+    pos 0 ∷ pos 0 ∷ pos 1048576 ∷ pos 0 ∷ pos 401272 ∷ pos 968758 ∷ negsuc 401271 ∷ pos 0 ∷ pos 968758 ∷ pos 1048576 ∷ negsuc 1048575 ∷ pos 434333 ∷ pos 0 ∷ pos 1048576 ∷ pos 0 ∷ negsuc 1048575 ∷ pos 0 ∷ pos 0 ∷
+    pos 0 ∷ pos 741455 ∷ pos 741455 ∷ negsuc 428078 ∷ pos 428079 ∷ pos 856158 ∷ pos 0 ∷ pos 401272 ∷ pos 968758 ∷ pos 179908 ∷ pos 1048576 ∷ negsuc 434332 ∷ negsuc 1048575 ∷ pos 0 ∷ pos 0 ∷ pos 1048576 ∷ negsuc 1048575 ∷ pos 1048576 ∷
+    negsuc 741454 ∷ pos 0 ∷ pos 741455 ∷ negsuc 401271 ∷ pos 0 ∷ pos 968758 ∷ negsuc 428078 ∷ pos 428079 ∷ pos 856158 ∷ negsuc 1048575 ∷ negsuc 179907 ∷ negsuc 434332 ∷ pos 1048576 ∷ negsuc 1048575 ∷ pos 1048576 ∷ pos 0 ∷ pos 1048576 ∷ pos 0 ∷
+    negsuc 428078 ∷ pos 428079 ∷ pos 856158 ∷ negsuc 401271 ∷ pos 0 ∷ pos 968758 ∷ pos 0 ∷ pos 401272 ∷ pos 968758 ∷ negsuc 1048575 ∷ pos 1048576 ∷ negsuc 434332 ∷ negsuc 179907 ∷ negsuc 1048575 ∷ pos 434333 ∷ pos 1048576 ∷ pos 179908 ∷ pos 434333 ∷
+    pos 0 ∷ pos 1048576 ∷ pos 0 ∷ negsuc 401271 ∷ pos 968758 ∷ pos 0 ∷ pos 0 ∷ pos 968758 ∷ pos 401272 ∷ pos 1048576 ∷ pos 434333 ∷ negsuc 1048575 ∷ negsuc 1048575 ∷ pos 0 ∷ pos 0 ∷ pos 0 ∷ pos 0 ∷ pos 1048576 ∷
+    negsuc 741454 ∷ pos 741455 ∷ pos 0 ∷ negsuc 428078 ∷ pos 856158 ∷ pos 428079 ∷ negsuc 401271 ∷ pos 968758 ∷ pos 0 ∷ negsuc 1048575 ∷ negsuc 434332 ∷ negsuc 179907 ∷ pos 0 ∷ pos 0 ∷ pos 1048576 ∷ pos 1048576 ∷ pos 1048576 ∷ negsuc 1048575 ∷
+    pos 0 ∷ pos 741455 ∷ pos 741455 ∷ pos 0 ∷ pos 968758 ∷ pos 401272 ∷ negsuc 428078 ∷ pos 856158 ∷ pos 428079 ∷ pos 179908 ∷ negsuc 434332 ∷ pos 1048576 ∷ pos 1048576 ∷ pos 1048576 ∷ negsuc 1048575 ∷ negsuc 1048575 ∷ pos 0 ∷ pos 0 ∷
+    negsuc 428078 ∷ pos 856158 ∷ pos 428079 ∷ pos 0 ∷ pos 968758 ∷ pos 401272 ∷ negsuc 401271 ∷ pos 968758 ∷ pos 0 ∷ negsuc 1048575 ∷ negsuc 434332 ∷ pos 1048576 ∷ pos 1048576 ∷ pos 434333 ∷ pos 179908 ∷ negsuc 179907 ∷ pos 434333 ∷ negsuc 1048575 ∷
+    pos 0 ∷ pos 741455 ∷ pos 741455 ∷ negsuc 428078 ∷ pos 856158 ∷ pos 428079 ∷ negsuc 428078 ∷ pos 428079 ∷ pos 856158 ∷ pos 1048576 ∷ pos 349525 ∷ pos 349525 ∷ negsuc 1048575 ∷ pos 1048576 ∷ negsuc 1048575 ∷ negsuc 1048575 ∷ negsuc 1048575 ∷ pos 1048576 ∷
+    negsuc 741454 ∷ pos 741455 ∷ pos 0 ∷ negsuc 856157 ∷ pos 428079 ∷ pos 428079 ∷ negsuc 428078 ∷ pos 856158 ∷ pos 428079 ∷ negsuc 349524 ∷ pos 349525 ∷ negsuc 1048575 ∷ negsuc 1048575 ∷ negsuc 1048575 ∷ pos 1048576 ∷ pos 1048576 ∷ pos 1048576 ∷ pos 1048576 ∷
+    negsuc 741454 ∷ pos 0 ∷ pos 741455 ∷ negsuc 428078 ∷ pos 428079 ∷ pos 856158 ∷ negsuc 856157 ∷ pos 428079 ∷ pos 428079 ∷ negsuc 349524 ∷ negsuc 1048575 ∷ pos 349525 ∷ pos 1048576 ∷ pos 1048576 ∷ pos 1048576 ∷ negsuc 1048575 ∷ pos 1048576 ∷ negsuc 1048575 ∷
+    negsuc 856157 ∷ pos 428079 ∷ pos 428079 ∷ negsuc 428078 ∷ pos 428079 ∷ pos 856158 ∷ negsuc 428078 ∷ pos 856158 ∷ pos 428079 ∷ negsuc 1048575 ∷ negsuc 349524 ∷ negsuc 349524 ∷ pos 349525 ∷ negsuc 349524 ∷ pos 1048576 ∷ pos 349525 ∷ pos 1048576 ∷ negsuc 349524 ∷
+    pos 0 ∷ pos 1048576 ∷ pos 0 ∷ pos 0 ∷ pos 968758 ∷ pos 401272 ∷ pos 401272 ∷ pos 968758 ∷ pos 0 ∷ negsuc 1048575 ∷ pos 434333 ∷ negsuc 1048575 ∷ pos 0 ∷ pos 0 ∷ pos 1048576 ∷ pos 1048576 ∷ pos 0 ∷ pos 0 ∷
+    pos 0 ∷ pos 741455 ∷ pos 741455 ∷ pos 428079 ∷ pos 856158 ∷ pos 428079 ∷ pos 0 ∷ pos 968758 ∷ pos 401272 ∷ negsuc 179907 ∷ negsuc 434332 ∷ pos 1048576 ∷ pos 1048576 ∷ pos 0 ∷ pos 0 ∷ negsuc 1048575 ∷ pos 1048576 ∷ negsuc 1048575 ∷
+    pos 741455 ∷ pos 741455 ∷ pos 0 ∷ pos 401272 ∷ pos 968758 ∷ pos 0 ∷ pos 428079 ∷ pos 856158 ∷ pos 428079 ∷ pos 1048576 ∷ negsuc 434332 ∷ negsuc 179907 ∷ negsuc 1048575 ∷ pos 1048576 ∷ negsuc 1048575 ∷ pos 0 ∷ pos 0 ∷ pos 1048576 ∷
+    pos 428079 ∷ pos 856158 ∷ pos 428079 ∷ pos 401272 ∷ pos 968758 ∷ pos 0 ∷ pos 0 ∷ pos 968758 ∷ pos 401272 ∷ pos 1048576 ∷ negsuc 434332 ∷ pos 1048576 ∷ pos 179908 ∷ pos 434333 ∷ negsuc 1048575 ∷ negsuc 1048575 ∷ pos 434333 ∷ pos 179908 ∷
+    pos 0 ∷ pos 0 ∷ pos 1048576 ∷ pos 401272 ∷ pos 0 ∷ pos 968758 ∷ pos 0 ∷ pos 401272 ∷ pos 968758 ∷ negsuc 1048575 ∷ negsuc 1048575 ∷ pos 434333 ∷ pos 1048576 ∷ pos 0 ∷ pos 0 ∷ pos 0 ∷ pos 1048576 ∷ pos 0 ∷
+    pos 741455 ∷ pos 0 ∷ pos 741455 ∷ pos 428079 ∷ pos 428079 ∷ pos 856158 ∷ pos 401272 ∷ pos 0 ∷ pos 968758 ∷ pos 1048576 ∷ negsuc 179907 ∷ negsuc 434332 ∷ pos 0 ∷ pos 1048576 ∷ pos 0 ∷ negsuc 1048575 ∷ negsuc 1048575 ∷ pos 1048576 ∷
+    pos 0 ∷ pos 741455 ∷ pos 741455 ∷ pos 0 ∷ pos 401272 ∷ pos 968758 ∷ pos 428079 ∷ pos 428079 ∷ pos 856158 ∷ negsuc 179907 ∷ pos 1048576 ∷ negsuc 434332 ∷ negsuc 1048575 ∷ negsuc 1048575 ∷ pos 1048576 ∷ pos 1048576 ∷ pos 0 ∷ pos 0 ∷
+    pos 428079 ∷ pos 428079 ∷ pos 856158 ∷ pos 0 ∷ pos 401272 ∷ pos 968758 ∷ pos 401272 ∷ pos 0 ∷ pos 968758 ∷ pos 1048576 ∷ pos 1048576 ∷ negsuc 434332 ∷ negsuc 1048575 ∷ pos 179908 ∷ pos 434333 ∷ pos 179908 ∷ negsuc 1048575 ∷ pos 434333 ∷
+    pos 1048576 ∷ pos 0 ∷ pos 0 ∷ pos 968758 ∷ pos 401272 ∷ pos 0 ∷ pos 968758 ∷ pos 0 ∷ pos 401272 ∷ pos 434333 ∷ negsuc 1048575 ∷ negsuc 1048575 ∷ pos 0 ∷ pos 1048576 ∷ pos 0 ∷ pos 0 ∷ pos 0 ∷ pos 1048576 ∷
+    pos 741455 ∷ pos 741455 ∷ pos 0 ∷ pos 856158 ∷ pos 428079 ∷ pos 428079 ∷ pos 968758 ∷ pos 401272 ∷ pos 0 ∷ negsuc 434332 ∷ pos 1048576 ∷ negsuc 179907 ∷ pos 0 ∷ pos 0 ∷ pos 1048576 ∷ pos 1048576 ∷ negsuc 1048575 ∷ negsuc 1048575 ∷
+    pos 741455 ∷ pos 0 ∷ pos 741455 ∷ pos 968758 ∷ pos 0 ∷ pos 401272 ∷ pos 856158 ∷ pos 428079 ∷ pos 428079 ∷ negsuc 434332 ∷ negsuc 179907 ∷ pos 1048576 ∷ pos 1048576 ∷ negsuc 1048575 ∷ negsuc 1048575 ∷ pos 0 ∷ pos 1048576 ∷ pos 0 ∷
+    pos 856158 ∷ pos 428079 ∷ pos 428079 ∷ pos 968758 ∷ pos 0 ∷ pos 401272 ∷ pos 968758 ∷ pos 401272 ∷ pos 0 ∷ negsuc 434332 ∷ pos 1048576 ∷ pos 1048576 ∷ pos 434333 ∷ negsuc 1048575 ∷ pos 179908 ∷ pos 434333 ∷ pos 179908 ∷ negsuc 1048575 ∷
+    pos 741455 ∷ pos 0 ∷ pos 741455 ∷ pos 856158 ∷ pos 428079 ∷ pos 428079 ∷ pos 428079 ∷ pos 428079 ∷ pos 856158 ∷ pos 349525 ∷ negsuc 1048575 ∷ pos 349525 ∷ pos 1048576 ∷ pos 1048576 ∷ negsuc 1048575 ∷ negsuc 1048575 ∷ pos 1048576 ∷ pos 1048576 ∷
+    pos 741455 ∷ pos 741455 ∷ pos 0 ∷ pos 428079 ∷ pos 856158 ∷ pos 428079 ∷ pos 856158 ∷ pos 428079 ∷ pos 428079 ∷ pos 349525 ∷ pos 349525 ∷ negsuc 1048575 ∷ negsuc 1048575 ∷ pos 1048576 ∷ pos 1048576 ∷ pos 1048576 ∷ negsuc 1048575 ∷ pos 1048576 ∷
+    pos 0 ∷ pos 741455 ∷ pos 741455 ∷ pos 428079 ∷ pos 428079 ∷ pos 856158 ∷ pos 428079 ∷ pos 856158 ∷ pos 428079 ∷ negsuc 1048575 ∷ pos 349525 ∷ pos 349525 ∷ pos 1048576 ∷ negsuc 1048575 ∷ pos 1048576 ∷ pos 1048576 ∷ pos 1048576 ∷ negsuc 1048575 ∷
+    pos 428079 ∷ pos 856158 ∷ pos 428079 ∷ pos 428079 ∷ pos 428079 ∷ pos 856158 ∷ pos 856158 ∷ pos 428079 ∷ pos 428079 ∷ negsuc 349524 ∷ pos 1048576 ∷ negsuc 349524 ∷ negsuc 349524 ∷ negsuc 349524 ∷ pos 1048576 ∷ pos 1048576 ∷ negsuc 349524 ∷ negsuc 349524 ∷
+    []
+
+-- the one test
+tested : constants ≡ table
+unfolding table tableFrom trixel rootTrixel child cut unit scale root rootIn
+tested = refl
+
+-- ---- each row
+
+-- row number n, of eighteen numbers each
+abbrev pub rowAt : ℕ → List ℤ → List ℤ
+rowAt zero l = take 18 l
+rowAt (suc n) l = rowAt n (drop 18 l)
+
+row-from : (n m i : ℕ) → n < m → rowAt n (tableFrom m i) ≡ numbers (trixel 2 (i + n))
+unfolding tableFrom
+row-from n zero i h = absurd (omega arith)
+row-from zero (suc m) i h = ap (λ k. numbers (trixel 2 k)) (sym (add-zero i))
+row-from (suc n) (suc m) i h =
+    let e : suc i + n ≡ i + suc n = omega arith in
+    row-from n m (suc i) (omega arith) ∙ ap (λ k. numbers (trixel 2 k)) e
+
+pub row-is : (n : ℕ) → n < 128 → rowAt n constants ≡ numbers (trixel 2 (128 + n))
+unfolding table
+row-is n h = ap (rowAt n) tested ∙ row-from n 128 128 h
