@@ -4,15 +4,19 @@
 --   readInto readAnswer readAfter      the reader: count, depth and budget as written; the rows at the list's beginning
 --   writeInto writeAnswer writeAfter   the writer: the file's length; the file at the list's beginning
 --   pointTest f p                      whether the region of the file f holds the point p
+--   headerGiven r, heldGiven r         what the reader and the point test answered
 use Prim.Native.Nat.{ℕ}
 use mathlib.Core.Bool.{Bool}
 use mathlib.Core.List.{List}
 use lib.ListN.{length}
 use lib.IntN.{ℤ}
-use Rattle.answer.specs.Answer.{Answer, gives, check, then, with-value, Vector}
+use Rattle.answer.specs.Answer.{Answer, refused, gives, check, then, with-value, Vector}
 use Rattle.answer.specs.Lent.{put, stored, room}
 use Rattle.vector.specs.declared.Vec3.{Vec3}
 use Rattle.vector.specs.Vectors.{isVector}
+use Rattle.region.specs.declared.Header.{Header}
+use Rattle.region.specs.declared.HeaderOf.{HeaderOf}
+use Rattle.region.specs.declared.HeldOf.{HeldOf}
 use Rattle.region.specs.Regions.{holds}
 use Rattle.region.specs.Building.{total}
 use Rattle.region.specs.Rows.{rows}
@@ -21,13 +25,8 @@ use Rattle.region.specs.Writer.{write}
 
 -- ---- the reader: depth and budget as written and the count of the rows, and the rows at the list's beginning
 
-pub record Header : Type 0 where
-  pub depth : ℕ
-  pub budget : ℕ
-  pub count : ℕ
-
 abbrev pub headerOf : File → Header
-headerOf x = record { depth = x .depth; budget = x .budget; count = total (x .region) }
+headerOf x = record { count = total (x .region); depth = x .depth; budget = x .budget }
 
 abbrev pub readInto : List ℕ → List ℤ → Answer File
 readInto f before = then (read f) (λ x. room (length (rows (x .region))) before x)
@@ -56,3 +55,13 @@ writeAfter d b rs before = stored (put 0) (writeInto d b rs before) before
 
 unfoldable pub pointTest : List ℕ → Vec3 → Answer Bool
 pointTest f p = then (read f) (λ x. check Vector (isVector p) (gives (holds (x .region) p)))
+
+-- ---- the answers of the calls
+
+abbrev pub headerGiven : HeaderOf → Answer Header
+headerGiven (HeaderOf.Gives h) = gives h
+headerGiven (HeaderOf.Refused n) = refused n
+
+abbrev pub heldGiven : HeldOf → Answer Bool
+heldGiven (HeldOf.Gives b) = gives b
+heldGiven (HeldOf.Refused n) = refused n
