@@ -1,4 +1,5 @@
 -- What the steps of a lookup give. Document 01, 'Pointings and the mesh': the lookup, and the table that deeper lookups begin at.
+--   childAt d c     the digit d with the corners c
 --   Stepped p c r   r has the digit of p in the trixel with corners c, and the corners of that child
 --   Started p k s   s is the trixel of depth 3 on p's way from the root k: the descent goes on from it as from the root
 use Prim.Native.Nat.{ℕ, suc, _+_, _<_}
@@ -11,6 +12,9 @@ use Rattle.mesh.specs.Lookup.{digit, descend}
 use Rattle.mesh.specs.Corners.{bare, SmallCorners}
 use Rattle.descent.specs.declared.Child.{Child}
 use Rattle.descent.specs.declared.Place.{Place}
+
+abbrev pub childAt : ℕ → Corners → Child
+childAt d c = record { digit = d; corners = c }
 
 pub record Stepped (p : Vec3) (c : Corners) (r : Child) : Type 0 where
   pub is : r .digit ≡ digit p (bare c)

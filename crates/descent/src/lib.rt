@@ -16,7 +16,7 @@ ghost use Rattle.mesh.specs.Lookup as rule;
 ghost use Rattle.mesh.specs.Lookup.{notNegative, northRoot, southRoot, rootNumber};
 ghost use Rattle.mesh.specs.Table.{vectorAt};
 ghost use Rattle.mesh.specs.Corners.{bare, SmallCorners};
-ghost use Rattle.descent.specs.Places.{Stepped, Started};
+ghost use Rattle.descent.specs.Places.{childAt, Stepped, Started};
 
 // A digit, and the corners of that child.
 pub struct Child {
@@ -49,6 +49,15 @@ fn on_side(c: Vec3, p: Vec3) -> bool
     0 <= vector::dot(vector::scale(c), p)
 }
 
+fn chosen(digit: u64, corners: Corners) -> Child
+    ensures { λ r. ⌜ r ≡ childAt digit corners ⌝ }
+{
+    Child {
+        digit: digit,
+        corners: corners,
+    }
+}
+
 // The child that p goes to, by the cuts; the middle of the edge v1 v2 is found only where it is needed.
 fn step(p: Vec3, c: Corners) -> Child
     requires { ⌜ Small p ⌝ }
@@ -61,44 +70,16 @@ fn step(p: Vec3, c: Corners) -> Child
     let w1 = mesh::cutting::midpoint(v0, v2);
     let w2 = mesh::cutting::midpoint(v0, v1);
     if on_side(vector::cross(w2, w1), p) {
-        return Child {
-            digit: 0,
-            corners: Corners {
-                v0: v0,
-                v1: w2,
-                v2: w1,
-            },
-        };
+        return chosen(0, mesh::cutting::triple(v0, w2, w1));
     }
     let w0 = mesh::cutting::midpoint(v1, v2);
     if on_side(vector::cross(w0, w2), p) {
-        return Child {
-            digit: 1,
-            corners: Corners {
-                v0: v1,
-                v1: w0,
-                v2: w2,
-            },
-        };
+        return chosen(1, mesh::cutting::triple(v1, w0, w2));
     }
     if on_side(vector::cross(w1, w0), p) {
-        return Child {
-            digit: 2,
-            corners: Corners {
-                v0: v2,
-                v1: w1,
-                v2: w0,
-            },
-        };
+        return chosen(2, mesh::cutting::triple(v2, w1, w0));
     }
-    Child {
-        digit: 3,
-        corners: Corners {
-            v0: w0,
-            v1: w1,
-            v2: w2,
-        },
-    }
+    chosen(3, mesh::cutting::triple(w0, w1, w2))
 }
 
 // n levels down from the trixel with the identifier id and the corners c.

@@ -1,14 +1,19 @@
 -- Corners alone. Document 01, 'Pointings and the mesh': cutting makes midpoints and cuts from corners, so a descent can do without the parent's normals.
+--   tripleOf a b c   three corners
 --   bare c           a trixel of which only the corners are known; cutting and descent look at nothing else (proofs/CornerLaws)
 --   SmallCorners c   each component of each corner is within ±K
 --   cornersGiven r   what the call that gives corners answered
 use lib.IntN.{pos}
 use Rattle.answer.specs.Answer.{Answer, refused, gives}
+use Rattle.vector.specs.declared.Vec3.{Vec3}
 use Rattle.vector.specs.Vectors.{vec, Small}
 use Rattle.mesh.specs.declared.Trixel.{Trixel}
 use Rattle.mesh.specs.declared.Corners.{Corners}
 use Rattle.mesh.specs.declared.CornersOf.{CornersOf}
 use Rattle.mesh.specs.declared.CornersOf.the-variants.{Gives, Refused}
+
+abbrev pub tripleOf : Vec3 → Vec3 → Vec3 → Corners
+tripleOf a b c = record { v0 = a; v1 = b; v2 = c }
 
 abbrev pub bare : Corners → Trixel
 bare c =

@@ -9,11 +9,22 @@ ghost use Prim.Native.Nat.{_+_, _*_, _-_, _^_, _≤_, _<_};
 ghost use Rattle.vector.specs.Vectors.{Small, unit, plus};
 ghost use Rattle.mesh.specs.Trixels as rule;
 ghost use Rattle.mesh.specs.Identifiers as identifiers;
-ghost use Rattle.mesh.specs.Corners.{bare, SmallCorners, cornersGiven};
+ghost use Rattle.mesh.specs.Corners.{tripleOf, bare, SmallCorners, cornersGiven};
 
 const K: i64 = 1048576;
 
 const MINUS_K: i64 = -1048576;
+
+// Three corners.
+pub fn triple(a: Vec3, b: Vec3, c: Vec3) -> Corners
+    ensures { λ r. ⌜ r ≡ tripleOf a b c ⌝ }
+{
+    Corners {
+        v0: a,
+        v1: b,
+        v2: c,
+    }
+}
 
 // The middle of an edge: Unit(a + b).
 pub fn midpoint(a: Vec3, b: Vec3) -> Vec3
@@ -48,59 +59,27 @@ pub fn root_corners(k: u64) -> Corners
         z: MINUS_K,
     };
     if k == 0 {
-        return Corners {
-            v0: x,
-            v1: down,
-            v2: y,
-        };
+        return triple(x, down, y);
     }
     if k == 1 {
-        return Corners {
-            v0: y,
-            v1: down,
-            v2: left,
-        };
+        return triple(y, down, left);
     }
     if k == 2 {
-        return Corners {
-            v0: left,
-            v1: down,
-            v2: back,
-        };
+        return triple(left, down, back);
     }
     if k == 3 {
-        return Corners {
-            v0: back,
-            v1: down,
-            v2: x,
-        };
+        return triple(back, down, x);
     }
     if k == 4 {
-        return Corners {
-            v0: x,
-            v1: z,
-            v2: back,
-        };
+        return triple(x, z, back);
     }
     if k == 5 {
-        return Corners {
-            v0: back,
-            v1: z,
-            v2: left,
-        };
+        return triple(back, z, left);
     }
     if k == 6 {
-        return Corners {
-            v0: left,
-            v1: z,
-            v2: y,
-        };
+        return triple(left, z, y);
     }
-    Corners {
-        v0: y,
-        v1: z,
-        v2: x,
-    }
+    triple(y, z, x)
 }
 
 // The corners of the child number k, by the table of children; 3 and above is the one in the middle.
@@ -115,31 +94,15 @@ pub fn child_corners(c: Corners, k: u64) -> Corners
     let w1 = midpoint(v0, v2);
     let w2 = midpoint(v0, v1);
     if k == 0 {
-        return Corners {
-            v0: v0,
-            v1: w2,
-            v2: w1,
-        };
+        return triple(v0, w2, w1);
     }
     if k == 1 {
-        return Corners {
-            v0: v1,
-            v1: w0,
-            v2: w2,
-        };
+        return triple(v1, w0, w2);
     }
     if k == 2 {
-        return Corners {
-            v0: v2,
-            v1: w1,
-            v2: w0,
-        };
+        return triple(v2, w1, w0);
     }
-    Corners {
-        v0: w0,
-        v1: w1,
-        v2: w2,
-    }
+    triple(w0, w1, w2)
 }
 
 // The corners of the trixel with the identifier id, n levels below its root.

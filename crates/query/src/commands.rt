@@ -1,0 +1,121 @@
+// The commands: a line's first word says which, and the words after it, from `next` on, are its arguments. The answer is put into `out` from
+// `at` on, and the result is the place after it.
+use crate::arguments;
+use crate::arguments::NaturalAt;
+use crate::arguments::PointAt;
+use crate::numbers::Natural;
+use crate::print;
+use crate::print::Buffer;
+use crate::words;
+use answer::Number;
+use check::same;
+use mesh::Corners;
+use mesh::CornersOf;
+use vector::Vec3;
+ghost use Prim.Native.Nat.{_≤_};
+
+pub fn answer(line: &[u8], out: &mut Buffer, at: usize) -> usize {
+    let word = words::word(line, 0);
+    let next = words::after(line, 0);
+    if same(word, b"lookup") {
+        return lookup(line, next, out, at);
+    }
+    if same(word, b"name") {
+        return name(line, next, out, at);
+    }
+    if same(word, b"id") {
+        return id(line, next, out, at);
+    }
+    if same(word, b"corners") {
+        return corners(line, next, out, at);
+    }
+    print::usage(out, at)
+}
+
+// lookup X Y Z DEPTH
+fn lookup(line: &[u8], next: usize, out: &mut Buffer, at: usize) -> usize {
+    let PointAt::Is {
+        x,
+        y,
+        z,
+        next: depth_at,
+    } = arguments::point(line, next)
+    else {
+        return print::usage(out, at);
+    };
+    let NaturalAt::Is(depth, end) = arguments::natural(line, depth_at) else {
+        return print::usage(out, at);
+    };
+    if !words::is_over(line, end) {
+        return print::usage(out, at);
+    }
+    match htm::locate(x, y, z, depth) {
+        Number::Gives(i) => {
+            let end = print::natural(out, at, i, b' ');
+            print_name(out, end, i)
+        },
+        Number::Refused(n) => print::refused(out, at, n),
+    }
+}
+
+// name ID
+fn name(line: &[u8], next: usize, out: &mut Buffer, at: usize) -> usize {
+    match arguments::identifier(line, next) {
+        Natural::Is(i) => print_name(out, at, i),
+        Natural::Not => print::usage(out, at),
+    }
+}
+
+// id NAME
+fn id(line: &[u8], next: usize, out: &mut Buffer, at: usize) -> usize {
+    let word = words::last(line, next);
+    if word.len() == 0 {
+        return print::usage(out, at);
+    }
+    match htm::identifier(word) {
+        Number::Gives(i) => print::natural(out, at, i, b'\n'),
+        Number::Refused(n) => print::refused(out, at, n),
+    }
+}
+
+// corners ID
+fn corners(line: &[u8], next: usize, out: &mut Buffer, at: usize) -> usize {
+    let Natural::Is(i) = arguments::identifier(line, next) else {
+        return print::usage(out, at);
+    };
+    match htm::corners(i) {
+        CornersOf::Gives(c) => print_corners(out, at, c),
+        CornersOf::Refused(n) => print::refused(out, at, n),
+    }
+}
+
+// A name has at most 32 bytes.
+fn print_name(out: &mut Buffer, at: usize, i: u64) -> usize {
+    let mut text = [0u8; 32];
+    match htm::name(i, &mut text) {
+        Number::Gives(n) => {
+            let k = least(n, 32);
+            let end = print::text(out, at, &text[0..k]);
+            print::byte(out, end, b'\n')
+        },
+        Number::Refused(n) => print::refused(out, at, n),
+    }
+}
+
+fn least(n: u64, most: usize) -> usize
+    ensures { λ r. ⌜ r ≤ most ⌝ }
+{
+    if n < most as u64 { n as usize } else { most }
+}
+
+fn print_corners(out: &mut Buffer, at: usize, c: Corners) -> usize {
+    let end = print_vector(out, at, c.v0, b' ');
+    let end = print_vector(out, end, c.v1, b' ');
+    print_vector(out, end, c.v2, b'\n')
+}
+
+fn print_vector(out: &mut Buffer, at: usize, v: Vec3, then: u8) -> usize {
+    let end = print::whole(out, at, v.x, b' ');
+    let end = print::whole(out, end, v.y, b' ');
+    print::whole(out, end, v.z, then)
+}

@@ -1,0 +1,71 @@
+// Answers are collected in a lent buffer: each function puts something there from `at` on, and its result is the place after that. A full
+// buffer is written to standard output.
+use libc::STDOUT_FILENO;
+ghost use mathlib.Core.Path.{_≡_};
+ghost use lib.IntN.{natAbs};
+
+pub const SIZE: usize = 65536;
+
+pub type Buffer = [u8; SIZE];
+
+pub fn byte(out: &mut Buffer, at: usize, b: u8) -> usize {
+    if at < SIZE {
+        out[at] = b;
+        return at + 1;
+    }
+    io::write_all(STDOUT_FILENO, out);
+    out[0] = b;
+    1
+}
+
+pub fn text(out: &mut Buffer, at: usize, bytes: &[u8]) -> usize {
+    let mut end = at;
+    for i in 0..bytes.len() {
+        end = byte(out, end, bytes[i]);
+    }
+    end
+}
+
+// A number, and the byte that parts it from what follows.
+pub fn natural(out: &mut Buffer, at: usize, n: u64, then: u8) -> usize {
+    let mut digits = [0u8; 20];
+    let k = io::decimal(n, &mut digits);
+    let end = text(out, at, &digits[..k]);
+    byte(out, end, then)
+}
+
+pub fn whole(out: &mut Buffer, at: usize, n: i64, then: u8) -> usize {
+    if n < 0 {
+        let end = byte(out, at, b'-');
+        return natural(out, end, size(n), then);
+    }
+    natural(out, at, size(n), then)
+}
+
+// How far a number is from 0.
+fn size(n: i64) -> u64
+    ensures { λ r. ⌜ r ≡ natAbs n ⌝ }
+{
+    if n < 0 {
+        (-(n + 1)) as u64 + 1
+    } else {
+        n as u64
+    }
+}
+
+pub fn refused(out: &mut Buffer, at: usize, number: u32) -> usize {
+    let end = text(out, at, b"refused ");
+    natural(out, end, number as u64, b'\n')
+}
+
+pub fn usage(out: &mut Buffer, at: usize) -> usize {
+    text(out, at, b"usage\n")
+}
+
+// Writes what was collected.
+pub fn flush(out: &Buffer, at: usize) {
+    let all: &[u8] = out;
+    if at <= all.len() {
+        io::write_all(STDOUT_FILENO, &all[0..at]);
+    }
+}
