@@ -50,4 +50,4 @@ add-good g r h e k =
 pub accepted-good : (f : List ℕ) (x : File) → Accepted f x → good (x .region) ≡ true
 unfolding good every
 accepted-good = accepted-keeps (λ x. good (x .region) ≡ true)
-    (λ x k. good-convex (x .region) k) (λ x g h e k. add-good (x .region) g h e k) (λ x h. ap good (h .region))
+    (λ x c k. good-convex (x .region) k) (λ x g h e k. add-good (x .region) g h e k) (λ x h. ap good (h .region))

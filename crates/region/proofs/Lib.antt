@@ -9,3 +9,4 @@ pub mod ReadBack
 pub mod WriteBack
 pub mod RowsBack
 pub mod FileBack
+pub mod PointLaws

@@ -8,8 +8,8 @@ use mathlib.Core.Bool.{Bool, true, false, cond, _&&_}
 use mathlib.Core.List.{List, [], _∷_}
 use lib.Dec.{leb, eqb}
 use lib.ListN.{length, length-drop}
-use borrow.Author.Tests.{leb-true}
-use Rattle.algebra.proofs.Tests.{and-left, and-right}
+use borrow.Author.Tests.{leb-true, eqb-true}
+use Rattle.algebra.proofs.Tests.{and-left, and-right, split}
 use Rattle.answer.specs.Answer.{Answer, refused, gives, check, then, with-value, Long, Torn, Kind, Order, Depth, Budget, Crowd}
 use Rattle.answer.proofs.AnswerLaws.{refused-gives, check-passed, check-gives, same-value, then-gives, value-gives}
 use Rattle.vector.specs.Numbers.{isDepth}
@@ -53,13 +53,14 @@ header-says f x e =
 -- ---- what one convex more and one halfspace more keep
 
 module _ (P : File → Type 0)
-    (convex : (x : File) → P x → P (withRegion x (withConvex (x .region))))
+    (convex : (x : File) → cond (begun (x .region)) (filled (x .region)) true ≡ true → P x → P (withRegion x (withConvex (x .region))))
     (halfspace : (x : File) (g : Region) (h : Halfspace) → add (x .region) h ≡ gives g → P x → P (withRegion x g)) where
   convex-keeps : (x y : File) → convexIn x ≡ gives y → P x → P y
   convex-keeps x y e k =
       let more = withRegion x (withConvex (x .region)) in
       let few = check Crowd (fewConvexes (withConvex (x .region))) (gives more) in
-      subst P (same-value more y (check-gives Crowd (fewConvexes (withConvex (x .region))) (gives more) y (check-gives Order (cond (begun (x .region)) (filled (x .region)) true) few y e))) (convex x k)
+      subst P (same-value more y (check-gives Crowd (fewConvexes (withConvex (x .region))) (gives more) y (check-gives Order (cond (begun (x .region)) (filled (x .region)) true) few y e)))
+      (convex x (check-passed Order (cond (begun (x .region)) (filled (x .region)) true) few y e) k)
 
   halfspace-keeps : (x y : File) (s : List ℕ) → halfspaceIn x s ≡ gives y → P x → P y
   halfspace-keeps x y s e k =
@@ -103,10 +104,40 @@ module _ (P : File → Type 0)
 -- ---- the header's numbers
 
 pub read-depth : (f : List ℕ) (x : File) → Accepted f x → isDepth (x .depth) ≡ true
-read-depth = accepted-keeps (λ x. isDepth (x .depth) ≡ true) (λ x k. k) (λ x g h e k. k) (λ x h. h .depth)
+read-depth = accepted-keeps (λ x. isDepth (x .depth) ≡ true) (λ x c k. k) (λ x g h e k. k) (λ x h. h .depth)
 
 pub read-budget : (f : List ℕ) (x : File) → Accepted f x → isBudget (x .budget) ≡ true
-read-budget = accepted-keeps (λ x. isBudget (x .budget) ≡ true) (λ x k. k) (λ x g h e k. k) (λ x h. h .budget)
+read-budget = accepted-keeps (λ x. isBudget (x .budget) ≡ true) (λ x c k. k) (λ x g h e k. k) (λ x h. h .budget)
+
+-- ---- the end record
+
+end-by-kind : (x y : File) (rest : List ℕ) → eqb (kindOf rest) 4 ≡ true → recordIn x rest ≡ gives y → (begun (y .region) ≡ true) × (filled (y .region) ≡ true)
+unfolding recordIn
+end-by-kind x y rest k e =
+    let four = eqb-true (kindOf rest) 4 k in
+    let c = rw four at (framed-gives rest _ y e) in
+    let g = x .region in
+    let t = check-passed Order (begun g && (filled g && eqb (length (after rest)) 0)) (gives x) y c in
+    subst (λ z. (begun (z .region) ≡ true) × (filled (z .region) ≡ true))
+    (same-value x y (check-gives Order (begun g && (filled g && eqb (length (after rest)) 0)) (gives x) y c))
+    (and-left (begun g) _ t, and-left (filled g) _ (and-right (begun g) _ t))
+
+records-end : (n : ℕ) (x y : File) (rest : List ℕ) → recordsIn n x rest ≡ gives y → (begun (y .region) ≡ true) × (filled (y .region) ≡ true)
+unfolding recordsIn
+records-end zero x y rest e = refused-gives Torn y e
+records-end (suc n) x y rest e =
+    let w = then-gives (recordIn x rest) (λ z. elim (eqb (kindOf rest) 4) [ true ↦ gives z | false ↦ recordsIn n z (after rest) ]) y e in
+    split (eqb (kindOf rest) 4)
+    (λ k.
+    let same : w .0 ≡ y = same-value (w .0) y (rw k at (w .2)) in
+    subst (λ z. (begun (z .region) ≡ true) × (filled (z .region) ≡ true)) same (end-by-kind x (w .0) rest k (w .1)))
+    (λ k. records-end n (w .0) y (after rest) (rw k at (w .2)))
+
+pub accepted-ends : (f : List ℕ) (x : File) → Accepted f x → (begun (x .region) ≡ true) × (filled (x .region) ≡ true)
+unfolding read
+accepted-ends f x e =
+    let w = then-gives (header f) (λ z. recordsIn (length f) z (after f)) x (check-gives Long (leb (length f) 10508) _ x e) in
+    records-end (length f) (w .0) x (after f) (w .2)
 
 -- ---- the bound on the records
 

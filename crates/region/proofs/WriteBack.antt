@@ -52,7 +52,7 @@ pub record Open (g : Region) : Type 0 where
   pub convexes : length g ≤ 64
   pub halfspaces : total g ≤ 512
 
-eqZ-eq : (a b : ℤ) → eqZ a b ≡ true → a ≡ b
+pub eqZ-eq : (a b : ℤ) → eqZ a b ≡ true → a ≡ b
 eqZ-eq (pos a) (pos b) e = ap pos (eqb-true a b e)
 eqZ-eq (pos a) (negsuc b) e = absurd (false≢true e)
 eqZ-eq (negsuc a) (pos b) e = absurd (false≢true e)

@@ -7,3 +7,4 @@ pub mod Reader
 pub mod Writer
 pub mod RoundTrip
 pub mod Answers
+pub mod Points
