@@ -145,7 +145,7 @@ unfolding convexesBytes
 past-convex c g r s t e = ap (λ l. convexBytes ++ l)
     (append-assoc (halfspacesBytes c) (convexesBytes r) s ∙ ap (λ l. halfspacesBytes c ++ l) e ∙ sym (append-assoc (halfspacesBytes c) (convexesBytes g) t))
 
-convex-bytes : (g : Region) (s : List ℕ) → convexesBytes (withConvex g) ++ s ≡ convexesBytes g ++ (convexBytes ++ s)
+pub convex-bytes : (g : Region) (s : List ℕ) → convexesBytes (withConvex g) ++ s ≡ convexesBytes g ++ (convexBytes ++ s)
 unfolding convexesBytes halfspacesBytes
 convex-bytes [] s = refl
 convex-bytes (c ∷ cs) s = past-convex c cs (withConvex cs) s (convexBytes ++ s) (convex-bytes cs s)
@@ -155,7 +155,7 @@ unfolding halfspacesBytes
 last-bytes [] h s = refl
 last-bytes (a ∷ c) h s = ap (λ l. halfspaceBytes a ++ l) (last-bytes c h s)
 
-halfspace-bytes : (g : Region) (h : Halfspace) (s : List ℕ) → 0 < length g → convexesBytes (withHalfspace g h) ++ s ≡ convexesBytes g ++ (halfspaceBytes h ++ s)
+pub halfspace-bytes : (g : Region) (h : Halfspace) (s : List ℕ) → 0 < length g → convexesBytes (withHalfspace g h) ++ s ≡ convexesBytes g ++ (halfspaceBytes h ++ s)
 unfolding convexesBytes withHalfspace
 halfspace-bytes [] h s b = absurd (omega arith)
 halfspace-bytes (c ∷ []) h s b = ap (λ l. convexBytes ++ l)

@@ -10,3 +10,8 @@ pub mod WriteBack
 pub mod RowsBack
 pub mod FileBack
 pub mod PointLaws
+pub mod PutLaws
+pub mod CountLaws
+pub mod CheckingPass
+pub mod WritingPass
+pub mod WriterLaws

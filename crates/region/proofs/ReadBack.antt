@@ -196,7 +196,7 @@ unfolding halfspacesBytes
 halfspaces-length [] = refl
 halfspaces-length (h ∷ hs) = omega (arith, halfspaces-length hs)
 
-convexes-length : (cs : Region) → length (convexesBytes cs) ≡ 4 * length cs + 20 * total cs
+pub convexes-length : (cs : Region) → length (convexesBytes cs) ≡ 4 * length cs + 20 * total cs
 unfolding convexesBytes total
 convexes-length [] = refl
 convexes-length (c ∷ cs) = omega (arith, length-append (halfspacesBytes c) (convexesBytes cs), halfspaces-length c, convexes-length cs)

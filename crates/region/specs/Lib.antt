@@ -8,3 +8,4 @@ pub mod Writer
 pub mod RoundTrip
 pub mod Answers
 pub mod Points
+pub mod Writing
