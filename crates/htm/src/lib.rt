@@ -2,6 +2,8 @@
 // A refusal carries its number only (crate answer), and then every lent element keeps its value.
 use answer::Number;
 use mesh::CornersOf;
+use region::HeaderOf;
+use region::HeldOf;
 use vector::Vec3;
 ghost use mathlib.Core.Path.{_≡_};
 ghost use Rattle.answer.specs.Calls.{numberOf};
@@ -11,20 +13,24 @@ ghost use Rattle.mesh.specs.Names.{identifierOf};
 ghost use Rattle.mesh.specs.Identifiers as identifiers;
 ghost use Rattle.mesh.specs.Corners.{cornersGiven};
 ghost use Rattle.mesh.specs.Answers.{nameAnswer, nameAfter};
+ghost use Rattle.region.specs.Answers.{headerGiven, readAnswer, readAfter, writeAnswer, writeAfter, heldGiven, pointTest};
 ghost use Rattle.htm.specs.Answers.{entry};
+
+fn pointing(x: i32, y: i32, z: i32) -> Vec3
+    ensures { λ r. ⌜ r ≡ vec x y z ⌝ }
+{
+    Vec3 {
+        x: x as i64,
+        y: y as i64,
+        z: z as i64,
+    }
+}
 
 // The identifier of the trixel of a depth from 1 to 12 in which a pointing lies; refusals 5, 8.
 pub fn locate(x: i32, y: i32, z: i32, depth: u32) -> Number
     ensures { λ r. ⌜ numberOf r ≡ mesh_lookup.lookup (vec x y z) depth ⌝ }
 {
-    descent::lookup(
-        Vec3 {
-            x: x as i64,
-            y: y as i64,
-            z: z as i64,
-        },
-        depth,
-    )
+    descent::lookup(pointing(x, y, z), depth)
 }
 
 // The name of an identifier, written at the beginning of `out`, and its length; refusals 11, then 10.
@@ -47,6 +53,30 @@ pub fn corners(id: u64) -> CornersOf
     ensures { λ r. ⌜ cornersGiven r ≡ identifiers.corners id ⌝ }
 {
     mesh::cutting::corners_of(id)
+}
+
+// The rows of a region file, written at the beginning of `rows`, with their count and the file's depth and budget as written; or the refusal of the
+// file's first failed check, 10 last.
+pub fn read(file: &[u8], rows: &mut [i32]) -> HeaderOf
+    ensures { λ r. ⌜ headerGiven r ≡ readAnswer (now (file .entry)) (now (rows .entry)) ⌝ }
+    ensures { λ r. ⌜ now (rows .exit) ≡ readAfter (now (file .entry)) (now (rows .entry)) ⌝ }
+{
+    region::reader::read(file, rows)
+}
+
+// The region file of some rows, written at the beginning of `out`, and its length; refusals 5, 6, then 4, 7, 8, 9 row by row, then 10.
+pub fn write(depth: u32, budget: u32, rows: &[i32], out: &mut [u8]) -> Number
+    ensures { λ r. ⌜ numberOf r ≡ writeAnswer depth budget (now (rows .entry)) (now (out .entry)) ⌝ }
+    ensures { λ r. ⌜ now (out .exit) ≡ writeAfter depth budget (now (rows .entry)) (now (out .entry)) ⌝ }
+{
+    region::writer::write(depth, budget, rows, out)
+}
+
+// The point test: whether the region of a file holds a pointing; the file's refusals, then 8.
+pub fn holds(file: &[u8], x: i32, y: i32, z: i32) -> HeldOf
+    ensures { λ r. ⌜ heldGiven r ≡ pointTest (now (file .entry)) (vec x y z) ⌝ }
+{
+    region::points::point_test(file, pointing(x, y, z))
 }
 
 // The lookup for a host in C: the identifier, or 0 for a refusal.

@@ -15,3 +15,9 @@ pub mod CountLaws
 pub mod CheckingPass
 pub mod WritingPass
 pub mod WriterLaws
+pub mod FrameLaws
+pub mod RowLaws
+pub mod OutcomeLaws
+pub mod ReadingLaws
+pub mod ReadAnswers
+pub mod PointAnswers

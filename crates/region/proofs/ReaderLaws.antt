@@ -36,7 +36,7 @@ pub record Headed (x : File) : Type 0 where
   pub budget : isBudget (x .budget) ≡ true
   pub region : x .region ≡ []
 
-header-says : (f : List ℕ) (x : File) → header f ≡ gives x → Headed x
+pub header-says : (f : List ℕ) (x : File) → header f ≡ gives x → Headed x
 unfolding header
 header-says f x e =
     let s = payload f in
@@ -78,7 +78,7 @@ module _ (P : File → Type 0)
   by-kind x y rest false false true e = halfspace-keeps x y (payload rest) e
   by-kind x y rest false false false e = end-keeps x y (after rest) e
 
-  record-keeps : (x y : File) (rest : List ℕ) → recordIn x rest ≡ gives y → P x → P y
+  pub record-keeps : (x y : File) (rest : List ℕ) → recordIn x rest ≡ gives y → P x → P y
   unfolding recordIn
   record-keeps x y rest e = by-kind x y rest (eqb (kindOf rest) 1) (eqb (kindOf rest) 2) (eqb (kindOf rest) 3) (framed-gives rest _ y e)
 
@@ -141,7 +141,7 @@ accepted-ends f x e =
 
 -- ---- the bound on the records
 
-record-whole : (x y : File) (rest : List ℕ) → recordIn x rest ≡ gives y → whole rest ≡ true
+pub record-whole : (x y : File) (rest : List ℕ) → recordIn x rest ≡ gives y → whole rest ≡ true
 unfolding recordIn
 record-whole x y rest e = kept-whole rest _ y e
 

@@ -9,3 +9,4 @@ pub mod RoundTrip
 pub mod Answers
 pub mod Points
 pub mod Writing
+pub mod Reading

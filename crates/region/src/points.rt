@@ -1,4 +1,8 @@
-// Points against a region's rows. The rules stand in specs/Regions and specs/Points.
+// Points against a region's rows, and the point test of a region file. The rules stand in specs/Regions, specs/Points and specs/Answers.
+use crate::HeaderOf;
+use crate::HeldOf;
+use crate::reader;
+use answer::VECTOR;
 use vector::Vec3;
 ghost use mathlib.Core.Path.{_≡_};
 ghost use mathlib.Core.Bool.{_&&_, _||_};
@@ -10,6 +14,7 @@ ghost use Rattle.vector.specs.Vectors.{AtMost, Small};
 ghost use Rattle.region.specs.Regions.{holdsHalfspace};
 ghost use Rattle.region.specs.Points as points;
 ghost use Rattle.region.specs.Points.{halfspaceFrom, halfspaceIn, scanned, rowsHold};
+ghost use Rattle.region.specs.Answers.{heldGiven, pointTest};
 
 const K: i64 = 1048576;
 
@@ -86,7 +91,7 @@ fn next(s: Scan, number: i64, here: bool) -> Scan
 }
 
 // Whether the region of the first `count` rows holds p.
-pub fn rows_hold(rows: &[i32], count: usize, p: Vec3) -> bool
+fn rows_hold(rows: &[i32], count: usize, p: Vec3) -> bool
     requires { ⌜ 5 * count ≤ length (now rows) ⌝ }
     requires { ⌜ Small p ⌝ }
     ensures { λ t. ⌜ t ≡ rowsHold p count (now (rows .entry)) ⌝ }
@@ -98,4 +103,30 @@ pub fn rows_hold(rows: &[i32], count: usize, p: Vec3) -> bool
         i += 1;
     }
     either(s.any, s.all)
+}
+
+// Whether the region of the first `count` rows of an array holds p.
+fn array_holds(rows: &[i32; 2560], count: usize, p: Vec3) -> bool
+    requires { ⌜ 5 * count ≤ 2560 ⌝ }
+    requires { ⌜ Small p ⌝ }
+    ensures { λ t. ⌜ t ≡ rowsHold p count (now (rows .entry)) ⌝ }
+{
+    rows_hold(rows, count, p)
+}
+
+// Whether the region of a file holds p, or the refusal: the file's checks, then 8.
+pub fn point_test(file: &[u8], p: Vec3) -> HeldOf
+    ensures { λ r. ⌜ heldGiven r ≡ pointTest (now (file .entry)) p ⌝ }
+{
+    let mut rows = [0i32; 2560];
+    let said = reader::decode(file, &mut rows);
+    match said {
+        HeaderOf::Gives(h) => {
+            if vector::is_vector(p) {
+                return HeldOf::Gives(array_holds(&rows, h.count as usize, p));
+            }
+            HeldOf::Refused(VECTOR)
+        }
+        HeaderOf::Refused(n) => HeldOf::Refused(n),
+    }
 }

@@ -1,6 +1,7 @@
 // The writer of region files: a pass over the rows that checks them, and a pass that writes. The rules stand in specs/Rows, specs/Writer and
 // specs/Answers.
 use crate::Halfspace;
+use crate::reader;
 use answer::BUDGET;
 use answer::CROWD;
 use answer::DEPTH;
@@ -107,13 +108,6 @@ fn opened(at: Counts, c: i32) -> Counts
     at
 }
 
-// Whether an offset is within ±K.
-fn is_offset(d: i64) -> bool
-    ensures { λ t. ⌜ t ≡ rule.isOffset d ⌝ }
-{
-    -1048576 <= d && d <= 1048576
-}
-
 // The counts with a halfspace more in the last convex, or the first refusal: 7, 8, 9.
 fn with_halfspace(at: Counts, h: Halfspace) -> CountsOf
     ensures { λ r. ⌜ ((g : Region) → countsOf g ≡ at → 0 < length g → countsGiven r ≡ with-value countsOf (rule.add g h)) ⌝ }
@@ -128,7 +122,7 @@ fn with_halfspace(at: Counts, h: Halfspace) -> CountsOf
     if !vector::is_vector(n) {
         return CountsOf::Refused(VECTOR);
     }
-    if !is_offset(h.d) {
+    if !reader::is_offset(h.d) {
         return CountsOf::Refused(OFFSET);
     }
     CountsOf::Gives(Counts {

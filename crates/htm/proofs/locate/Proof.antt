@@ -1,6 +1,6 @@
--- `htm::locate` is the lookup's rule at its three components, which are the same numbers in 64 bits as in 32. Assumes nothing.
-use mathlib.Core.Path.{_∙_}
-use Rattle.algebra.proofs.Sized.{fits-wider, same-wider}
+-- `htm::locate` is the lookup's rule at its three components. Assumes nothing.
+use mathlib.Core.Path.{ap, _∙_}
+use mir.Facts.{toZ-ofZ}
 use Rattle.vector.specs.Vectors.{vec}
 use Rattle.mesh.specs.Lookup.{lookup}
 use Rattle.htm.proofs.locate.Statement.{statement}
@@ -10,10 +10,9 @@ pub locate-spec : {M : Type 1} → statement M
 locate-spec =
     tie.close
     (tie.spec
-    (λ c. fits-wider (c .fits .x))
-    (λ c. fits-wider (c .fits .y))
-    (λ c. fits-wider (c .fits .z))
+    (λ c κs. tt)
     (λ c κs. tt)
     (λ c.
-    let s = c .before in
-    c .lookup .ensures ∙ (λ i. lookup (vec (same-wider (s .fits .x) i) (same-wider (s .fits .y) i) (same-wider (s .fits .z) i)) (s .args .depth))))
+    let s = c .before .before in
+    let p = c .before .pointing .ensures ∙ (λ i. vec (toZ-ofZ (s .fits .x) i) (toZ-ofZ (s .fits .y) i) (toZ-ofZ (s .fits .z) i)) in
+    c .lookup .ensures ∙ ap (λ p. lookup p (s .args .depth)) p))
