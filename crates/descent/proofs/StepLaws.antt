@@ -1,7 +1,6 @@
 -- One level of the descent, from the corners: the three tests in their order give the digit, and with it the child's corners. Assumes nothing.
-use Prim.Native.Nat.{ℕ, zero, suc, _+_, _*_, _<_, _≤_}
 use native.Mathlib.Omega.{arith}
-use mathlib.Core.Path.{_≡_, refl, sym, ap, ap₂, subst, _∙_}
+use mathlib.Core.Path.{_≡_, sym, ap, ap₂, _∙_}
 use mathlib.Core.Bool.{Bool, true, false}
 use lib.Dec.{lit<}
 use Rattle.vector.specs.declared.Vec3.{Vec3}

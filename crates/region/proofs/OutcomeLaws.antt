@@ -1,14 +1,14 @@
 -- What a record makes of the reader's state and of the rows, by its answer: the counts decide every check as the region itself does, since they are
 -- the region's counts, and a record that is accepted leaves the counts and the rows of the region with it. Assumes nothing.
-use Prim.Native.Nat.{ℕ, _+_, _-_, _*_, _≤_, _<_}
+use Prim.Native.Nat.{ℕ, _+_, _-_, _*_, _<_}
 use native.Mathlib.Omega.{arith}
 use mathlib.Core.Path.{_≡_, refl, sym, ap, subst, _∙_}
 use mathlib.Core.Bool.{Bool, true, false, cond, _&&_}
-use mathlib.Core.List.{List, [], _∷_, _++_}
-use lib.Dec.{ltb, leb, eqb}
+use mathlib.Core.List.{List, [], _∷_}
+use lib.Dec.{ltb, eqb}
 use lib.ListN.{length, length-append}
 use lib.IntN.{ℤ}
-use borrow.Author.Tests.{ltb-true, ltb-false, lt-ltb, le-leb, lt-leb}
+use borrow.Author.Tests.{ltb-true, ltb-false, le-leb, lt-leb}
 use Rattle.answer.specs.Answer.{Answer, refused, gives, check, with-value, Order, Crowd, Vector, Offset}
 use Rattle.answer.specs.Lent.{put}
 use Rattle.answer.proofs.AnswerLaws.{refused-gives, check-gives, same-value}
@@ -16,8 +16,7 @@ use Rattle.vector.specs.Vectors.{isVector}
 use Rattle.region.specs.declared.Halfspace.{Halfspace}
 use Rattle.region.specs.declared.reader.State.{State}
 use Rattle.region.specs.declared.reader.Outcome.{Outcome}
-use Rattle.region.specs.Regions.{Region}
-use Rattle.region.specs.Building.{lastConvex, total, withConvex, withHalfspace, begun, filled, fewConvexes, roomForHalfspace, isOffset, add}
+use Rattle.region.specs.Building.{lastConvex, total, withConvex, withHalfspace, begun, filled, fewConvexes, isOffset, add}
 use Rattle.region.specs.Rows.{row, rows}
 use Rattle.region.specs.Reader.{File, withRegion, convexIn, endIn}
 use Rattle.region.specs.Reading.{stateOf, goesOn, outcomeOf, Stands, Taken}

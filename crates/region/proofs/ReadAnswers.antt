@@ -1,8 +1,8 @@
 -- The file as a whole: its length, its header, its records. And the reader's answer: what the file says where the lent list has room for the rows,
 -- which then stand at the list's beginning. Assumes nothing.
-use Prim.Native.Nat.{ℕ, _+_, _-_, _*_, _≤_, _<_}
+use Prim.Native.Nat.{ℕ, _+_, _*_, _≤_, _<_}
 use native.Mathlib.Omega.{arith}
-use mathlib.Core.Path.{_≡_, refl, sym, ap, subst, _∙_}
+use mathlib.Core.Path.{_≡_, refl, sym, ap, _∙_}
 use mathlib.Core.Bool.{Bool, true, false}
 use mathlib.Core.List.{List, [], _∷_}
 use lib.Dec.{leb}
@@ -12,7 +12,7 @@ use lib.IntN.{ℤ}
 use borrow.Author.Tests.{le-leb, lt-leb}
 use Rattle.answer.specs.Answer.{Answer, refused, gives, check, then, with-value, Long, Depth, Budget, Space}
 use Rattle.answer.specs.Lent.{put, stored, room}
-use Rattle.answer.proofs.AnswerLaws.{refused-gives, same-value, value-gives, value-refused}
+use Rattle.answer.proofs.AnswerLaws.{refused-gives, value-gives, value-refused}
 use Rattle.vector.specs.Numbers.{isDepth}
 use Rattle.region.specs.declared.Halfspace.{Halfspace}
 use Rattle.region.specs.declared.Header.{Header}

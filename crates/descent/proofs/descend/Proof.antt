@@ -1,5 +1,5 @@
 -- `descent::descend` is the descent. The loop's invariant: what is left of it from here is what it was from the start. The measure is the levels left. Assumes nothing.
-use Prim.Native.Nat.{_-_, _≤_, _<_}
+use Prim.Native.Nat.{_-_, _≤_}
 use native.Mathlib.Omega.{arith}
 use Rattle.vector.specs.Vectors.{Small}
 use Rattle.descent.proofs.DescentLaws.{Descending, start, next, far-below, end}

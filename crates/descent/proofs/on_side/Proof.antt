@@ -1,8 +1,8 @@
 -- `descent::on_side` is the sign of Scale(c)·p: by c·p where that is beyond three times the largest component, else by Scale itself. Assumes nothing.
-use Prim.Native.Nat.{ℕ, _+_, _*_, _^_, _≤_}
+use Prim.Native.Nat.{_+_, _*_, _^_, _≤_}
 use mathlib.Core.Path.{_≡_, sym, ap, subst, subst₂, _∙_}
 use lib.Dec.{lit≤}
-use lib.IntN.{ℤ, pos, negℤ, _*ℤ_, _-ℤ_, +ℤ-idl}
+use lib.IntN.{pos, negℤ, _*ℤ_, _-ℤ_, +ℤ-idl}
 use lib.Signed.{leZ, _<ℤ_}
 use mir.Syntax.{w64}
 use mir.Val.{toZ, ofZ}

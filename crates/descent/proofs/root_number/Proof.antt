@@ -1,8 +1,6 @@
 -- `descent::root_number` is the root by the signs of the components. Assumes nothing.
-use mathlib.Core.Path.{ap, _∙_}
+use mathlib.Core.Path.{_∙_}
 use mathlib.Core.Bool.{cond}
-use lib.IntN.{pos}
-use lib.Signed.{leZ}
 use Rattle.algebra.proofs.Sized.{held}
 use Rattle.mesh.specs.Lookup.{notNegative, northRoot, southRoot, rootNumber}
 use Rattle.descent.proofs.root_number.Statement.{statement}
