@@ -21,3 +21,4 @@ pub mod OutcomeLaws
 pub mod ReadingLaws
 pub mod ReadAnswers
 pub mod PointAnswers
+pub mod CallsBack

@@ -19,7 +19,7 @@ use Rattle.region.specs.declared.reader.Outcome.{Outcome}
 use Rattle.region.specs.Building.{lastConvex, total, withConvex, withHalfspace, begun, filled, fewConvexes, isOffset, add}
 use Rattle.region.specs.Rows.{row, rows}
 use Rattle.region.specs.Reader.{File, withRegion, convexIn, endIn}
-use Rattle.region.specs.Reading.{stateOf, goesOn, outcomeOf, Stands, Taken}
+use Rattle.region.specs.Reading.{stateOf, outcomeAt, outcomeOf, Stands, Taken}
 use Rattle.region.proofs.RegionLaws.{convex-length, convex-last, convex-total, convex-rows, halfspace-length, halfspace-last, halfspace-total}
 use Rattle.region.proofs.RowLaws.{row-more}
 
@@ -29,7 +29,7 @@ module _ {before : List ℤ} {end : Bool} {next : ℕ} {a : Answer File} {rs : L
   pub taken-refused : (n : ℕ) → a ≡ refused n → Taken before end next a (Outcome.Refused n) rs
   taken-refused n e = record { outcome = ap (outcomeOf end next) (sym e); rows = λ y q. refused-gives n y (sym e ∙ q) }
 
-  pub taken-gives : (y : File) (o : Outcome) → a ≡ gives y → o ≡ goesOn end next (y .region) → rs ≡ put 0 (rows (y .region)) before → Taken before end next a o rs
+  pub taken-gives : (y : File) (o : Outcome) → a ≡ gives y → o ≡ outcomeAt end next (y .region) → rs ≡ put 0 (rows (y .region)) before → Taken before end next a o rs
   taken-gives y o e q r = record {
     outcome = q ∙ ap (outcomeOf end next) (sym e);
     rows = λ z p. r ∙ ap (λ v. put 0 (rows (v .region)) before) (same-value y z (sym e ∙ p));
@@ -44,35 +44,32 @@ module _ {before : List ℤ} {end : Bool} {next : ℕ} {a : Answer File} {rs : L
 -- ---- a convex
 
 module _ (s : State) (next : ℕ) (x : File) (e : s ≡ stateOf (s .at) (x .region)) where
-  more : Answer File
-  more = gives (withRegion x (withConvex (x .region)))
+  abbrev opened : Bool → Bool → Answer File
+  opened b c = check Order b (check Crowd c (gives (withRegion x (withConvex (x .region)))))
 
-  crowd : Answer File
-  crowd = check Crowd (fewConvexes (withConvex (x .region))) (gives (withRegion x (withConvex (x .region))))
-
-  begins : (b : Bool) → cond (ltb 0 (s .convexes)) (ltb 0 (s .last)) true ≡ b → cond (begun (x .region)) (filled (x .region)) true ≡ b
-  begins b h = subst (λ t. cond (ltb 0 (t .convexes)) (ltb 0 (t .last)) true ≡ b) e h
+  convex-is : (b c : Bool) → cond (ltb 0 (s .convexes)) (ltb 0 (s .last)) true ≡ b → fewConvexes (withConvex (x .region)) ≡ c → opened b c ≡ convexIn x
+  convex-is b c eb ec =
+      let p = subst (λ t. cond (ltb 0 (t .convexes)) (ltb 0 (t .last)) true ≡ b) e eb in
+      λ i. opened (sym p i) (sym ec i)
 
   pub convex-order : cond (ltb 0 (s .convexes)) (ltb 0 (s .last)) true ≡ false → Outcome.Refused Order ≡ outcomeOf false next (convexIn x)
-  unfolding crowd
-  convex-order h = ap (λ t. outcomeOf false next (check Order t crowd)) (sym (begins false h))
+  convex-order h = ap (outcomeOf false next) (convex-is false _ h refl)
 
-  pub convex-crowd : cond (ltb 0 (s .convexes)) (ltb 0 (s .last)) true ≡ true → ltb (s .convexes) 64 ≡ false → Outcome.Refused Crowd ≡ outcomeOf false next (convexIn x)
-  unfolding crowd more
-  convex-crowd h c =
-      let full : fewConvexes (withConvex (x .region)) ≡ false = lt-leb (length (withConvex (x .region))) 64 (omega (arith, convex-length (x .region), ltb-false (s .convexes) 64 c, ap (λ t. t .convexes) e)) in
-      (λ i. outcomeOf false next (check Order (sym (begins true h) i) (check Crowd (sym full i) more)))
+  -- the convexes with one more
+  grown : length (withConvex (x .region)) ≡ s .convexes + 1
+  grown = omega (arith, convex-length (x .region), ap (λ t. t .convexes) e)
 
-  pub convex-more : cond (ltb 0 (s .convexes)) (ltb 0 (s .last)) true ≡ true → s .convexes < 64
-      → Outcome.More (record { at = next; convexes = s .convexes + 1; last = 0; total = s .total }) ≡ outcomeOf false next (convexIn x)
-  unfolding crowd more
-  convex-more h c =
-      let few : fewConvexes (withConvex (x .region)) ≡ true = le-leb (length (withConvex (x .region))) 64 (omega (arith, convex-length (x .region), c, ap (λ t. t .convexes) e)) in
-      let n : s .convexes + 1 ≡ length (withConvex (x .region)) = omega (arith, convex-length (x .region), ap (λ t. t .convexes) e) in
-      let l : 0 ≡ length (lastConvex (withConvex (x .region))) = ap length (sym (convex-last (x .region))) in
-      let t : s .total ≡ total (withConvex (x .region)) = ap (λ v. v .total) e ∙ sym (convex-total (x .region)) in
-      (λ i. Outcome.More (record { at = next; convexes = n i; last = l i; total = t i }))
-      ∙ (λ i. outcomeOf false next (check Order (sym (begins true h) i) (check Crowd (sym few i) more)))
+  module _ (h : cond (ltb 0 (s .convexes)) (ltb 0 (s .last)) true ≡ true) where
+    pub convex-crowd : ltb (s .convexes) 64 ≡ false → Outcome.Refused Crowd ≡ outcomeOf false next (convexIn x)
+    convex-crowd c = ap (outcomeOf false next) (convex-is true false h (lt-leb (length (withConvex (x .region))) 64 (omega (arith, grown, ltb-false (s .convexes) 64 c))))
+
+    pub convex-more : s .convexes < 64
+        → Outcome.More (record { at = next; convexes = s .convexes + 1; last = 0; total = s .total }) ≡ outcomeOf false next (convexIn x)
+    convex-more c =
+        let l : 0 ≡ length (lastConvex (withConvex (x .region))) = ap length (sym (convex-last (x .region))) in
+        let t : s .total ≡ total (withConvex (x .region)) = ap (λ v. v .total) e ∙ sym (convex-total (x .region)) in
+        (λ i. Outcome.More (record { at = next; convexes = sym grown i; last = l i; total = t i }))
+        ∙ ap (outcomeOf false next) (convex-is true true h (le-leb (length (withConvex (x .region))) 64 (omega (arith, grown))))
 
 convex-kept : (x y : File) → convexIn x ≡ gives y → rows (y .region) ≡ rows (x .region)
 convex-kept x y e =

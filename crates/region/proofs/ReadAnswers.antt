@@ -1,6 +1,6 @@
 -- The file as a whole: its length, its header, its records. And the reader's answer: what the file says where the lent list has room for the rows,
 -- which then stand at the list's beginning. Assumes nothing.
-use Prim.Native.Nat.{ℕ, _+_, _*_, _≤_, _<_}
+use Prim.Native.Nat.{ℕ, _+_, _-_, _*_, _≤_, _<_}
 use native.Mathlib.Omega.{arith}
 use mathlib.Core.Path.{_≡_, refl, sym, ap, _∙_}
 use mathlib.Core.Bool.{Bool, true, false}
@@ -24,7 +24,7 @@ use Rattle.region.specs.Rows.{rows}
 use Rattle.region.specs.Reader.{File, after, header, recordsIn, read, Accepted}
 use Rattle.region.specs.Reader as reader
 use Rattle.region.specs.Answers.{headerOf, rowsInto, readInto, readAnswer, readAfter}
-use Rattle.region.specs.Reading.{fileOf}
+use Rattle.region.specs.Reading.{headedFile, recordsAfter}
 use Rattle.region.proofs.RegionLaws.{convex-total, halfspace-total, rows-length}
 use Rattle.region.proofs.AddLaws.{added}
 use Rattle.region.proofs.ReaderLaws.{header-says, accepted-keeps}
@@ -77,19 +77,19 @@ module _ (f : List ℕ) where
       pub header-bytes : 8 ≤ length f
       header-bytes = header-whole f (first .0) (first .1)
 
-      is-header : first .0 ≡ fileOf d
+      is-header : first .0 ≡ headedFile d
       is-header =
           let x = first .0 in
           λ i. record { depth = (first .2 i) .depth; budget = (first .2 i) .budget; region = header-says f x (first .1) .region i }
 
-      read-records : read f ≡ recordsIn (length f) (fileOf d) (drop 8 f)
+      read-records : read f ≡ recordsAfter d f
       read-records =
           read-is true (le-leb (length f) 10508 h)
           ∙ ap (λ a. then a (λ x. recordsIn (length f) x (after f))) (first .1)
           ∙ (λ i. recordsIn (length f) (is-header i) (drop (header-length f (first .0) (first .1) i) f))
 
-      pub records-said : (a : Answer Header) (before rs : List ℤ) → a ≡ with-value headerOf (recordsIn (length f) (fileOf d) (drop 8 f))
-          → ((x : File) → recordsIn (length f) (fileOf d) (drop 8 f) ≡ gives x → rs ≡ put 0 (rows (x .region)) before) → Said f a before rs
+      pub records-said : (a : Answer Header) (before rs : List ℤ) → a ≡ with-value headerOf (recordsAfter d f)
+          → ((x : File) → recordsAfter d f ≡ gives x → rs ≡ put 0 (rows (x .region)) before) → Said f a before rs
       records-said a before rs q k = (q ∙ ap (with-value headerOf) (sym read-records), λ x p. k x (sym read-records ∙ p))
 
 -- ---- an accepted file has at most 512 halfspaces

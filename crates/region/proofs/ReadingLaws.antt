@@ -19,7 +19,7 @@ use Rattle.region.specs.Building.{lastConvex, total}
 use Rattle.region.specs.Rows.{rowsFrom, rows}
 use Rattle.region.specs.Reader.{File, lengthOf, kindOf, after, recordIn, recordsIn}
 use Rattle.region.specs.Answers.{headerOf}
-use Rattle.region.specs.Reading.{fileOf, stateOf, outcomeOf, Stands, Taken, Recorded}
+use Rattle.region.specs.Reading.{stateOf, outcomeOf, Stands, Taken, Recorded, headedFile, recordsAfter}
 use Rattle.region.proofs.ReaderLaws.{record-keeps, record-whole, one-more}
 use Rattle.region.proofs.FrameLaws.{whole-says, after-at}
 
@@ -83,9 +83,6 @@ outcome-refused false next (gives y) n e = let z : _≡_ {A = ℕ} 0 1 = cc in a
 
 -- ---- the records after the header h
 
-abbrev answer : List ℕ → Header → Answer File
-answer f h = recordsIn (length f) (fileOf h) (drop 8 f)
-
 -- `file` is what has been read up to the state's place
 pub record Reading (f : List ℕ) (h : Header) (before rs : List ℤ) (s : State) : Type 0 where
   pub file : File
@@ -94,18 +91,18 @@ pub record Reading (f : List ℕ) (h : Header) (before rs : List ℤ) (s : State
   pub within : s .at ≤ length f
   pub room : length rs ≡ length before
   pub stands : Stands before (file .region) s rs
-  pub same : recordsIn (length (drop (s .at) f)) file (drop (s .at) f) ≡ answer f h
+  pub same : recordsIn (length (drop (s .at) f)) file (drop (s .at) f) ≡ recordsAfter h f
 
 pub reading-none : (f : List ℕ) (h : Header) (before : List ℤ) → 8 ≤ length f → Reading f h before before (record { at = 8; convexes = 0; last = 0; total = 0 })
 unfolding lastConvex total rows rowsFrom
 reading-none f h before l = record {
-  file = fileOf h;
+  file = headedFile h;
   depth = refl;
   budget = refl;
   within = l;
   room = refl;
   stands = record { state = refl; rows = refl };
-  same = enough (fileOf h) (drop 8 f) (length (drop 8 f)) (length f) (omega arith) (omega (arith, length-drop 8 f));
+  same = enough (headedFile h) (drop 8 f) (length (drop 8 f)) (length f) (omega arith) (omega (arith, length-drop 8 f));
 }
 
 module _ (f : List ℕ) (h : Header) (before rs : List ℤ) (s : State) (d : Reading f h before rs s) (o : Outcome) (rs′ : List ℤ) (r : Recorded f s rs o rs′) where
@@ -116,7 +113,7 @@ module _ (f : List ℕ) (h : Header) (before rs : List ℤ) (s : State) (d : Rea
   taken = r (d .file) before (d .stands)
 
   -- with a bound that is not 0
-  opened : recordsIn (suc (length (drop (s .at) f))) (d .file) (drop (s .at) f) ≡ answer f h
+  opened : recordsIn (suc (length (drop (s .at) f))) (d .file) (drop (s .at) f) ≡ recordsAfter h f
   opened = sym (one-more (length rest) (d .file) rest (omega arith)) ∙ d .same
 
   kept : (y : File) → recordIn (d .file) (drop (s .at) f) ≡ gives y → (y .depth ≡ h .depth) × (y .budget ≡ h .budget)
@@ -154,21 +151,21 @@ module _ (f : List ℕ) (h : Header) (before rs : List ℤ) (s : State) (d : Rea
         }
 
   pub reading-done : (n : ℕ) → o ≡ Outcome.Done n
-      → (gives (record { count = n; depth = h .depth; budget = h .budget }) ≡ with-value headerOf (answer f h))
-      × ((x : File) → answer f h ≡ gives x → rs′ ≡ put 0 (rows (x .region)) before)
+      → (gives (record { count = n; depth = h .depth; budget = h .budget }) ≡ with-value headerOf (recordsAfter h f))
+      × ((x : File) → recordsAfter h f ≡ gives x → rs′ ≡ put 0 (rows (x .region)) before)
   reading-done n e =
       let c = outcome-done _ _ _ n (sym e ∙ taken .outcome) in
       let y = c .file in
-      let a : answer f h ≡ gives y = sym opened ∙ ended (length rest) (d .file) rest y (c .gave) (c .ends) in
+      let a : recordsAfter h f ≡ gives y = sym opened ∙ ended (length rest) (d .file) rest y (c .gave) (c .ends) in
       let k = kept y (c .gave) in (
         (λ i. gives (record { count = c .count i; depth = sym (k .0) i; budget = sym (k .1) i })) ∙ ap (with-value headerOf) (sym a),
         λ x q. taken .rows y (c .gave) ∙ ap (λ z. put 0 (rows (z .region)) before) (same-value y x (sym a ∙ q)),
       )
 
   pub reading-refused : (n : ℕ) → o ≡ Outcome.Refused n
-      → (refused n ≡ with-value headerOf (answer f h))
-      × ((x : File) → answer f h ≡ gives x → rs′ ≡ put 0 (rows (x .region)) before)
+      → (refused n ≡ with-value headerOf (recordsAfter h f))
+      × ((x : File) → recordsAfter h f ≡ gives x → rs′ ≡ put 0 (rows (x .region)) before)
   reading-refused n e =
       let c = outcome-refused _ _ _ n (sym e ∙ taken .outcome) in
-      let a : answer f h ≡ refused n = sym opened ∙ stopped (length rest) (d .file) rest n c in
+      let a : recordsAfter h f ≡ refused n = sym opened ∙ stopped (length rest) (d .file) rest n c in
       (ap (with-value headerOf) (sym a), λ x q. refused-gives n x (sym a ∙ q))

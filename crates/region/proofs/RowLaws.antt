@@ -6,7 +6,7 @@ use native.Mathlib.Omega.{arith}
 use mathlib.Core.Path.{_≡_, sym, ap, _∙_}
 use mathlib.Core.List.{List, [], _∷_, _++_, append-assoc}
 use lib.ListN.{length, take, drop, set, getD, length-append}
-use lib.Seq.{sets-eq, take-append-seam, drop-append-add, drop-drop, length-take-le, paste, paste-zero, paste-suc, length-paste}
+use lib.Seq.{sets-eq, take-append-seam, drop-append-add, drop-drop, length-take-le, paste, paste-zero, paste-suc}
 use lib.IntN.{ℤ, pos}
 use mir.Syntax.{w32, w64}
 use mir.Val.{SFits, toZ, ofZ}
@@ -77,6 +77,3 @@ module _ (from before : List ℤ) where
 
   pub copied-all : (n : ℕ) → n ≤ length from → paste before 0 from n ≡ put 0 (take n from) before
   copied-all n h = ap (λ k. take n from ++ drop (0 + k) before) (sym (length-take-le n from h))
-
-  pub copied-length : (i : ℕ) → i ≤ length from → i ≤ length before → length (paste before 0 from i) ≡ length before
-  copied-length i h l = length-paste before 0 from i (omega arith) h

@@ -1,11 +1,12 @@
 -- What the parts of the reader give, in the terms of specs/Reader: the contracts of the functions below the two calls.
---   fileOf h               the file as its header says it, with no region yet
+--   frameOf rest           the length and the kind of the record that `rest` begins with, or the refusal 2 or 3
 --   stateOf at g           the reader's state: its place, and the counts of the region g read so far
---   frameOf rest           the length and the kind of a record, or the refusal 2 or 3
---   outcomeOf end next a   what the answer a of a record makes of the state, at the place `next` after the record; `end`: it is the end record
---   Stands                 state and array stand for a region: its counts, and its rows at the beginning of what the array was
---   Taken                  outcome and array after a record, by the record's answer
---   Recorded, HalfspaceTaken   a record, and the halfspace of one, taken by every region that state and array may stand for
+--   outcomeOf end next a   what a record with the answer a makes of the state, where the next record begins at `next`; `end`: it is the end record
+--   Stands before g s rs   the state s and the array rs stand for the region g: its counts, and its rows at the beginning of what the array was before
+--   Taken ..               outcome and array after a record, by the record's answer
+--   HalfspaceTaken ..      a halfspace is taken, whatever region state and array stand for
+--   Recorded ..            so is a record of the file
+--   recordsAfter h f       the records of the file f after its header h
 use Prim.Native.Nat.{ℕ, _+_}
 use mathlib.Core.Path.{_≡_}
 use mathlib.Core.Bool.{Bool, true, false, cond}
@@ -23,24 +24,22 @@ use Rattle.region.specs.declared.reader.Outcome.{Outcome}
 use Rattle.region.specs.Regions.{Region}
 use Rattle.region.specs.Building.{begun, lastConvex, total, add}
 use Rattle.region.specs.Rows.{rows}
-use Rattle.region.specs.Reader.{File, lengthOf, kindOf, whole, known, withRegion, recordIn}
-
-abbrev pub fileOf : Header → File
-fileOf h = record { depth = h .depth; budget = h .budget; region = [] }
-
-abbrev pub stateOf : ℕ → Region → State
-stateOf at g = record { at = at; convexes = length g; last = length (lastConvex g); total = total g }
+use Rattle.region.specs.Reader.{File, lengthOf, kindOf, whole, known, withRegion, recordIn, recordsIn}
 
 abbrev pub frameOf : List ℕ → Frame
 frameOf rest = cond (whole rest) (cond (known (kindOf rest) (lengthOf rest)) (Frame.Of (lengthOf rest) (kindOf rest)) (Frame.Refused Kind)) (Frame.Refused Torn)
 
-abbrev pub goesOn : Bool → ℕ → Region → Outcome
-goesOn true next g = Outcome.Done (total g)
-goesOn false next g = Outcome.More (stateOf next g)
+abbrev pub stateOf : ℕ → Region → State
+stateOf at g = record { at = at; convexes = length g; last = length (lastConvex g); total = total g }
+
+-- the count of the rows, or the state at the next record
+abbrev pub outcomeAt : Bool → ℕ → Region → Outcome
+outcomeAt true next g = Outcome.Done (total g)
+outcomeAt false next g = Outcome.More (stateOf next g)
 
 abbrev pub outcomeOf : Bool → ℕ → Answer File → Outcome
 outcomeOf end next (refused n) = Outcome.Refused n
-outcomeOf end next (gives y) = goesOn end next (y .region)
+outcomeOf end next (gives y) = outcomeAt end next (y .region)
 
 pub record Stands (before : List ℤ) (g : Region) (s : State) (rs : List ℤ) : Type 0 where
   pub state : s ≡ stateOf (s .at) g
@@ -57,3 +56,10 @@ HalfspaceTaken s next h rs o rs′ = (x : File) (before : List ℤ) → Stands b
 abbrev pub Recorded : List ℕ → State → List ℤ → Outcome → List ℤ → Type 0
 Recorded f s rs o rs′ = (x : File) (before : List ℤ) → Stands before (x .region) s rs
     → Taken before (eqb (kindOf (drop (s .at) f)) 4) (s .at + lengthOf (drop (s .at) f)) (recordIn x (drop (s .at) f)) o rs′
+
+-- the header's 8 bytes are read: depth and budget, and no region yet
+abbrev pub headedFile : Header → File
+headedFile h = record { depth = h .depth; budget = h .budget; region = [] }
+
+abbrev pub recordsAfter : Header → List ℕ → Answer File
+recordsAfter h f = recordsIn (length f) (headedFile h) (drop 8 f)

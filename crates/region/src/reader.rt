@@ -17,10 +17,9 @@ use vector::Vec3;
 ghost use mathlib.Core.Path.{_≡_};
 ghost use mathlib.Core.Bool.{true, false, cond, _&&_};
 ghost use mathlib.Core.List.{List};
-ghost use Prim.Native.Nat.{ℕ, _+_, _*_, _-_, _^_, _≤_, _<_};
-ghost use lib.Dec.{ltb, leb, eqb};
+ghost use Prim.Native.Nat.{ℕ, _+_, _*_, _-_, _≤_, _<_};
+ghost use lib.Dec.{ltb, eqb};
 ghost use lib.ListN.{length, take, drop};
-ghost use lib.IntN.{ℤ};
 ghost use Rattle.answer.specs.Answer.{gives, with-value};
 ghost use Rattle.answer.specs.Lent.{put};
 ghost use Rattle.vector.specs.Numbers.{isDepth};
@@ -29,11 +28,11 @@ ghost use Rattle.region.specs.Bytes as bytes;
 ghost use Rattle.region.specs.Budgets.{isBudget};
 ghost use Rattle.region.specs.Building.{isOffset};
 ghost use Rattle.region.specs.Rows.{row};
-ghost use Rattle.region.specs.Rows as rule;
+ghost use Rattle.region.specs.Rows as region;
 ghost use Rattle.region.specs.Reader.{File, whole, known, header, halfspaceOf, convexIn, endIn};
-ghost use Rattle.region.specs.Reader as reading;
+ghost use Rattle.region.specs.Reader as rule;
 ghost use Rattle.region.specs.Answers.{headerOf, headerGiven, readAnswer, readAfter};
-ghost use Rattle.region.specs.Reading.{stateOf, frameOf, outcomeOf, Recorded, HalfspaceTaken, fileOf};
+ghost use Rattle.region.specs.Reading.{stateOf, frameOf, outcomeOf, HalfspaceTaken, Recorded, recordsAfter};
 
 const LONGEST: usize = 10508;
 
@@ -139,14 +138,14 @@ fn frame_at(file: &[u8], at: usize) -> Frame
 
 // ---- the header
 
-// 5
+// 5: a depth from 1 to 12.
 fn is_depth(d: u32) -> bool
     ensures { λ t. ⌜ t ≡ isDepth d ⌝ }
 {
     1 <= d && d <= 12
 }
 
-// 6
+// 6: a budget of at most 2048.
 fn is_budget(b: u32) -> bool
     ensures { λ t. ⌜ t ≡ isBudget b ⌝ }
 {
@@ -156,7 +155,7 @@ fn is_budget(b: u32) -> bool
 // The payload of kind 1: depth and budget.
 fn header_payload(s: &[u8]) -> HeaderOf
     requires { ⌜ 4 ≤ length (now s) ⌝ }
-    ensures { λ r. ⌜ headerGiven r ≡ with-value headerOf (reading.headerOf (now (s .entry))) ⌝ }
+    ensures { λ r. ⌜ headerGiven r ≡ with-value headerOf (rule.headerOf (now (s .entry))) ⌝ }
 {
     let depth = word(s, 0);
     let budget = word(s, 2);
@@ -173,7 +172,7 @@ fn header_payload(s: &[u8]) -> HeaderOf
     })
 }
 
-// The first record, which is the header.
+// The first record: the header, or the refusal 2 to 6.
 fn header_in(file: &[u8]) -> HeaderOf
     ensures { λ r. ⌜ headerGiven r ≡ with-value headerOf (header (now (file .entry))) ⌝ }
 {
@@ -262,7 +261,7 @@ fn has_room_for_halfspace(s: State) -> bool
     s.total < 512
 }
 
-// 9
+// 9: an offset from −K to K.
 pub fn is_offset(d: i64) -> bool
     ensures { λ t. ⌜ t ≡ isOffset d ⌝ }
 {
@@ -347,7 +346,7 @@ fn end_in(s: State, following: usize) -> Outcome
 
 // ---- record by record
 
-// The record at the state's place.
+// The record at the state's place, by its kind.
 fn record_in(file: &[u8], s: State, rows: &mut [i32]) -> Outcome
     requires { ⌜ s .at ≤ length (now file) ⌝ }
     requires { ⌜ length (now rows) ≡ 2560 ⌝ }
@@ -374,12 +373,12 @@ fn record_in(file: &[u8], s: State, rows: &mut [i32]) -> Outcome
     }
 }
 
-// The records after the header h, to the end. Their rows are written from the beginning of `rows`.
+// The records after the header h, to the end; their rows are written from the beginning of `rows` on.
 fn records_in(file: &[u8], h: Header, rows: &mut [i32]) -> HeaderOf
     requires { ⌜ 8 ≤ length (now file) ⌝ }
     requires { ⌜ length (now rows) ≡ 2560 ⌝ }
-    ensures { λ r. ⌜ headerGiven r ≡ with-value headerOf (reading.recordsIn (length (now (file .entry))) (fileOf h) (drop 8 (now (file .entry)))) ⌝ }
-    ensures { λ r. ⌜ ((x : File) → reading.recordsIn (length (now (file .entry))) (fileOf h) (drop 8 (now (file .entry))) ≡ gives x → now (rows .exit) ≡ put 0 (rule.rows (x .region)) (now (rows .entry))) ⌝ }
+    ensures { λ r. ⌜ headerGiven r ≡ with-value headerOf (recordsAfter h (now (file .entry))) ⌝ }
+    ensures { λ r. ⌜ ((x : File) → recordsAfter h (now (file .entry)) ≡ gives x → now (rows .exit) ≡ put 0 (region.rows (x .region)) (now (rows .entry))) ⌝ }
 {
     let mut s = State {
         at: 8,
@@ -407,11 +406,11 @@ fn records_in(file: &[u8], h: Header, rows: &mut [i32]) -> HeaderOf
     }
 }
 
-// The one pass over a file that reader, point test and cover share: count, depth and budget, with the rows at the beginning of `rows`; or the refusal
-// of the first failed check, and then nothing is said of `rows`.
+// The one pass over a file that reader, point test and cover share: count, depth and budget, with the rows at the beginning of `rows`, where 512 rows
+// of five have room; or the refusal of the first failed check, and then nothing is said of `rows`.
 pub fn decode(file: &[u8], rows: &mut [i32; 2560]) -> HeaderOf
-    ensures { λ r. ⌜ headerGiven r ≡ with-value headerOf (reading.read (now (file .entry))) ⌝ }
-    ensures { λ r. ⌜ ((x : File) → reading.read (now (file .entry)) ≡ gives x → now (rows .exit) ≡ put 0 (rule.rows (x .region)) (now (rows .entry))) ⌝ }
+    ensures { λ r. ⌜ headerGiven r ≡ with-value headerOf (rule.read (now (file .entry))) ⌝ }
+    ensures { λ r. ⌜ ((x : File) → rule.read (now (file .entry)) ≡ gives x → now (rows .exit) ≡ put 0 (region.rows (x .region)) (now (rows .entry))) ⌝ }
 {
     if LONGEST < file.len() {
         return HeaderOf::Refused(LONG);
@@ -435,7 +434,7 @@ fn copy(from: &[i32], n: usize, to: &mut [i32])
     }
 }
 
-// Copies the first n elements of an array of rows.
+// The same from an array of 512 rows.
 fn copy_rows(from: &[i32; 2560], n: usize, to: &mut [i32])
     requires { ⌜ (n ≤ 2560) × (n ≤ length (now to)) ⌝ }
     ensures { λ _. ⌜ now (to .exit) ≡ put 0 (take n (now (from .entry))) (now (to .entry)) ⌝ }

@@ -1,10 +1,12 @@
 -- The loop's invariant: the first i elements are copied, and the others are as they were. The measure is what is left to copy. Assumes nothing.
-use Prim.Native.Nat.{_+_, _-_, _≤_}
+use Prim.Native.Nat.{_-_, _≤_}
 use native.Mathlib.Omega.{arith}
 use mathlib.Core.Path.{_≡_, refl, ap, _∙_}
-use lib.ListN.{length, set, length-set}
+use lib.ListN.{length, getD, set, length-set}
+use lib.IntN.{pos}
 use lib.Seq.{paste}
 use denote.Ref.{now}
+use mir.Syntax.{w32}
 use mir.Facts.{toZ-ofZ}
 use Rattle.region.proofs.RowLaws.{copied-none, copied-more, copied-all}
 use Rattle.region.proofs.reader.copy.Statement.{statement}
@@ -20,7 +22,7 @@ again : tie.Need-loop-again Inv-loop μ-loop
 again c =
     let a = c .before .before .before .args in
     let l = c .before .before .loop in
-    let v = toZ-ofZ (record { sfits = c .to .given }) in (
+    let v = toZ-ofZ {w = w32} {z = getD (now (a .from)) (l .i) (pos 0)} (record { sfits = c .to .given }) in (
       omega arith,
       length-set (l .to) (l .i) _ ∙ l .inv .1,
       (λ j. set (l .inv .2 j) (l .i) (v j)) ∙ copied-more (now (a .from)) (now (a .to)) (l .i) (omega arith) (omega arith),

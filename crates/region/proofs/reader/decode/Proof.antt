@@ -1,7 +1,6 @@
 -- `region::reader::decode` checks 1, reads the header, and then the records after its 8 bytes. Assumes nothing.
 use mathlib.Core.Path.{sym, ap, _∙_}
 use denote.Ref.{now}
-use borrow.Author.Needs.{needs}
 use Rattle.region.specs.Answers.{headerGiven}
 use Rattle.region.proofs.ReadAnswers.{long-said, header-refused, header-bytes, records-said}
 use Rattle.region.proofs.reader.decode.Statement.{statement}
@@ -35,8 +34,8 @@ decode-spec =
     (tie.spec
     (λ c. let a = c .before .before .args in long-said (now (a .file)) (now (a .rows)) _ (c .if1 .taken))
     (λ c κs. tt)
-    (λ c. search needs)
+    (λ c. c .match .keys1)
     wants
-    (λ c. search needs)
+    (λ c. c .match .keys2)
     gives
     refused)

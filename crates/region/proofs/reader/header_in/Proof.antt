@@ -5,7 +5,6 @@ use mathlib.Core.Path.{sym, ap, _∙_}
 use mathlib.Core.List.{List}
 use lib.ListN.{take, drop, length-take, length-drop}
 use denote.Ref.{now}
-use borrow.Author.Needs.{needs}
 use Rattle.answer.specs.Answer.{with-value}
 use Rattle.region.specs.Reader as reader
 use Rattle.region.specs.Answers.{headerOf}
@@ -38,8 +37,8 @@ header-in-spec =
     tie.close
     (tie.spec
     (λ c κs. omega arith)
-    (λ c. search needs)
-    (λ c. search needs)
+    (λ c. c .match .keys1)
+    (λ c. c .match .keys2)
     (λ c. ap (with-value headerOf) (sym (no-header _ _ _ (framed (c .before)) (c .if1 .taken))))
     (λ c. omega arith)
     (λ c. let l = of-kind-1 _ _ _ (framed (c .before)) (c .if1 .left) in omega arith)

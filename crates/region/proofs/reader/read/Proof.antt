@@ -2,7 +2,6 @@
 use native.Mathlib.Omega.{arith}
 use mathlib.Core.Path.{_≡_, sym, ap, _∙_}
 use denote.Ref.{now}
-use borrow.Author.Needs.{needs}
 use Rattle.answer.specs.Answer.{gives, with-value}
 use Rattle.region.specs.Reader as reader
 use Rattle.region.specs.Answers.{headerOf, headerGiven}
@@ -45,12 +44,12 @@ read-spec =
     tie.close
     (tie.spec
     (λ c κs. tt)
-    (λ c. search needs)
+    (λ c. c .match .keys1)
     (λ c. omega arith)
     (λ c. omega arith)
     space
     wants
-    (λ c. search needs)
+    (λ c. c .match .keys2)
     (λ c. c .before .copy-rows .kept .1 .1 .0)
     given
     refused)

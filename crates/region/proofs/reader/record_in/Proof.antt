@@ -1,15 +1,14 @@
 -- `region::reader::record_in` checks 2 and 3, and then reads the record by its kind; the payload of a halfspace is handed on as that part of the file. Assumes nothing.
-use Prim.Native.Nat.{ℕ, _+_, _-_, _*_}
+use Prim.Native.Nat.{ℕ, _+_}
 use native.Mathlib.Omega.{arith}
 use mathlib.Core.Path.{sym, ap, _∙_}
 use mathlib.Core.List.{List}
 use lib.ListN.{drop, length-take, length-drop}
 use denote.Ref.{now}
-use borrow.Author.Needs.{needs}
 use Rattle.answer.specs.Answer.{check, with-value, Order}
 use Rattle.region.specs.Building.{begun, add}
 use Rattle.region.specs.Reader.{withRegion, halfspaceOf, after}
-use Rattle.region.proofs.FrameLaws.{Framed, frame-says, record-refused, whole-says, end-within, left-after, payload-at, of-kind-3, header-again, convex-record, halfspace-record, end-record, is-end, is-no-end}
+use Rattle.region.proofs.FrameLaws.{Framed, frame-says, record-refused, end-within, left-after, payload-at, of-kind-3, header-again, convex-record, halfspace-record, end-record, is-end, is-no-end}
 use Rattle.region.proofs.OutcomeLaws.{taken-refused, taken-as, convex-taken, end-taken}
 use Rattle.region.proofs.reader.record_in.Statement.{statement}
 use Rattle.region.proofs.reader.record_in.Tie as tie
@@ -77,8 +76,8 @@ record-in-spec =
     tie.close
     (tie.spec
     (λ c κs. c .before .pre .0)
-    (λ c. search needs)
-    (λ c. search needs)
+    (λ c. c .match .keys1)
+    (λ c. c .match .keys2)
     (λ c. omega arith)
     (λ c. omega arith)
     (λ c. omega arith)

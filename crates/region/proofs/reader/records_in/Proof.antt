@@ -4,7 +4,6 @@ use native.Mathlib.Omega.{arith}
 use mathlib.Core.Path.{_≡_, _∙_}
 use lib.ListN.{length}
 use denote.Ref.{now}
-use borrow.Author.Needs.{needs}
 use Rattle.region.proofs.ReadingLaws.{Reading, reading-none, reading-further, reading-more, reading-done, reading-refused}
 use Rattle.region.proofs.reader.records_in.Statement.{statement}
 use Rattle.region.proofs.reader.records_in.Tie as tie
@@ -54,12 +53,12 @@ records-in-spec =
     μ-loop
     (λ c. let a = c .before .args in (c .before .pre .1, reading-none (now (a .file)) (a .h) (now (a .rows)) (c .before .pre .0)))
     (λ c κs. let l = c .before .loop in (l .inv .1 .within, l .inv .1 .room ∙ l .inv .0))
-    (λ c. search needs)
+    (λ c. c .match .keys1)
     less
     more
-    (λ c. search needs)
+    (λ c. c .match .keys2)
     (λ c. let r = c .before .before .before .before in r .record-in .kept .1 .1 .0 ∙ r .before .before .loop .inv .1 .room)
     done
-    (λ c. search needs)
+    (λ c. c .match .keys3)
     (λ c. let r = c .before .before .before .before in r .record-in .kept .1 .1 .0 ∙ r .before .before .loop .inv .1 .room)
     refused)

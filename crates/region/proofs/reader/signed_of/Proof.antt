@@ -16,5 +16,5 @@ signed-of-spec =
     (tie.spec
     (λ c. record { sfits = omega arith })
     (λ c. fits-sub (held (c .before .args .n) (omega arith)) (lit 4294967296 tt) tt)
-    (λ c. rw (lt-ltb (c .before .args .n) 2147483648 (c .if1 .taken)) (held (c .before .args .n) (omega arith) .eq))
-    (λ c. rw (le-ltb (c .before .args .n) 2147483648 (c .if1 .left)) (is-sub (held (c .before .args .n) (omega arith)) (lit 4294967296 tt) tt .eq)))
+    (λ c. rw (lt-ltb (c .before .args .n) 2147483648 (omega arith)) (held (c .before .args .n) (omega arith) .eq))
+    (λ c. rw (le-ltb (c .before .args .n) 2147483648 (omega arith)) (is-sub (held (c .before .args .n) (omega arith)) (lit 4294967296 tt) tt .eq)))
