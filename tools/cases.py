@@ -8,6 +8,7 @@ import re
 from math import gcd, isqrt
 
 import htm
+import region_cases as regions
 from htm import K, Refused
 
 HOME = pathlib.Path(__file__).resolve().parent.parent / 'crates' / 'query'
@@ -46,11 +47,24 @@ def identifier(words):
     return str(htm.id_of(words[0].decode('latin-1')))
 
 
+def file(words):
+    numbers = [number(w, False, 0, 2**32 - 1) for w in words[:2]] + [number(w, True, -2**31, 2**31 - 1) for w in words[2:]]
+    return regions.file_answer(numbers)
+
+
+def holds(words):
+    point = [number(w, True, -2**31, 2**31 - 1) for w in words[1:]]
+    return regions.holds_answer(words[0], point) if words else 'usage'
+
+
 COMMANDS = {
     b'lookup': lookup,
     b'name': with_identifier(htm.name_of),
     b'id': identifier,
     b'corners': with_identifier(lambda i: ' '.join(str(c) for v in htm.corners(i) for c in v)),
+    b'rows': regions.rows_answer,
+    b'file': file,
+    b'holds': holds,
 }
 
 
@@ -377,9 +391,14 @@ def long_lines():
     yield b'id N' + b'3' * (LINE - 4)
 
 
+def points():
+    yield from regions.points(DRAWS, direction)
+
+
 def cases():
     groups = (document_01, document_000, depths, borders, corners_and_middles, ties, lengths, octants, anywhere, no_vectors, identifiers, names,
-              trixel_corners, odd_numbers, other_shapes, long_lines)
+              trixel_corners, regions.damaged, regions.two_faults, regions.limits, regions.edges, regions.writer_rows, points, regions.region_shapes,
+              odd_numbers, other_shapes, long_lines)
     for group in groups:
         yield from group()
     yield b'id N00000000000'                        # the last line, which ends without a line feed

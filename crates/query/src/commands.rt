@@ -4,15 +4,16 @@ use crate::arguments;
 use crate::arguments::NaturalAt;
 use crate::arguments::PointAt;
 use crate::numbers::Natural;
+use crate::numbers::least;
 use crate::print;
 use crate::print::Buffer;
+use crate::regions;
 use crate::words;
 use answer::Number;
 use check::same;
 use mesh::Corners;
 use mesh::CornersOf;
 use vector::Vec3;
-ghost use Prim.Native.Nat.{_≤_};
 
 pub fn answer(line: &[u8], out: &mut Buffer, at: usize) -> usize {
     let word = words::word(line, 0);
@@ -28,6 +29,15 @@ pub fn answer(line: &[u8], out: &mut Buffer, at: usize) -> usize {
     }
     if same(word, b"corners") {
         return corners(line, next, out, at);
+    }
+    if same(word, b"rows") {
+        return regions::rows(line, next, out, at);
+    }
+    if same(word, b"file") {
+        return regions::file(line, next, out, at);
+    }
+    if same(word, b"holds") {
+        return regions::holds(line, next, out, at);
     }
     print::usage(out, at)
 }
@@ -100,12 +110,6 @@ fn print_name(out: &mut Buffer, at: usize, i: u64) -> usize {
         },
         Number::Refused(n) => print::refused(out, at, n),
     }
-}
-
-fn least(n: u64, most: usize) -> usize
-    ensures { λ r. ⌜ r ≤ most ⌝ }
-{
-    if n < most as u64 { n as usize } else { most }
 }
 
 fn print_corners(out: &mut Buffer, at: usize, c: Corners) -> usize {

@@ -4,13 +4,19 @@
 //   name ID              the name of an identifier
 //   id NAME              the identifier of a name
 //   corners ID           nine numbers: v0 v1 v2, each x y z
+//   rows HEX             depth, budget and count of a region file, and the numbers of its rows
+//   file DEPTH BUDGET N1 N2 ..   the region file of rows of five numbers each, in hexadecimal digits
+//   holds HEX X Y Z      whether the region of a file holds a pointing: yes or no
 //
 // A refusal is answered `refused N`, a line of another shape `usage`. Words are parted by one blank; numbers are decimal, X Y Z with an
-// optional minus. A line ends with a line feed; the last line may do without. A line of more than 65536 bytes is of another shape.
+// optional minus. HEX is a file in hexadecimal digits, or `-` for one with no bytes. A line ends with a line feed; the last line may do
+// without. A line of more than 65536 bytes is of another shape.
 mod arguments;
 mod commands;
+mod lists;
 mod numbers;
 mod print;
+mod regions;
 mod words;
 
 use libc::STDIN_FILENO;
