@@ -1,0 +1,23 @@
+-- `wide::less` goes by the upper words, and where they are equal by the lower ones. Assumes nothing.
+use borrow.Author.Needs.{needs}
+use native.Mathlib.Nat.{le-of-lt}
+use native.Mathlib.Omega.{arith}
+use Rattle.wide.specs.Value.{valueOf}
+use Rattle.wide.proofs.WordLaws.{same-test, upper}
+use Rattle.wide.proofs.less.Statement.{statement}
+use Rattle.wide.proofs.less.Tie as tie
+
+returns : tie.Need-returns
+returns c =
+    let x = c .before .before .before .before .before .args in
+    same-test (x .a .lo) (x .b .lo) (valueOf (x .a)) (valueOf (x .b)) (λ h. omega arith) (λ h. omega arith)
+
+returns-2 : tie.Need-returns-2
+returns-2 c =
+    let x = c .before .before .before .before .before .args in
+    same-test (x .a .hi) (x .b .hi) (valueOf (x .a)) (valueOf (x .b))
+    (λ h. upper (x .a .hi) (x .a .lo) (x .b .hi) (x .b .lo) (search needs) h)
+    (λ h. le-of-lt (upper (x .b .hi) (x .b .lo) (x .a .hi) (x .a .lo) (search needs) (omega arith)))
+
+pub less-spec : {M : Type 1} → statement M
+less-spec = tie.close (tie.spec returns returns-2)

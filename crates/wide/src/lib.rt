@@ -1,0 +1,79 @@
+// Unsigned numbers of two words. The squares that classifying compares pass 64 bits. The rules stand in specs/.
+ghost use mathlib.Core.Path.{_≡_};
+ghost use Prim.Native.Nat.{_+_, _*_, _^_, _<_, _≤_};
+ghost use lib.Dec.{ltb, leb};
+ghost use Rattle.wide.specs.Value.{valueOf};
+
+pub struct Wide {
+    pub hi: u64,
+    pub lo: u64,
+}
+
+// A product of two halves of a word. A function of its own, so that its caller's needs are linear.
+fn mul32(a: u64, b: u64) -> u64
+    requires { ⌜ (a < 2 ^ 32) × (b < 2 ^ 32) ⌝ }
+    ensures { λ r. ⌜ (r ≡ a * b) × (r ≤ 18446744065119617025) ⌝ }
+{
+    a * b
+}
+
+// The product of two words, by four products of their halves.
+pub fn product(u: u64, v: u64) -> Wide
+    ensures { λ r. ⌜ valueOf r ≡ u * v ⌝ }
+{
+    let u0 = u % 0x1_0000_0000;
+    let u1 = u / 0x1_0000_0000;
+    let v0 = v % 0x1_0000_0000;
+    let v1 = v / 0x1_0000_0000;
+    let p00 = mul32(u0, v0);
+    let p10 = mul32(u1, v0);
+    let p01 = mul32(u0, v1);
+    let p11 = mul32(u1, v1);
+    let t = p10 + p00 / 0x1_0000_0000;
+    let w = t % 0x1_0000_0000 + p01;
+    let hi = p11 + t / 0x1_0000_0000 + w / 0x1_0000_0000;
+    let lo = w % 0x1_0000_0000 * 0x1_0000_0000 + p00 % 0x1_0000_0000;
+    Wide { hi: hi, lo: lo }
+}
+
+// A sum that fits two words. Where the lower words pass one word, one is carried.
+pub fn sum(a: Wide, b: Wide) -> Wide
+    requires { ⌜ valueOf a + valueOf b < 2 ^ 128 ⌝ }
+    ensures { λ r. ⌜ valueOf r ≡ valueOf a + valueOf b ⌝ }
+{
+    let room = 0xFFFF_FFFF_FFFF_FFFF - b.lo;
+    if a.lo <= room {
+        return Wide {
+            hi: a.hi + b.hi,
+            lo: a.lo + b.lo,
+        };
+    }
+    Wide {
+        hi: a.hi + b.hi + 1,
+        lo: a.lo - room - 1,
+    }
+}
+
+// A product with a word that fits two words.
+pub fn times(a: Wide, n: u64) -> Wide
+    requires { ⌜ valueOf a * n < 2 ^ 128 ⌝ }
+    ensures { λ r. ⌜ valueOf r ≡ valueOf a * n ⌝ }
+{
+    let low = product(a.lo, n);
+    let high = a.hi * n;
+    Wide {
+        hi: low.hi + high,
+        lo: low.lo,
+    }
+}
+
+// Whether a is less than b: by the upper words, and where they are equal by the lower ones.
+pub fn less(a: Wide, b: Wide) -> bool
+    ensures { λ t. ⌜ t ≡ ltb (valueOf a) (valueOf b) ⌝ }
+{
+    if a.hi == b.hi {
+        a.lo < b.lo
+    } else {
+        a.hi < b.hi
+    }
+}
