@@ -1,5 +1,5 @@
 // Nanoseconds per lookup at depth 12 over a million random vectors: the proved library through its C entry, and the literal implementation.
-// Every answer of the library is compared with the literal one on a part of the vectors.
+// Of both the best of five rounds; the literal one runs over a part of the vectors, on which every answer is compared.
 #include "literal.hpp"
 #include "../include/htm.h"
 #include <random>
@@ -26,9 +26,12 @@ int main()
         asm volatile("" ::"r"(sum));
     }
     std::vector<uint64_t> id(part);
-    auto t = now();
-    for (int i = 0; i < part; i++) literal::lookup(p[3 * i], p[3 * i + 1], p[3 * i + 2], 12, id[i]);
-    double slow = ns(t, now(), part);
+    double slow = 1e9;
+    for (int round = 0; round < 5; round++) {
+        auto t = now();
+        for (int i = 0; i < part; i++) literal::lookup(p[3 * i], p[3 * i + 1], p[3 * i + 2], 12, id[i]);
+        slow = std::min(slow, ns(t, now(), part));
+    }
     int bad = 0;
     for (int i = 0; i < part; i++) bad += lookup(p[3 * i], p[3 * i + 1], p[3 * i + 2], 12) != id[i];
     printf("lookup at depth 12: proved %.0f ns, literal %.0f ns; %d of %d answers differ\n", best, slow, bad, part);
