@@ -61,7 +61,7 @@ pub fn read(file: &[u8], rows: &mut [i32]) -> HeaderOf
     ensures { λ r. ⌜ headerGiven r ≡ readAnswer (now (file .entry)) (now (rows .entry)) ⌝ }
     ensures { λ r. ⌜ now (rows .exit) ≡ readAfter (now (file .entry)) (now (rows .entry)) ⌝ }
 {
-    region::reader::read(file, rows)
+    files::reader::read(file, rows)
 }
 
 // The region file of some rows, written at the beginning of `out`, and its length; refusals 5, 6, then 4, 7, 8, 9 row by row, then 10.
@@ -69,14 +69,14 @@ pub fn write(depth: u32, budget: u32, rows: &[i32], out: &mut [u8]) -> Number
     ensures { λ r. ⌜ numberOf r ≡ writeAnswer depth budget (now (rows .entry)) (now (out .entry)) ⌝ }
     ensures { λ r. ⌜ now (out .exit) ≡ writeAfter depth budget (now (rows .entry)) (now (out .entry)) ⌝ }
 {
-    region::writer::write(depth, budget, rows, out)
+    files::writer::write(depth, budget, rows, out)
 }
 
 // The point test: whether the region of a file holds a pointing; the file's refusals, then 8.
 pub fn holds(file: &[u8], x: i32, y: i32, z: i32) -> HeldOf
     ensures { λ r. ⌜ heldGiven r ≡ pointTest (now (file .entry)) (vec x y z) ⌝ }
 {
-    region::points::point_test(file, pointing(x, y, z))
+    files::points::point_test(file, pointing(x, y, z))
 }
 
 // The lookup for a host in C: the identifier, or 0 for a refusal.

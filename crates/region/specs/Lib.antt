@@ -7,6 +7,3 @@ pub mod Reader
 pub mod Writer
 pub mod RoundTrip
 pub mod Answers
-pub mod Points
-pub mod Writing
-pub mod Reading

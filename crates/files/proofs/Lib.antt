@@ -1,0 +1,12 @@
+pub mod PointLaws
+pub mod PutLaws
+pub mod CountLaws
+pub mod CheckingPass
+pub mod WritingPass
+pub mod WriterLaws
+pub mod FrameLaws
+pub mod RowLaws
+pub mod OutcomeLaws
+pub mod ReadingLaws
+pub mod ReadAnswers
+pub mod PointAnswers
