@@ -128,3 +128,14 @@ cancel-≡ {a} {b} {c} h e = ≤ℤ-antisym
     (prove 3
     (λ a b c. record { given = (`0 :< c) ∷ (c :* b :≡ c :* a) ∷ (a :< b) ∷ []; goal = `1 :≤ `0; cert = hyp 1 ⊕ hyp 0 ⊗ hyp 2 ⊕ hyp 0 ⊕ hyp 2 })
     refl a b c h (sym e)))
+
+-- s is positive and s² ≤ n m: m is positive
+pub factor-positive : (s n m : ℤ) → pos 0 <ℤ s → (s *ℤ s) ≤ℤ (n *ℤ m) → pos 0 ≤ℤ n → pos 0 <ℤ m
+factor-positive s n m h k l = <ℤ-by-no
+    (prove 3
+    (λ s n m. record {
+      given = (`0 :< s) ∷ (s :* s :≤ n :* m) ∷ (`0 :≤ n) ∷ (m :≤ `0) ∷ [];
+      goal = `1 :≤ `0;
+      cert = hyp 1 ⊕ hyp 2 ⊗ hyp 3 ⊕ hyp 0 ⊗ hyp 0 ⊕ nat 2 ⊗ hyp 0;
+    })
+    refl s n m h k l)

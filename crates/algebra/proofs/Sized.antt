@@ -3,10 +3,10 @@
 use Prim.Native.Nat.{ℕ, zero, suc, _+_, _-_, _*_, _^_, _≤_, _<_}
 use native.Mathlib.Nat.{le-refl, le-trans, lt-of-le-of-lt, mul-le-mul, add-le-add, div-le-self, lt-trans}
 use native.Mathlib.Omega.{arith}
-use mathlib.Core.Path.{_≡_, refl, sym, subst, _∙_}
-use mathlib.Core.Bool.{Bool, true, false, cond, true≢false}
+use mathlib.Core.Path.{_≡_, refl, sym, ap, subst, _∙_}
+use mathlib.Core.Bool.{Bool, true, false, cond, not, true≢false}
 use borrow.Author.Tests.{ltb-true}
-use lib.Dec.{T, ltb, ltb→lt, le→leb, lit<}
+use lib.Dec.{T, leb, ltb, ltb→lt, le→leb, leb·suc-zero, lit<}
 use lib.IntN.{ℤ, pos, negsuc, natAbs, negℤ, _+ℤ_, _-ℤ_, _*ℤ_}
 use lib.Signed.{mag, quotZ, ltZ, leZ, _≤ℤ_, leZ-yes, nonNeg}
 use mir.Syntax.{Width, w32, w64}
@@ -43,6 +43,15 @@ natAbs-quot (pos a) (pos b) = div-le-self a b
 natAbs-quot (pos a) (negsuc b) = rw natAbs-neg (div-le-self a (suc b))
 natAbs-quot (negsuc a) (pos b) = rw natAbs-neg (div-le-self (suc a) b)
 natAbs-quot (negsuc a) (negsuc b) = div-le-self (suc a) (suc b)
+
+-- a² b ≤ c², by sizes
+pub squares-by-size : (a b c : ℤ) → T (nonNeg b) → leb (natAbs a * natAbs a * natAbs b) (natAbs c * natAbs c) ≡ leZ (a *ℤ a *ℤ b) (c *ℤ c)
+squares-by-size (pos a) (pos b) (pos c) t = refl
+squares-by-size (pos a) (pos b) (negsuc c) t = refl
+squares-by-size (negsuc a) (pos b) (pos c) t = refl
+squares-by-size (negsuc a) (pos b) (negsuc c) t = refl
+squares-by-size (pos a) (negsuc b) c t = absurd t
+squares-by-size (negsuc a) (negsuc b) c t = absurd t
 
 pub upto-mono : {m n : ℕ} {z : ℤ} → m ≤ n → Upto m z → Upto n z
 upto-mono h p = record { le = le-trans (p .le) h }
@@ -118,9 +127,25 @@ pub taken-from-zero : (z : ℤ) → ltZ z (pos 0) ≡ true → T (nonNeg (pos 0 
 taken-from-zero (pos n) e = absurd (omega (arith, ltb-true n 0 e))
 taken-from-zero (negsuc n) e = tt
 
+-- the sign of a number that is tested by its bits
+sign-tested : (z : ℤ) → nonNeg z ≡ not (ltZ z (pos 0))
+sign-tested (pos n) = rw (leb·suc-zero n)
+sign-tested (negsuc n) = refl
+
+pub sign-held : {z : ℤ} {t : Bool} → SFits w64 z → ltZ (toZ w64 (ofZ w64 z)) (pos 0) ≡ t → nonNeg z ≡ not t
+sign-held {z} h e = sign-tested z ∙ ap not (sym (ap (λ v. ltZ v (pos 0)) (toZ-ofZ h)) ∙ e)
+
 -- what a cast to a number without a sign asks
 pub fits-cast : {b n : ℕ} {z : ℤ} → Is b z n → T (nonNeg z) → T (ltb n (2 ^ 63)) → T (nonNeg (toZ w64 b)) × Fits w64 (natAbs (toZ w64 b))
 fits-cast {n = n} p h t = subst (λ v. T (nonNeg v) × Fits w64 (natAbs v)) (sym (p .eq)) (h, fits-le (p .size .le) (record { fits = lt-trans (ltb→lt n (2 ^ 63) t) (lit< tt) }))
+
+-- the same of a number that was found to be above 0
+above-zero : (z : ℤ) → leZ z (pos 0) ≡ false → T (nonNeg z)
+above-zero (pos n) e = tt
+above-zero (negsuc n) e = absurd (true≢false e)
+
+pub fits-tested : {b n : ℕ} {z : ℤ} → Is b z n → leZ (toZ w64 b) (pos 0) ≡ false → T (ltb n (2 ^ 63)) → T (nonNeg (toZ w64 b)) × Fits w64 (natAbs (toZ w64 b))
+fits-tested {b = b} p e t = fits-cast p (subst (λ v. T (nonNeg v)) (p .eq) (above-zero (toZ w64 b) e)) t
 
 -- a signed 32-bit number that is cast to 64 bits: it fits, and is the same number
 pub fits-wider : {z : ℤ} → SFits w32 z → SFits w64 (toZ w32 (ofZ w32 z))

@@ -1,10 +1,12 @@
--- Tests and what they say: Booleans joined by &&, the order tests of ℤ, tests over lists. Assumes nothing.
+-- Tests and what they say: Booleans joined by &&, the order tests of ℕ and of ℤ, tests over lists. Assumes nothing.
+use Prim.Native.Nat.{ℕ, _*_, _≤_}
 use mathlib.Core.Path.{_≡_, refl, sym, subst, _∙_}
-use mathlib.Core.Bool.{Bool, true, false, _&&_, _||_, true≢false, false≢true}
+use mathlib.Core.Bool.{Bool, true, false, not, _&&_, _||_, true≢false, false≢true}
 use mathlib.Core.List.{List, [], _∷_}
-use lib.Dec.{T}
-use lib.IntN.{ℤ}
-use lib.Signed.{leZ, ltZ, _≤ℤ_, _<ℤ_, leZ-yes, ltZ-yes, clashℤ}
+use borrow.Author.Tests.{ltb-true, ltb-false, le-leb, lt-leb}
+use lib.Dec.{T, leb, ltb}
+use lib.IntN.{ℤ, pos, negsuc, natAbs, _*ℤ_}
+use lib.Signed.{leZ, ltZ, nonNeg, _≤ℤ_, _<ℤ_, leZ-yes, ltZ-yes, clashℤ}
 use Rattle.algebra.proofs.Order.{by-order}
 use Rattle.algebra.specs.Lists.{every, some}
 
@@ -53,9 +55,35 @@ pub and-no-right : (a : Bool) {b : Bool} → b ≡ false → a && b ≡ false
 and-no-right true e = e
 and-no-right false e = refl
 
+-- two tests each of three things: three things by both tests
+pub and-pairs : (a b c x y z : Bool) → (a && (b && c)) && (x && (y && z)) ≡ (a && x) && ((b && y) && (c && z))
+and-pairs false b c x y z = refl
+and-pairs true b c false y z = and-no-right (b && c) refl
+and-pairs true false c true y z = refl
+and-pairs true true c true false z = and-no-right c refl
+and-pairs true true false true true z = refl
+and-pairs true true true true true z = refl
+
 pub split {ℓ} : (t : Bool) {X : Type ℓ} → (t ≡ true → X) → (t ≡ false → X) → X
 split true f g = f refl
 split false f g = g refl
+
+-- ---- the order of ℕ
+
+-- a test that passes below what it passes fails above what it fails
+pub fails-above : (f : ℕ → Bool) → ((a b : ℕ) → a ≤ b → f b ≡ true → f a ≡ true) → {m n : ℕ} → m ≤ n → f m ≡ false → f n ≡ false
+fails-above f down {m} {n} h e = split (f n) (λ t. absurd (true≢false (sym (down m n h t) ∙ e))) (λ t. t)
+
+-- a square against a product, by the sizes of numbers that have no sign
+pub by-sizes : (m p q : ℤ) → T (nonNeg m) → T (nonNeg p) → T (nonNeg q) → ltb (natAbs p * natAbs q) (natAbs m * natAbs m) ≡ ltZ (p *ℤ q) (m *ℤ m)
+by-sizes (pos m) (pos p) (pos q) h k l = refl
+by-sizes (pos m) (pos p) (negsuc q) h k l = absurd l
+by-sizes (pos m) (negsuc p) q h k l = absurd k
+by-sizes (negsuc m) p q h k l = absurd h
+
+-- at most is not greater
+pub not-less : (a b : ℕ) → not (ltb b a) ≡ leb a b
+not-less a b = split (ltb b a) (λ e. rw e (sym (lt-leb a b (ltb-true b a e)))) (λ e. rw e (sym (le-leb a b (ltb-false b a e))))
 
 -- ---- the order of ℤ
 

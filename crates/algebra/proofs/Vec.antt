@@ -3,9 +3,10 @@ use mathlib.Core.Path.{_≡_, refl}
 use mathlib.Core.List.{List, [], _∷_, _++_}
 use Prim.Native.Nat.{ℕ, zero, suc}
 use lib.IntN.{ℤ, pos, _+ℤ_, _-ℤ_, _*ℤ_}
-use lib.Signed.{_≤ℤ_}
+use lib.Signed.{_≤ℤ_, _<ℤ_}
 use Rattle.algebra.proofs.Ring.{Expr, var, con, _:+_, _:-_, _:*_, nil}
-use Rattle.algebra.proofs.Claim.{Fact, _:≤_, _:≡_, nat, sq, _⊕_, Holds, Claim, Proves, leftover, leftover-of, prove-at}
+use Rattle.algebra.proofs.Claim.{Fact, _:≤_, _:≡_, nat, hyp, sq, _⊕_, Holds, Claim, Proves, leftover, leftover-of, prove, prove-at}
+use Rattle.algebra.proofs.Inequalities.{cancel-≤ℤ, factor-positive}
 
 pub record V3 : Type 0 where
   pub x : ℤ
@@ -86,3 +87,12 @@ cauchy-schwarz = proveV 2
 
 pub dot-nn : (a : V3) → pos 0 ≤ℤ dot a a
 dot-nn = proveV 1 (λ a. record { given = []; goal = con (pos 0) :≤ dotE a a; cert = sq (a .x) ⊕ sq (a .y) ⊕ sq (a .z) }) refl
+
+-- a vector reaches no further than its length: 0 < f·r and G² (r·r) ≤ (f·r)² give G² ≤ f·f
+pub reach-at-most : (f r : V3) (G : ℤ) → pos 0 <ℤ dot f r → (G *ℤ G *ℤ dot r r) ≤ℤ (dot f r *ℤ dot f r) → (G *ℤ G) ≤ℤ dot f f
+reach-at-most f r G h k =
+    let c = cauchy-schwarz f r in
+    cancel-≤ℤ (factor-positive (dot f r) (dot f f) (dot r r) h c (dot-nn f))
+    (prove 4
+    (λ G s n m. record { given = (G :* G :* n :≤ s :* s) ∷ (s :* s :≤ m :* n) ∷ []; goal = n :* (G :* G) :≤ n :* m; cert = hyp 0 ⊕ hyp 1 })
+    refl G (dot f r) (dot r r) (dot f f) k c)

@@ -2,8 +2,8 @@
 -- Code that finds E by any means meets the rule with these two tests. Assumes nothing.
 use Prim.Native.Nat.{ℕ, _+_, _≤_, _<_}
 use native.Mathlib.Omega.{arith}
-use mathlib.Core.Path.{_≡_, refl, sym, ap, _∙_}
-use mathlib.Core.Bool.{true, false, _&&_, true≢false}
+use mathlib.Core.Path.{_≡_, refl, ap}
+use mathlib.Core.Bool.{true, false, _&&_}
 use mathlib.Core.List.{[], _∷_}
 use lib.Dec.{le→leb}
 use lib.IntN.{ℤ, pos, _*ℤ_}
@@ -13,7 +13,7 @@ use Rattle.algebra.proofs.Claim.{_:≤_, nat, hyp, _⊕_, _⊗_, prove}
 use Rattle.algebra.proofs.Order.{nn-pos}
 use Rattle.algebra.proofs.Inequalities.{`0}
 use Rattle.algebra.proofs.Vec.{dot-nn}
-use Rattle.algebra.proofs.Tests.{split, and-left, and-right, and-both, le-yes, yes-le}
+use Rattle.algebra.proofs.Tests.{and-left, and-right, and-both, le-yes, yes-le, fails-above}
 use Rattle.vector.specs.declared.Vec3.{Vec3}
 use Rattle.vector.specs.Numbers.{Kℕ}
 use Rattle.vector.specs.Vectors.{dot}
@@ -47,6 +47,4 @@ unfolding EOf
 E-is t e h here next = ap pos (greatest-is (λ n. reaches (bOf t) (pos n) t) Kℕ e h here above)
   where
     above : (k : ℕ) → e < k → k ≤ Kℕ → reaches (bOf t) (pos k) t ≡ false
-    above k l u = split (reaches (bOf t) (pos k) t)
-        (λ r. absurd (true≢false (sym (reaches-down (bOf t) t (e + 1) k (omega arith) r) ∙ next (omega arith))))
-        (λ r. r)
+    above k l u = fails-above (λ n. reaches (bOf t) (pos n) t) (reaches-down (bOf t) t) {m = e + 1} (omega arith) (next (omega arith))

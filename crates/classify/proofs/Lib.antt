@@ -2,4 +2,13 @@ pub mod Edges
 pub mod WithinApart
 pub mod ClassLaws
 pub mod ELaws
+pub mod RaysFirst
 pub mod NeverBoth
+pub mod HalfLaws
+pub mod RayLaws
+pub mod JudgedLaws
+pub mod ReachLaws
+pub mod BallLaws
+pub mod FarLaws
+pub mod ScanLaws
+pub mod PreparingLaws

@@ -1,2 +1,5 @@
 pub mod Shape
 pub mod Classes
+pub mod Measures
+pub mod Rays
+pub mod Halves

@@ -1,5 +1,4 @@
 pub mod PointLaws
-pub mod PutLaws
 pub mod CountLaws
 pub mod CheckingPass
 pub mod WritingPass

@@ -15,13 +15,12 @@ use Rattle.vector.specs.declared.Vec3.{Vec3}
 use Rattle.vector.specs.Numbers.{eqZ}
 use Rattle.vector.specs.Vectors.{vec}
 use Rattle.region.specs.declared.Halfspace.{Halfspace}
-use Rattle.region.specs.Regions.{Convex, Region, holdsHalfspace, holdsConvex, holds}
-use Rattle.region.specs.Building.{total}
+use Rattle.region.specs.Regions.{Convex, Region, holdsHalfspace, holdsConvex, holds, halfspaceFrom}
+use Rattle.region.specs.Building.{total, Filled}
 use Rattle.region.specs.Rows.{row, convexRows, rowsFrom, rows, halfspaceAt}
-use Rattle.region.proofs.FilledLaws.{Filled}
 use Rattle.region.proofs.WriteBack.{eqZ-eq}
 use Rattle.files.specs.declared.points.Scan.{Scan}
-use Rattle.files.specs.Points.{halfspaceFrom, halfspaceIn, state, scanned, scan, rowsHold}
+use Rattle.files.specs.Points.{halfspaceIn, state, scanned, scan, rowsHold}
 
 -- ---- Booleans
 

@@ -21,7 +21,7 @@ use Rattle.region.proofs.ReadBack.{file-length}
 use Rattle.region.proofs.WriteBack.{region-back}
 use Rattle.files.specs.declared.writer.Counts.{Counts}
 use Rattle.files.specs.Writing.{countsOf, Room}
-use Rattle.files.proofs.PutLaws.{put-put}
+use Rattle.answer.proofs.PutLaws.{put-put}
 
 -- ---- the answer
 

@@ -27,7 +27,7 @@ use Rattle.region.proofs.ReadBack.{convexes-length}
 use Rattle.region.proofs.FileBack.{convex-bytes, halfspace-bytes}
 use Rattle.files.specs.declared.writer.Place.{Place}
 use Rattle.files.specs.Writing.{rowBytes, Room}
-use Rattle.files.proofs.PutLaws.{put-length, put-put}
+use Rattle.answer.proofs.PutLaws.{put-length, put-put}
 use Rattle.files.proofs.CountLaws.{Taken, taken, taken-length, taken-few}
 use Rattle.files.proofs.CheckingPass.{next-row}
 

@@ -4,18 +4,18 @@ use crate::reader;
 use answer::VECTOR;
 use region::HeaderOf;
 use region::HeldOf;
+use region::rows;
 use vector::Vec3;
 ghost use mathlib.Core.Path.{_≡_};
 ghost use mathlib.Core.Bool.{_&&_, _||_};
 ghost use Prim.Native.Nat.{_+_, _*_, _^_, _≤_, _<_};
-ghost use lib.ListN.{length, getD};
-ghost use lib.IntN.{pos};
+ghost use lib.ListN.{length};
 ghost use Rattle.algebra.specs.Sizes.{Upto};
 ghost use Rattle.vector.specs.Vectors.{AtMost, Small};
-ghost use Rattle.region.specs.Regions.{holdsHalfspace};
+ghost use Rattle.region.specs.Regions.{halfspaceFrom, holdsHalfspace};
 ghost use Rattle.region.specs.Answers.{heldGiven, pointTest};
 ghost use Rattle.files.specs.Points as points;
-ghost use Rattle.files.specs.Points.{halfspaceFrom, halfspaceIn, scanned, rowsHold};
+ghost use Rattle.files.specs.Points.{halfspaceIn, scanned, rowsHold};
 
 const K: i64 = 1048576;
 
@@ -24,14 +24,6 @@ pub struct Scan {
     pub number: i64,
     pub all: bool,
     pub any: bool,
-}
-
-// Number k of some rows.
-fn number_at(rows: &[i32], k: usize) -> i64
-    requires { ⌜ k < length (now rows) ⌝ }
-    ensures { λ r. ⌜ (r ≡ getD (now (rows .entry)) k (pos 0)) × Upto (2 ^ 31) r ⌝ }
-{
-    rows[k] as i64
 }
 
 // Whether a halfspace holds p: n·p > d·K, strictly.
@@ -51,10 +43,10 @@ fn row_holds(rows: &[i32], i: usize, p: Vec3) -> bool
     ensures { λ t. ⌜ t ≡ holdsHalfspace (halfspaceIn (now (rows .entry)) (5 * i)) p ⌝ }
 {
     let at = 5 * i;
-    let x = number_at(rows, at + 1);
-    let y = number_at(rows, at + 2);
-    let z = number_at(rows, at + 3);
-    holds_halfspace(Vec3 { x: x, y: y, z: z }, number_at(rows, at + 4), p)
+    let x = rows::number_at(rows, at + 1);
+    let y = rows::number_at(rows, at + 2);
+    let z = rows::number_at(rows, at + 3);
+    holds_halfspace(Vec3 { x: x, y: y, z: z }, rows::number_at(rows, at + 4), p)
 }
 
 fn both(a: bool, b: bool) -> bool
@@ -100,7 +92,7 @@ fn rows_hold(rows: &[i32], count: usize, p: Vec3) -> bool
     let mut s = state(0, true, false);
     let mut i = 0;
     while i < count {
-        s = next(s, number_at(rows, 5 * i), row_holds(rows, i, p));
+        s = next(s, rows::number_at(rows, 5 * i), row_holds(rows, i, p));
         i += 1;
     }
     either(s.any, s.all)

@@ -19,8 +19,10 @@ use Rattle.region.specs.Budgets.{budgetOf}
 use Rattle.region.specs.Reader.{File, read, Accepted}
 use Rattle.region.specs.Answers.{pointTest}
 use Rattle.ranges.specs.Ranges.{Range, pairs}
-use Rattle.htm.specs.Cover.{cover}
-use Rattle.htm.specs.Answers.{Counts, countsOf, coverInto, coverAnswer, bothLists, coverAfter, rangesIn, outerIn, innerIn}
+use Rattle.ranges.specs.Stored.{rangesIn}
+use Rattle.cutting.specs.Cover.{cover, countsOf}
+use Rattle.cutting.specs.declared.Counts.{Counts}
+use Rattle.htm.specs.Answers.{coverInto, coverAnswer, bothLists, coverAfter, outerIn, innerIn}
 use Rattle.htm.specs.Promise.{Kept, PromiseOfAnswers}
 use Rattle.htm.proofs.PromiseKept.{promise-kept}
 

@@ -1,5 +1,5 @@
 pub mod Starred
 pub mod Refusals
-pub mod CuttingLaws
 pub mod PromiseKept
 pub mod AnswersKept
+pub mod CoverAnswers

@@ -11,9 +11,9 @@ use Rattle.region.proofs.ReaderLaws.{read-depth}
 use Rattle.ranges.specs.Lists.{outerOf, innerOf}
 use Rattle.ranges.proofs.Sound.{Has, outer-few, inner-few, inner-only, outer-separate, inner-separate, outer-all}
 use Rattle.ranges.proofs.ListLaws.{some-has, in-exactly-one, separate-proper}
-use Rattle.htm.specs.Cover.{cutting, cover}
+use Rattle.cutting.specs.Cover.{cutting, cover}
 use Rattle.htm.specs.Promise.{Kept, Promise}
-use Rattle.htm.proofs.CuttingLaws.{accepted-ascends, full-ascends, cutting-accepts, cutting-holds}
+use Rattle.cutting.proofs.CuttingLaws.{accepted-ascends, full-ascends, cutting-accepts, cutting-holds}
 
 kept : (x : File) (p : Vec3) → Long p → Kept (identifier p (x .depth)) (cover x .outer) (cover x .inner) (budgetOf (x .budget)) (holds (x .region) p)
 unfolding cover

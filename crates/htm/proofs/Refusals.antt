@@ -5,8 +5,8 @@ use Rattle.answer.specs.Lent.{put}
 use Rattle.answer.proofs.LentLaws.{first-refusal, not-stored}
 use Rattle.mesh.specs.Answers.{nameInto, nameAnswer, nameAfter}
 use Rattle.region.specs.Answers.{headerOf, rowsInto, readInto, readAnswer, readAfter, writeInto, writeAnswer, writeAfter}
-use Rattle.htm.specs.Cover.{cover}
-use Rattle.htm.specs.Answers.{countsOf, coverInto, coverAnswer, bothLists, coverAfter}
+use Rattle.cutting.specs.Cover.{cover, countsOf}
+use Rattle.htm.specs.Answers.{coverInto, coverAnswer, bothLists, coverAfter}
 use Rattle.htm.specs.Refusals.{SpaceLast, LentListsStay}
 
 pub space-last : SpaceLast

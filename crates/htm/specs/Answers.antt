@@ -4,19 +4,23 @@
 --   coverInto f before     the file that is covered, or its refusal, with 10 after all other checks
 --   coverAnswer f before   both counts and seen
 --   coverAfter f before    the list afterwards: the outer list at element 0, the inner list at element 2 × budget
+--   coverGiven r           what the call answered
 --   outerIn, innerIn       the two lists, read back from the lent list
-use Prim.Native.Nat.{ℕ, zero, suc, _*_}
-use mathlib.Core.List.{List, [], _∷_}
-use lib.ListN.{length, getD, drop}
+use Prim.Native.Nat.{ℕ, _*_}
+use mathlib.Core.List.{List}
+use lib.ListN.{drop}
 use lib.IntN.{ℤ}
 use Rattle.answer.specs.Answer.{Answer, refused, gives, then, with-value}
-use Rattle.answer.specs.Lent.{put, stored, room}
+use Rattle.answer.specs.Lent.{stored, room}
 use Rattle.vector.specs.Vectors.{vec}
 use Rattle.mesh.specs.Lookup.{lookup}
 use Rattle.region.specs.Budgets.{budgetOf}
 use Rattle.region.specs.Reader.{File, read}
-use Rattle.ranges.specs.Ranges.{Range, pairs}
-use Rattle.htm.specs.Cover.{Cover, cover}
+use Rattle.ranges.specs.Ranges.{Range}
+use Rattle.ranges.specs.Stored.{rangesIn}
+use Rattle.cutting.specs.declared.Counts.{Counts}
+use Rattle.htm.specs.declared.CoverOf.{CoverOf}
+use Rattle.cutting.specs.Cover.{cover, countsOf, bothListed}
 
 -- ---- lookup from C: the identifier, or 0 for a refusal
 
@@ -29,14 +33,6 @@ entry x y z d = orZero (lookup (vec x y z) d)
 
 -- ---- the cover: both counts and seen; the outer list at element 0 and the inner list at element 2 × budget
 
-pub record Counts : Type 0 where
-  pub outer : ℕ
-  pub inner : ℕ
-  pub seen : ℕ
-
-abbrev pub countsOf : Cover → Counts
-countsOf c = record { outer = length (c .outer); inner = length (c .inner); seen = c .seen }
-
 abbrev pub coverInto : List ℕ → List ℕ → Answer File
 coverInto f before = then (read f) (λ x. room (4 * budgetOf (x .budget)) before x)
 
@@ -44,17 +40,17 @@ unfoldable pub coverAnswer : List ℕ → List ℕ → Answer Counts
 coverAnswer f before = with-value (λ x. countsOf (cover x)) (coverInto f before)
 
 abbrev pub bothLists : File → List ℕ → List ℕ
-bothLists x before = put (2 * budgetOf (x .budget)) (pairs (cover x .inner)) (put 0 (pairs (cover x .outer)) before)
+bothLists x before = bothListed (budgetOf (x .budget)) (cover x) before
 
 unfoldable pub coverAfter : List ℕ → List ℕ → List ℕ
 coverAfter f before = stored bothLists (coverInto f before) before
 
--- ---- the two lists, read back from the lent list
+-- what the call answered
+abbrev pub coverGiven : CoverOf → Answer Counts
+coverGiven (CoverOf.Gives c) = gives c
+coverGiven (CoverOf.Refused n) = refused n
 
--- n pairs low, high from the beginning of xs
-unfoldable pub rangesIn : ℕ → List ℕ → List Range
-rangesIn zero xs = []
-rangesIn (suc n) xs = record { low = getD xs 0 0; high = getD xs 1 0 } ∷ rangesIn n (drop 2 xs)
+-- ---- the two lists, read back from the lent list
 
 abbrev pub outerIn : Counts → List ℕ → List Range
 outerIn c after = rangesIn (c .outer) after

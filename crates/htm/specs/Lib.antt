@@ -1,4 +1,3 @@
-pub mod Cover
 pub mod Answers
 pub mod Starred
 pub mod Refusals

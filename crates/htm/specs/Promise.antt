@@ -18,8 +18,9 @@ use Rattle.region.specs.Budgets.{budgetOf}
 use Rattle.region.specs.Reader.{File, Accepted}
 use Rattle.region.specs.Answers.{pointTest}
 use Rattle.ranges.specs.Ranges.{Range, inSome, timesIn, Proper}
-use Rattle.htm.specs.Cover.{cover}
-use Rattle.htm.specs.Answers.{Counts, coverAnswer, coverAfter, outerIn, innerIn}
+use Rattle.cutting.specs.Cover.{cover}
+use Rattle.cutting.specs.declared.Counts.{Counts}
+use Rattle.htm.specs.Answers.{coverAnswer, coverAfter, outerIn, innerIn}
 
 -- of an identifier i, two lists, the budget that is counted with, and whether the region holds the point
 pub record Kept (i : ℕ) (outer inner : List Range) (budget : ℕ) (held : Bool) : Type 0 where

@@ -1,11 +1,14 @@
 // The public face: every exported call. Each answers by the rule that its contract names, for good and bad input alike, and none has a `requires`.
 // A refusal carries its number only (crate answer), and then every lent element keeps its value.
 use answer::Number;
+use answer::SPACE;
+use cutting::Counts;
 use mesh::CornersOf;
 use region::HeaderOf;
 use region::HeldOf;
 use vector::Vec3;
 ghost use mathlib.Core.Path.{_≡_};
+ghost use Prim.Native.Nat.{_^_, _<_};
 ghost use Rattle.answer.specs.Calls.{numberOf};
 ghost use Rattle.vector.specs.Vectors.{vec};
 ghost use Rattle.mesh.specs.Lookup as mesh_lookup;
@@ -14,7 +17,8 @@ ghost use Rattle.mesh.specs.Identifiers as identifiers;
 ghost use Rattle.mesh.specs.Corners.{cornersGiven};
 ghost use Rattle.mesh.specs.Answers.{nameAnswer, nameAfter};
 ghost use Rattle.region.specs.Answers.{headerGiven, readAnswer, readAfter, writeAnswer, writeAfter, heldGiven, pointTest};
-ghost use Rattle.htm.specs.Answers.{entry};
+ghost use Rattle.region.specs.Budgets.{budgetOf};
+ghost use Rattle.htm.specs.Answers.{entry, coverGiven, coverAnswer, coverAfter};
 
 fn pointing(x: i32, y: i32, z: i32) -> Vec3
     ensures { λ r. ⌜ r ≡ vec x y z ⌝ }
@@ -77,6 +81,39 @@ pub fn holds(file: &[u8], x: i32, y: i32, z: i32) -> HeldOf
     ensures { λ r. ⌜ heldGiven r ≡ pointTest (now (file .entry)) (vec x y z) ⌝ }
 {
     files::points::point_test(file, pointing(x, y, z))
+}
+
+// Both counts and seen, or the number of the first check that failed.
+pub enum CoverOf {
+    Gives(Counts),
+    Refused(u32),
+}
+
+// The budget that is counted with: 0 means 64.
+fn budget_of(written: u32) -> usize
+    ensures { λ r. ⌜ (r ≡ budgetOf written) × (r < 2 ^ 32) ⌝ }
+{
+    if written == 0 { 64 } else { written as usize }
+}
+
+// The cover of a region file: the outer list from element 0 of `out`, the inner list from element 2 × budget, pairs low and high; both counts and
+// seen. The file's refusals, then 10 where `out` has fewer than 4 × budget elements.
+pub fn cover(file: &[u8], out: &mut [u64]) -> CoverOf
+    ensures { λ r. ⌜ coverGiven r ≡ coverAnswer (now (file .entry)) (now (out .entry)) ⌝ }
+    ensures { λ r. ⌜ now (out .exit) ≡ coverAfter (now (file .entry)) (now (out .entry)) ⌝ }
+{
+    let mut rows = [0i32; 2560];
+    let said = files::reader::decode(file, &mut rows);
+    match said {
+        HeaderOf::Gives(h) => {
+            let budget = budget_of(h.budget);
+            if out.len() < 4 * budget {
+                return CoverOf::Refused(SPACE);
+            }
+            CoverOf::Gives(cutting::cover(h.depth, &rows, h.count as usize, budget, out))
+        }
+        HeaderOf::Refused(n) => CoverOf::Refused(n),
+    }
 }
 
 // The lookup for a host in C: the identifier, or 0 for a refusal.

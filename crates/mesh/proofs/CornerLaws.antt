@@ -12,7 +12,8 @@ use Rattle.vector.specs.declared.Vec3.{Vec3}
 use Rattle.vector.specs.Vectors.{plus, unit}
 use Rattle.mesh.specs.declared.Trixel.{Trixel}
 use Rattle.mesh.specs.declared.Corners.{Corners}
-use Rattle.mesh.specs.Trixels.{rootTrixel, Cut, cut, child0, child1, child2, child3, child}
+use Rattle.mesh.specs.declared.Cut.{Cut}
+use Rattle.mesh.specs.Trixels.{rootOf, S0, S1, S2, S3, N0, N1, N2, N3, rootTrixel, cut, child0, child1, child2, child3, child}
 use Rattle.mesh.specs.Identifiers.{identifierAt, depthOf, trixel, cornersOf, corners}
 use Rattle.mesh.specs.Lookup.{digit, descend}
 use Rattle.mesh.specs.Corners.{bare, SmallCorners}
@@ -119,3 +120,18 @@ module _ (i d : ℕ) (is : d ≡ depthOf i) where
       let s : d ≡ suc (d - 1) = omega arith in
       let p : 4 ^ d ≡ 4 ^ (d - 1) * 4 = ap (λ m. 4 ^ m) s ∙ pow-suc 4 (d - 1) in
       (omega (arith, at-low d i at, next-power d), omega (arith, at-high d i at, last-power d))
+
+-- ---- a root's normals are its corners
+
+abbrev Own : Trixel → Type 0
+Own t = rootOf (t .v0) (t .v1) (t .v2) ≡ t
+
+own-either : (b : Bool) (s t : Trixel) → Own s → Own t → Own (cond b s t)
+own-either true s t h k = h
+own-either false s t h k = k
+
+pub root-own : (k : ℕ) → Own (rootTrixel k)
+unfolding rootTrixel
+root-own k =
+    own-either (eqb k 0) S0 _ refl (own-either (eqb k 1) S1 _ refl (own-either (eqb k 2) S2 _ refl (own-either (eqb k 3) S3 _ refl
+    (own-either (eqb k 4) N0 _ refl (own-either (eqb k 5) N1 _ refl (own-either (eqb k 6) N2 N3 refl refl))))))

@@ -17,7 +17,8 @@ use Rattle.algebra.proofs.Tests.{le-yes, no-le}
 use Rattle.vector.specs.declared.Vec3.{Vec3}
 use Rattle.vector.specs.Vectors.{dot, minus}
 use Rattle.mesh.specs.declared.Trixel.{Trixel}
-use Rattle.mesh.specs.Trixels.{a0, a1, a2, a3, a4, a5, Cut, cut, childOf, child, rootTrixel}
+use Rattle.mesh.specs.declared.Cut.{Cut}
+use Rattle.mesh.specs.Trixels.{a0, a1, a2, a3, a4, a5, cut, childOf, child, rootTrixel}
 use Rattle.mesh.specs.Identifiers.{trixel}
 use Rattle.mesh.specs.Lookup.{notNegative, northRoot, southRoot, rootNumber, digit, descend, identifier}
 

@@ -6,16 +6,10 @@ use Rattle.vector.specs.declared.Vec3.{Vec3}
 use Rattle.vector.specs.Vectors.{Small}
 use Rattle.vector.proofs.SizeLaws.{small-test, at-most-minus, unit-small, scale-small}
 use Rattle.mesh.specs.declared.Trixel.{Trixel}
-use Rattle.mesh.specs.Trixels.{a0, a1, a2, a3, a4, a5, rootOf, S0, S1, S2, S3, N0, N1, N2, N3, rootTrixel, Cut, cut, child0, child1, child2, child3, childOf, child}
+use Rattle.mesh.specs.declared.Cut.{Cut}
+use Rattle.mesh.specs.Corners.{SmallTrixel, SmallCut}
+use Rattle.mesh.specs.Trixels.{a0, a1, a2, a3, a4, a5, rootOf, S0, S1, S2, S3, N0, N1, N2, N3, rootTrixel, cut, child0, child1, child2, child3, childOf, child}
 use Rattle.mesh.specs.Identifiers.{trixel}
-
-pub record SmallTrixel (t : Trixel) : Type 0 where
-  pub v0 : Small (t .v0)
-  pub v1 : Small (t .v1)
-  pub v2 : Small (t .v2)
-  pub p0 : Small (t .p0)
-  pub p1 : Small (t .p1)
-  pub p2 : Small (t .p2)
 
 -- whichever of two
 either : (t : Bool) (a b : Trixel) → SmallTrixel a → SmallTrixel b → SmallTrixel (cond t a b)
@@ -38,14 +32,6 @@ roots-small k =
     (either (eqb k 2) S2 _ (root-small x′ s y′) (either (eqb k 3) S3 _ (root-small y′ s x)
     (either (eqb k 4) N0 _ (root-small x n y′) (either (eqb k 5) N1 _ (root-small y′ n x′)
     (either (eqb k 6) N2 N3 (root-small x′ n y) (root-small y n x)))))))
-
-pub record SmallCut (c : Cut) : Type 0 where
-  pub w0 : Small (c .w0)
-  pub w1 : Small (c .w1)
-  pub w2 : Small (c .w2)
-  pub c0 : Small (c .c0)
-  pub c1 : Small (c .c1)
-  pub c2 : Small (c .c2)
 
 pub cut-small : (t : Trixel) → SmallCut (cut t)
 unfolding cut

@@ -2,12 +2,14 @@
 --   tripleOf a b c   three corners
 --   bare c           a trixel of which only the corners are known; cutting and descent look at nothing else (proofs/CornerLaws)
 --   SmallCorners c   each component of each corner is within ±K
+--   SmallTrixel t, SmallCut c   so is each component of each vector of a trixel, of a cut
 --   cornersGiven r   what the call that gives corners answered
 use lib.IntN.{pos}
 use Rattle.answer.specs.Answer.{Answer, refused, gives}
 use Rattle.vector.specs.declared.Vec3.{Vec3}
 use Rattle.vector.specs.Vectors.{vec, Small}
 use Rattle.mesh.specs.declared.Trixel.{Trixel}
+use Rattle.mesh.specs.declared.Cut.{Cut}
 use Rattle.mesh.specs.declared.Corners.{Corners}
 use Rattle.mesh.specs.declared.CornersOf.{CornersOf}
 use Rattle.mesh.specs.declared.CornersOf.the-variants.{Gives, Refused}
@@ -24,6 +26,22 @@ pub record SmallCorners (c : Corners) : Type 0 where
   pub v0 : Small (c .v0)
   pub v1 : Small (c .v1)
   pub v2 : Small (c .v2)
+
+pub record SmallTrixel (t : Trixel) : Type 0 where
+  pub v0 : Small (t .v0)
+  pub v1 : Small (t .v1)
+  pub v2 : Small (t .v2)
+  pub p0 : Small (t .p0)
+  pub p1 : Small (t .p1)
+  pub p2 : Small (t .p2)
+
+pub record SmallCut (c : Cut) : Type 0 where
+  pub w0 : Small (c .w0)
+  pub w1 : Small (c .w1)
+  pub w2 : Small (c .w2)
+  pub c0 : Small (c .c0)
+  pub c1 : Small (c .c1)
+  pub c2 : Small (c .c2)
 
 abbrev pub cornersGiven : CornersOf → Answer Corners
 cornersGiven (Gives c) = gives c

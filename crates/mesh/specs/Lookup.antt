@@ -13,7 +13,8 @@ use Rattle.vector.specs.Numbers.{isDepth}
 use Rattle.vector.specs.Vectors.{dot, isVector}
 use Rattle.answer.specs.Answer.{Answer, gives, check, Depth, Vector}
 use Rattle.mesh.specs.declared.Trixel.{Trixel}
-use Rattle.mesh.specs.Trixels.{Cut, cut, child, rootTrixel}
+use Rattle.mesh.specs.declared.Cut.{Cut}
+use Rattle.mesh.specs.Trixels.{cut, child, rootTrixel}
 
 abbrev pub notNegative : ℤ → Bool
 notNegative z = leZ (pos 0) z

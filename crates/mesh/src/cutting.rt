@@ -5,7 +5,7 @@ use crate::names;
 use answer::NAME;
 use vector::Vec3;
 ghost use mathlib.Core.Path.{_≡_};
-ghost use Prim.Native.Nat.{_+_, _*_, _-_, _^_, _≤_, _<_};
+ghost use Prim.Native.Nat.{_*_, _-_, _^_, _≤_, _<_};
 ghost use Rattle.vector.specs.Vectors.{Small, unit, plus};
 ghost use Rattle.mesh.specs.Trixels as rule;
 ghost use Rattle.mesh.specs.Identifiers as identifiers;

@@ -11,7 +11,7 @@ use Rattle.ranges.specs.Ranges.{Range}
 use Rattle.ranges.specs.Lists.{over, touch, joined, joinedFrom, earliest, size, without, dropShortest, innerOf, whileMore}
 use Rattle.ranges.proofs.Loop.{length-snoc, Reduced, Shrinks, reduced-new}
 use Rattle.ranges.specs.OnePass.{below, extend, innerFull, innerClose, Inner, empty, growing, innerPush, innerEnd, innerPass}
-use Rattle.ranges.proofs.Smallest.{below-without, earliest-inside, earliest-snoc}
+use Rattle.ranges.proofs.Earliest.{below-without, earliest-inside, earliest-snoc}
 use Rattle.ranges.proofs.OuterPass.{lastHigh-snoc, joinOn, joinedFrom-snoc}
 
 -- ---- one range less
@@ -75,6 +75,29 @@ dropShortest-snoc xs r h =
 
     at : {i : ℕ} → earliest (map size (xs ++ r ∷ [])) ≡ i → without (earliest (map size (xs ++ r ∷ []))) (xs ++ r ∷ []) ≡ without i (xs ++ r ∷ [])
     at e = ap (λ i. without i (xs ++ r ∷ [])) e
+
+-- the same by the place of the shortest, the new one being the last
+pub full-keeps : (xs : List Range) (r : Range) (i : ℕ) → 0 < length xs → i ≡ earliest (map size xs ++ size r ∷ []) → i ≡ length xs → innerFull xs r ≡ xs
+full-keeps xs r i h e k =
+    sym (dropShortest-snoc xs r h)
+    ∙ unfold dropShortest in ap (λ l. without (earliest l) (xs ++ r ∷ [])) (sizes-snoc xs r)
+    ∙ ap (λ j. without j (xs ++ r ∷ [])) (sym e ∙ k)
+    ∙ without-last xs r
+
+pub full-drops : (xs : List Range) (r : Range) (i : ℕ) → i ≡ earliest (map size xs ++ size r ∷ []) → i < length xs → innerFull xs r ≡ without i xs ++ r ∷ []
+full-drops xs r i e k =
+    sym (dropShortest-snoc xs r (omega arith))
+    ∙ unfold dropShortest in ap (λ l. without (earliest l) (xs ++ r ∷ [])) (sizes-snoc xs r)
+    ∙ ap (λ j. without j (xs ++ r ∷ [])) (sym e)
+    ∙ without-snoc i xs r k
+
+pub length-innerFull : (xs : List Range) (r : Range) → 0 < length xs → length (innerFull xs r) ≡ length xs
+length-innerFull xs r h =
+    let k = length-snoc xs r in
+    ap length (sym (dropShortest-snoc xs r h)) ∙ pred-eq (dropShortest-shrinks (xs ++ r ∷ []) (omega arith) ∙ k)
+  where
+    pred-eq : {a b : ℕ} → suc a ≡ suc b → a ≡ b
+    pred-eq e = omega arith
 
 shortest-stays : (xs : List Range) (r : Range) → Shortest xs r ≡ true → Shortest (dropShortest xs) r ≡ true
 unfolding Shortest dropShortest

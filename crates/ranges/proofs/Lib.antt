@@ -1,8 +1,15 @@
 pub mod Examples
 pub mod Loop
-pub mod Smallest
+pub mod Earliest
 pub mod OuterPass
 pub mod InnerPass
 pub mod OnePass
 pub mod Sound
 pub mod ListLaws
+pub mod Counts
+pub mod StoredLaws
+pub mod ShiftLaws
+pub mod SearchLaws
+pub mod OuterStored
+pub mod InnerStored
+pub mod Pushes

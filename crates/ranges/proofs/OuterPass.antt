@@ -5,14 +5,14 @@ use mathlib.Core.Path.{_≡_, refl, sym, ap, _∙_}
 use mathlib.Core.Bool.{Bool, true, false, cond, true≢false}
 use mathlib.Core.List.{List, [], _∷_, _++_, foldl, append-assoc, append-nil}
 use native.Mathlib.Omega.{arith}
-use lib.Dec.{ltb, eqb}
+use lib.Dec.{eqb}
 use lib.ListN.{length}
 use Rattle.algebra.proofs.Tests.{split}
 use Rattle.ranges.specs.Ranges.{Range}
 use Rattle.ranges.specs.Lists.{over, touch, joined, joinedFrom, earliest, gaps, gap, joinAt, joinSmallest, outerOf, without, whileMore}
 use Rattle.ranges.proofs.Loop.{length-snoc, Reduced, Shrinks, reduced-few, reduced-keeps, reduced-along, reduced-new, length-reduced}
 use Rattle.ranges.specs.OnePass.{below, lastHigh, extend, outerFull, outerNew, outerPush, outerPass}
-use Rattle.ranges.proofs.Smallest.{below-without, earliest-inside, earliest-snoc}
+use Rattle.ranges.proofs.Earliest.{below-without, earliest-inside, earliest-snoc}
 
 -- ---- gaps
 
@@ -231,19 +231,6 @@ pub push-some : (B : ℕ) (xs : List Range) (r : Range) → 0 < length xs → ou
 unfolding outerPush
 push-some B [] r h = absurd (omega arith)
 push-some B (a ∷ xs) r h = refl
-
--- no range is taken away
-pub length-push : (B : ℕ) (xs : List Range) (r : Range) → length xs ≤ length (outerPush B xs r)
-length-push B [] r = omega arith
-length-push B (a ∷ xs) r =
-    rw (push-some B (a ∷ xs) r (omega arith))
-    (split (eqb (lastHigh (a ∷ xs) + 1) (r .low))
-    (λ t. rw t (omega (arith, length-extend (a ∷ xs) r)))
-    (λ t. rw t (new (ltb (length (a ∷ xs)) B) refl)))
-  where
-    new : (t : Bool) → ltb (length (a ∷ xs)) B ≡ t → length (a ∷ xs) ≤ length (outerNew B (a ∷ xs) r)
-    new true e = unfold outerNew in rw e (omega (arith, length-snoc (a ∷ xs) r))
-    new false e = unfold outerNew in rw e (omega (arith, length-full (a ∷ xs) r (omega arith)))
 
 module _ (B : ℕ) (one : 1 ≤ B) where
   reduce : List Range → List Range

@@ -1,5 +1,5 @@
 -- The two lists in one pass, with room for no more ranges than the budget says: each new range is put in as it comes, and the list stays reduced.
--- Document 01 asks for the lists; that the pass gives them is the statement `OnePass` (proofs/OnePassLaws).
+-- Document 01 asks for the lists; that the pass gives them is the statement `OnePass` (proofs/OnePass).
 --   outerPush b xs r   the outer list xs, with the range r more
 --   innerPush b s r    the inner list and its last range, which may still grow, with the range r more
 --   outerPass, innerPass   all of some ranges, one after the other

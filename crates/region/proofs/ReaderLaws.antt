@@ -53,14 +53,15 @@ header-says f x e =
 -- ---- what one convex more and one halfspace more keep
 
 module _ (P : File → Type 0)
-    (convex : (x : File) → cond (begun (x .region)) (filled (x .region)) true ≡ true → P x → P (withRegion x (withConvex (x .region))))
+    (convex : (x : File) → (cond (begun (x .region)) (filled (x .region)) true ≡ true) × (fewConvexes (withConvex (x .region)) ≡ true) → P x → P (withRegion x (withConvex (x .region))))
     (halfspace : (x : File) (g : Region) (h : Halfspace) → add (x .region) h ≡ gives g → P x → P (withRegion x g)) where
   convex-keeps : (x y : File) → convexIn x ≡ gives y → P x → P y
   convex-keeps x y e k =
       let more = withRegion x (withConvex (x .region)) in
       let few = check Crowd (fewConvexes (withConvex (x .region))) (gives more) in
-      subst P (same-value more y (check-gives Crowd (fewConvexes (withConvex (x .region))) (gives more) y (check-gives Order (cond (begun (x .region)) (filled (x .region)) true) few y e)))
-      (convex x (check-passed Order (cond (begun (x .region)) (filled (x .region)) true) few y e) k)
+      let told = check-gives Order (cond (begun (x .region)) (filled (x .region)) true) few y e in
+      subst P (same-value more y (check-gives Crowd (fewConvexes (withConvex (x .region))) (gives more) y told))
+      (convex x (check-passed Order (cond (begun (x .region)) (filled (x .region)) true) few y e, check-passed Crowd (fewConvexes (withConvex (x .region))) (gives more) y told) k)
 
   halfspace-keeps : (x y : File) (s : List ℕ) → halfspaceIn x s ≡ gives y → P x → P y
   halfspace-keeps x y s e k =

@@ -1,5 +1,6 @@
 -- Halfspaces, convexes and regions, and which points they hold. Document 01, 'Regions'; 3.1 to 3.3 and 4.1 of document 000.
 -- A halfspace has a direction n and an offset d. A convex is a list of halfspaces, a region a list of convexes.
+--   halfspaceFrom n d                                the halfspace of a direction and an offset
 --   heldSide s t                                     the comparison of 4.1, in one place: s > t, strictly
 --   holdsHalfspace h p, holdsConvex c p, holds g p   the point p is in it
 use mathlib.Core.Bool.{Bool}
@@ -17,6 +18,9 @@ Convex = List Halfspace
 
 abbrev pub Region : Type 0
 Region = List Convex
+
+abbrev pub halfspaceFrom : Vec3 → ℤ → Halfspace
+halfspaceFrom n d = record { n = n; d = d }
 
 abbrev pub heldSide : ℤ → ℤ → Bool
 heldSide s t = ltZ t s

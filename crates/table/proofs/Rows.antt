@@ -17,7 +17,8 @@ use Rattle.vector.specs.Vectors.{vec, Small}
 use Rattle.mesh.specs.declared.Trixel.{Trixel}
 use Rattle.mesh.specs.Identifiers.{trixel}
 use Rattle.mesh.specs.Table.{numbers, partOf, vectorAt}
-use Rattle.mesh.proofs.SmallTrixels.{SmallTrixel, trixel-small}
+use Rattle.mesh.specs.Corners.{SmallTrixel}
+use Rattle.mesh.proofs.SmallTrixels.{trixel-small}
 
 -- ---- each number is within ±K
 

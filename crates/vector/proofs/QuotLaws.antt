@@ -38,7 +38,7 @@ divided-minus n s = divided-minus′ n s (eqb n 0)
 
 -- ---- Unit and Scale
 
-square-minus : (s : Vec3) → dot (minus s) (minus s) ≡ dot s s
+pub square-minus : (s : Vec3) → dot (minus s) (minus s) ≡ dot s s
 square-minus s = ring 3 (λ x y z. :neg x :* :neg x :+ :neg y :* :neg y :+ :neg z :* :neg z :≡ x :* x :+ y :* y :+ z :* z) refl (s .x) (s .y) (s .z)
 
 pub unit-minus : (s : Vec3) → unit (minus s) ≡ minus (unit s)

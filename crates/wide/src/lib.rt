@@ -1,7 +1,7 @@
 // Unsigned numbers of two words. The squares that classifying compares pass 64 bits. The rules stand in specs/.
 ghost use mathlib.Core.Path.{_≡_};
 ghost use Prim.Native.Nat.{_+_, _*_, _^_, _<_, _≤_};
-ghost use lib.Dec.{ltb, leb};
+ghost use lib.Dec.{ltb};
 ghost use Rattle.wide.specs.Value.{valueOf};
 
 pub struct Wide {

@@ -1,8 +1,9 @@
 -- `vector::largest` is the rule's largest absolute component. Assumes nothing.
 use Prim.Native.Nat.{max}
 use mathlib.Core.Path.{ap, _∙_}
+use lib.Dec.{lit≤}
 use lib.IntN.{natAbs}
-use Rattle.algebra.proofs.Sized.{held, upto-held}
+use Rattle.algebra.proofs.Sized.{held, upto-held, upto-mono}
 use Rattle.vector.proofs.largest.Statement.{statement}
 use Rattle.vector.proofs.largest.Tie as tie
 
@@ -10,10 +11,10 @@ pub largest-spec : {M : Type 1} → statement M
 largest-spec =
     tie.close
     (tie.spec
-    (λ c κs. upto-held (c .before .pre .x) tt)
-    (λ c κs. upto-held (c .before .before .before .pre .y) tt)
+    (λ c κs. upto-held (upto-mono (lit≤ tt) (c .before .pre .x)) tt)
+    (λ c κs. upto-held (upto-mono (lit≤ tt) (c .before .before .before .pre .y)) tt)
     (λ c κs. tt)
-    (λ c κs. upto-held (c .before .before .before .before .before .before .pre .z) tt)
+    (λ c κs. upto-held (upto-mono (lit≤ tt) (c .before .before .before .before .before .before .pre .z)) tt)
     (λ c κs. tt)
     (λ c.
     let p = c .before .before .before .before .before .before .before .before .pre in

@@ -3,8 +3,7 @@ use native.Mathlib.Omega.{arith}
 use mathlib.Core.Path.{_∙_}
 use Rattle.algebra.proofs.Sized.{held, upto-held}
 use Rattle.vector.specs.Vectors.{vec}
-use Rattle.region.specs.Regions.{holdsHalfspace}
-use Rattle.files.specs.Points.{halfspaceFrom}
+use Rattle.region.specs.Regions.{halfspaceFrom, holdsHalfspace}
 use Rattle.files.proofs.points.row_holds.Statement.{statement}
 use Rattle.files.proofs.points.row_holds.Tie as tie
 

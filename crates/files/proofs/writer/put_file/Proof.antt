@@ -7,7 +7,7 @@ use Rattle.answer.specs.Lent.{put}
 use Rattle.region.specs.Bytes.{wordBytes}
 use Rattle.region.specs.Writer.{convexesBytes}
 use Rattle.files.specs.Writing.{Room}
-use Rattle.files.proofs.PutLaws.{put-next}
+use Rattle.answer.proofs.PutLaws.{put-next}
 use Rattle.files.proofs.WritingPass.{records-room}
 use Rattle.files.proofs.WriterLaws.{header-rows-end}
 use Rattle.files.proofs.writer.put_file.Statement.{statement}

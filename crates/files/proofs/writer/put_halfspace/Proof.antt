@@ -12,7 +12,7 @@ use Rattle.answer.specs.Lent.{put}
 use Rattle.vector.specs.Vectors.{vec}
 use Rattle.region.specs.Bytes.{wordBytes, signedBytes}
 use Rattle.region.specs.Writer.{halfspaceBytes}
-use Rattle.files.proofs.PutLaws.{put-next}
+use Rattle.answer.proofs.PutLaws.{put-next}
 use Rattle.files.proofs.writer.put_halfspace.Statement.{statement}
 use Rattle.files.proofs.writer.put_halfspace.Tie as tie
 

@@ -2,7 +2,7 @@
 use native.Mathlib.Omega.{arith}
 use mathlib.Core.Path.{refl, _∙_}
 use Rattle.region.specs.Bytes.{wordBytes}
-use Rattle.files.proofs.PutLaws.{put-next}
+use Rattle.answer.proofs.PutLaws.{put-next}
 use Rattle.files.proofs.writer.put_kind.Statement.{statement}
 use Rattle.files.proofs.writer.put_kind.Tie as tie
 

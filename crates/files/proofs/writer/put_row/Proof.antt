@@ -9,7 +9,7 @@ use mir.Facts.{toZ-ofZ}
 use Rattle.vector.specs.Numbers.{eqZ}
 use Rattle.region.specs.Writer.{convexBytes, halfspaceBytes}
 use Rattle.files.specs.Writing.{rowBytes}
-use Rattle.files.proofs.PutLaws.{put-next}
+use Rattle.answer.proofs.PutLaws.{put-next}
 use Rattle.files.proofs.writer.put_row.Statement.{statement}
 use Rattle.files.proofs.writer.put_row.Tie as tie
 

@@ -4,7 +4,7 @@ use native.Mathlib.Omega.{arith}
 use mathlib.Core.Path.{refl, ap, _∙_}
 use Rattle.algebra.proofs.Sized.{held, upto-held}
 use Rattle.region.specs.Bytes.{wordBytes, bitsOf}
-use Rattle.files.proofs.PutLaws.{put-next}
+use Rattle.answer.proofs.PutLaws.{put-next}
 use Rattle.files.proofs.writer.put_signed.Statement.{statement}
 use Rattle.files.proofs.writer.put_signed.Tie as tie
 

@@ -1,7 +1,7 @@
 -- The two stores put the two bytes at their place. Assumes nothing.
 use native.Mathlib.Omega.{arith}
 use lib.ListN.{length-set}
-use Rattle.files.proofs.PutLaws.{set-set-put}
+use Rattle.answer.proofs.PutLaws.{set-set-put}
 use Rattle.files.proofs.writer.put_word.Statement.{statement}
 use Rattle.files.proofs.writer.put_word.Tie as tie
 

@@ -1,0 +1,33 @@
+-- `classify::middle::ball_ahead` is the ball of b and E: b·b is at most 3·2⁶¹ in size, and E² at most 2⁴⁰. Assumes nothing.
+use native.Mathlib.Omega.{arith}
+use mathlib.Core.Path.{ap, _∙_}
+use mathlib.Core.Bool.{true}
+use lib.Dec.{lit≤}
+use lib.IntN.{pos, _-ℤ_}
+use Rattle.algebra.proofs.Sized.{Is, held, nat, is-mul, is-sub, fits-mul, fits-sub}
+use Rattle.vector.specs.Numbers.{Kℕ}
+use Rattle.vector.proofs.SizeLaws.{at-most-mono}
+use Rattle.classify.specs.Shape.{square}
+use Rattle.classify.proofs.middle.ball_ahead.Statement.{statement}
+use Rattle.classify.proofs.middle.ball_ahead.Tie as tie
+
+reach : (c : tie.After-greatest-reach) → Is (c .greatest-reach .result) (pos (c .greatest-reach .result)) Kℕ
+reach c = nat (c .greatest-reach .ensures .1) tt
+
+returns : tie.Need-returns
+returns c =
+    let g = c .before .greatest-reach .ensures .0 in
+    let e = reach (c .before) .eq ∙ ap pos g in
+    let r = is-sub (held (c .dot .ensures .1) tt) (is-mul (reach (c .before)) (reach (c .before)) tt) tt .eq ∙ (λ i. c .dot .ensures .0 i -ℤ square (pos (g i))) in
+    λ i. record { known = true; ahead = true; b = c .before .before .args .b; reach = e i; rest = r i }
+
+pub ball-ahead-spec : {M : Type 1} → statement M
+ball-ahead-spec =
+    tie.close
+    (tie.spec
+    (λ c κs. c .pre .1)
+    (λ c. record { sfits = omega arith })
+    (λ c κs. (c .before .pre .0, at-most-mono (lit≤ tt) (c .before .pre .0)))
+    (λ c. fits-mul (reach (c .before)) (reach (c .before)) tt)
+    (λ c. fits-sub (held (c .dot .ensures .1) tt) (is-mul (reach (c .before)) (reach (c .before)) tt) tt)
+    returns)

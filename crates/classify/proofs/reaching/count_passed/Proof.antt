@@ -1,0 +1,58 @@
+-- `classify::reaching::count_passed` tests one ray after the other, and goes no further than it must. Assumes nothing.
+use mathlib.Core.Path.{_≡_, sym, ap, _∙_}
+use mathlib.Core.Bool.{Bool}
+use borrow.Author.Needs.{needs}
+use lib.IntN.{ℤ}
+use mir.Syntax.{w64}
+use mir.Val.{SFits, toZ, ofZ}
+use mir.Facts.{toZ-ofZ}
+use Rattle.vector.specs.declared.Vec3.{Vec3}
+use Rattle.classify.specs.Rays.{passes, passedOf}
+use Rattle.classify.proofs.reaching.count_passed.Statement.{statement}
+use Rattle.classify.proofs.reaching.count_passed.Tie as tie
+
+-- a ray that was tested, with a number that was handed on by its bits
+tested : (f : Vec3) {g : ℤ} (v : Vec3) → SFits w64 g → {b t : Bool} → b ≡ passes f (toZ w64 (ofZ w64 g)) v → b ≡ t → passes f g v ≡ t
+tested f v h e k = sym (e ∙ ap (λ g. passes f g v) (toZ-ofZ h)) ∙ k
+
+abbrev r0 : tie.Start → Bool
+r0 s = passes (s .args .f) (s .args .g) (s .args .s .r0 .r)
+
+abbrev r1 : tie.Start → Bool
+r1 s = passes (s .args .f) (s .args .g) (s .args .s .r1 .r)
+
+abbrev r2 : tie.Start → Bool
+r2 s = passes (s .args .f) (s .args .g) (s .args .s .r2 .r)
+
+first : (c : tie.After-passes) {t : Bool} → c .passes .result ≡ t → r0 (c .before .before .before .before) ≡ t
+first c k = let s = c .before .before .before .before in tested (s .args .f) (s .args .s .r0 .r) (s .fits .g) (c .passes .ensures) k
+
+-- where the first passed
+second : (c : tie.After-passes2) {t : Bool} → c .passes2 .result ≡ t → r1 (c .before .before .before .before .before .before) ≡ t
+second c k = let s = c .before .before .before .before .before .before in tested (s .args .f) (s .args .s .r1 .r) (s .fits .g) (c .passes2 .ensures) k
+
+third : (c : tie.After-passes3) {t : Bool} → c .passes3 .result ≡ t → r2 (c .before .before .before .before .before .before .before .before) ≡ t
+third c k = let s = c .before .before .before .before .before .before .before .before in tested (s .args .f) (s .args .s .r2 .r) (s .fits .g) (c .passes3 .ensures) k
+
+-- where the first did not
+second-then : (c : tie.After-passes4) {t : Bool} → c .passes4 .result ≡ t → r1 (c .before .before .before .before .before .before) ≡ t
+second-then c k = let s = c .before .before .before .before .before .before in tested (s .args .f) (s .args .s .r1 .r) (s .fits .g) (c .passes4 .ensures) k
+
+third-then : (c : tie.After-passes5) {t : Bool} → c .passes5 .result ≡ t → r2 (c .before .before .before .before .before .before .before .before) ≡ t
+third-then c k = let s = c .before .before .before .before .before .before .before .before in tested (s .args .f) (s .args .s .r2 .r) (s .fits .g) (c .passes5 .ensures) k
+
+pub count-passed-spec : {M : Type 1} → statement M
+count-passed-spec =
+    tie.close
+    (tie.spec
+    (λ c κs. search needs)
+    (λ c κs. search needs)
+    (λ c κs. search needs)
+    (λ c. let b = c .before .before .before in let a = b .before .before in sym (λ i. passedOf (first a (b .before .if1 .taken) i) (second b (c .before .before .if2 .taken) i) (third (c .before) (c .if3 .taken) i)))
+    (λ c. let b = c .before .before .before in let a = b .before .before in sym (λ i. passedOf (first a (b .before .if1 .taken) i) (second b (c .before .before .if2 .taken) i) (third (c .before) (c .if3 .left) i)))
+    (λ c. let b = c .before in let a = b .before .before in sym (λ i. passedOf (first a (b .before .if1 .taken) i) (second b (c .if2 .left) i) (r2 (a .before .before .before .before))))
+    (λ c κs. search needs)
+    (λ c. let b = c .before in let a = b .before .before in sym (λ i. passedOf (first a (b .before .if1 .left) i) (second-then b (c .if4 .taken) i) (r2 (a .before .before .before .before))))
+    (λ c κs. search needs)
+    (λ c. let b = c .before .before .before in let a = b .before .before in sym (λ i. passedOf (first a (b .before .if1 .left) i) (second-then b (c .before .before .if4 .left) i) (third-then (c .before) (c .if5 .taken) i)))
+    (λ c. let b = c .before .before .before in let a = b .before .before in sym (λ i. passedOf (first a (b .before .if1 .left) i) (second-then b (c .before .before .if4 .left) i) (third-then (c .before) (c .if5 .left) i))))

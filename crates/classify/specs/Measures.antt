@@ -1,0 +1,118 @@
+-- What classifying measures once, and keeps: of a halfspace, of a trixel, and of a trixel's middle b where it is needed. Document 01, 'Classifying'.
+--   prepared h           of a halfspace: f, d, D, G and f·f − D²
+--   SoundHalf q          q is what a good halfspace is prepared to
+--   withinBy f G t, apartBy f D t   the two tests, by what they use of a halfspace
+--   judged q t           the class of t for the halfspace that q was prepared from (proofs/JudgedLaws: it is halfspaceClass)
+--   IsRay v y            y is the ray v with its square length
+--   Shaped t s           s has the rays of t and whether V > 0
+--   Balled t m           m has b and E of t: whether b is ahead of the rays, and then E and b·b − E²
+--   Fitting t m          so it is, where it is known
+--   ballAhead b e, ballBehind b   what is kept of b where it is ahead of the rays and reaches e, and where it is not ahead
+--   reachAll x0 x1 x2 s n    n² (r·r) ≤ x² for each ray r of s and its x: where each x is b·r, and positive, b reaches n at all three
+--   greatestReach x0 x1 x2 s   the greatest such n up to K, which is E (proofs/ReachLaws)
+--   Bounded x0 x1 x2 s   how large these numbers are
+--   Spanned x0 x1 x2 s low high   the search for it: low is such an n, and none from high up to K is
+use Prim.Native.Nat.{ℕ, _+_, _*_, _^_, _≤_, _<_}
+use mathlib.Core.Path.{_≡_}
+use mathlib.Core.Bool.{Bool, true, false, cond, _&&_}
+use lib.Dec.{leb}
+use lib.IntN.{ℤ, pos, natAbs, _-ℤ_}
+use lib.Signed.{nonNeg}
+use Rattle.wide.specs.Value.{valueOf}
+use Rattle.vector.specs.declared.Vec3.{Vec3}
+use Rattle.vector.specs.Numbers.{Kℕ, greatest}
+use Rattle.vector.specs.Vectors.{dot, isVector, AtMost}
+use Rattle.mesh.specs.declared.Trixel.{Trixel}
+use Rattle.region.specs.declared.Halfspace.{Halfspace}
+use Rattle.region.specs.Building.{isOffset}
+use Rattle.classify.specs.declared.Class.{Class}
+use Rattle.classify.specs.declared.Class.the-variants.{Outside, Partial, Full}
+use Rattle.classify.specs.declared.Half.{Half}
+use Rattle.classify.specs.declared.Ray.{Ray}
+use Rattle.classify.specs.declared.Shape.{Shape}
+use Rattle.classify.specs.declared.Ball.{Ball}
+use Rattle.classify.specs.Shape.{square, positive, ray0, ray1, ray2, volume, eOf, fOf, DOf, GOf, ahead, reaches, bOf, EOf, far}
+
+-- ---- of a halfspace
+
+abbrev pub prepared : Halfspace → Half
+prepared h = record {
+  f = fOf h;
+  d = h .d;
+  low = DOf (eOf h);
+  high = GOf (eOf h);
+  rest = dot (fOf h) (fOf h) -ℤ square (DOf (eOf h));
+}
+
+pub record SoundHalf (q : Half) : Type 0 where
+  pub halfspace : Halfspace
+  pub vector : isVector (halfspace .n) ≡ true
+  pub offset : isOffset (halfspace .d) ≡ true
+  pub is : q ≡ prepared halfspace
+
+-- ---- the class by what was prepared
+
+abbrev pub withinBy : Vec3 → ℤ → Trixel → Bool
+withinBy f g t = positive (volume t) && (ahead f t && reaches f g t)
+
+abbrev pub apartBy : Vec3 → ℤ → Trixel → Bool
+apartBy f D t = positive (volume t) && (ahead (bOf t) t && far f D (bOf t) (EOf t))
+
+unfoldable pub judged : Half → Trixel → Class
+judged q t =
+    cond (nonNeg (q .d))
+    (cond (withinBy (q .f) (q .high) t) Full (cond (apartBy (q .f) (q .low) t) Outside Partial))
+    (cond (withinBy (q .f) (q .high) t) Outside (cond (apartBy (q .f) (q .low) t) Full Partial))
+
+-- ---- of a trixel
+
+pub record IsRay (v : Vec3) (y : Ray) : Type 0 where
+  pub r : y .r ≡ v
+  pub square : valueOf (y .square) ≡ natAbs (dot v v)
+  pub size : AtMost (2 ^ 41) v
+
+pub record Shaped (t : Trixel) (s : Shape) : Type 0 where
+  pub r0 : IsRay (ray0 t) (s .r0)
+  pub r1 : IsRay (ray1 t) (s .r1)
+  pub r2 : IsRay (ray2 t) (s .r2)
+  pub solid : s .solid ≡ positive (volume t)
+
+pub record Balled (t : Trixel) (m : Ball) : Type 0 where
+  pub b : m .b ≡ bOf t
+  pub ahead : m .ahead ≡ ahead (bOf t) t
+  pub reach : m .ahead ≡ true → m .reach ≡ EOf t
+  pub rest : m .ahead ≡ true → m .rest ≡ dot (bOf t) (bOf t) -ℤ square (EOf t)
+
+abbrev pub Fitting : Trixel → Ball → Type 0
+Fitting t m = m .known ≡ true → Balled t m
+
+abbrev pub ballAhead : Vec3 → ℕ → Ball
+ballAhead b e = record { known = true; ahead = true; b = b; reach = pos e; rest = dot b b -ℤ square (pos e) }
+
+abbrev pub ballBehind : Vec3 → Ball
+ballBehind b = record { known = true; ahead = false; b = b; reach = pos 0; rest = pos 0 }
+
+-- ---- E by numbers without a sign: x0 x1 x2 are b·r for the three rays
+
+abbrev pub reachAll : ℕ → ℕ → ℕ → Shape → ℕ → Bool
+reachAll x0 x1 x2 s n =
+    leb (n * n * valueOf (s .r0 .square)) (x0 * x0)
+    && (leb (n * n * valueOf (s .r1 .square)) (x1 * x1)
+    && leb (n * n * valueOf (s .r2 .square)) (x2 * x2))
+
+abbrev pub greatestReach : ℕ → ℕ → ℕ → Shape → ℕ
+greatestReach x0 x1 x2 s = greatest (λ n. reachAll x0 x1 x2 s n) Kℕ
+
+pub record Bounded (x0 x1 x2 : ℕ) (s : Shape) : Type 0 where
+  pub p0 : x0 < 2 ^ 63
+  pub p1 : x1 < 2 ^ 63
+  pub p2 : x2 < 2 ^ 63
+  pub q0 : valueOf (s .r0 .square) ≤ 3 * 2 ^ 82
+  pub q1 : valueOf (s .r1 .square) ≤ 3 * 2 ^ 82
+  pub q2 : valueOf (s .r2 .square) ≤ 3 * 2 ^ 82
+
+pub record Spanned (x0 x1 x2 : ℕ) (s : Shape) (low high : ℕ) : Type 0 where
+  pub order : low < high
+  pub most : high ≤ Kℕ + 1
+  pub passes : reachAll x0 x1 x2 s low ≡ true
+  pub above : (k : ℕ) → high ≤ k → k ≤ Kℕ → reachAll x0 x1 x2 s k ≡ false

@@ -1,0 +1,63 @@
+-- A halfspace against the rays of a trixel, one after the other. Document 01, 'Classifying': within asks that all three pass, and one that passes
+-- refutes apart (proofs/RaysFirst).
+--   passes f g r                     f·r > 0 and (f·r)² ≥ g² (r·r)
+--   allPass f g t, onePasses f g t   all rays of t do; at least one does
+--   passedOf a b c                   none, some or all of three tests passed
+--   raysPassed f g t                 none, some or all of the rays of t pass
+--   OwnRays s                        each ray of s has its own square length
+--   classWithin d, classApart d      the class where within holds, and where apart holds
+--   apartClass q t                   the class where within does not hold
+--   judgementOf c m                  a class, with the middle as far as it is known
+use mathlib.Core.Bool.{Bool, cond, _&&_, _||_}
+use lib.IntN.{ℤ}
+use lib.Signed.{nonNeg}
+use Rattle.vector.specs.declared.Vec3.{Vec3}
+use Rattle.vector.specs.Vectors.{dot}
+use Rattle.mesh.specs.declared.Trixel.{Trixel}
+use Rattle.classify.specs.declared.Class.{Class}
+use Rattle.classify.specs.declared.Class.the-variants.{Outside, Partial, Full}
+use Rattle.classify.specs.declared.Half.{Half}
+use Rattle.classify.specs.declared.Shape.{Shape}
+use Rattle.classify.specs.declared.Ball.{Ball}
+use Rattle.classify.specs.declared.Judgement.{Judgement}
+use Rattle.classify.specs.declared.reaching.Passed.{Passed}
+use Rattle.classify.specs.declared.reaching.Passed.the-variants.{None, Some, All}
+use Rattle.classify.specs.Shape.{positive, ray0, ray1, ray2, reachesRay}
+use Rattle.classify.specs.Measures.{apartBy, IsRay}
+
+-- ---- the rays
+
+unfoldable pub passes : Vec3 → ℤ → Vec3 → Bool
+passes f g r = positive (dot f r) && reachesRay f g r
+
+abbrev pub allPass : Vec3 → ℤ → Trixel → Bool
+allPass f g t = passes f g (ray0 t) && (passes f g (ray1 t) && passes f g (ray2 t))
+
+abbrev pub onePasses : Vec3 → ℤ → Trixel → Bool
+onePasses f g t = passes f g (ray0 t) || (passes f g (ray1 t) || passes f g (ray2 t))
+
+abbrev pub passedOf : Bool → Bool → Bool → Passed
+passedOf a b c = cond a (cond b (cond c All Some) Some) (cond b Some (cond c Some None))
+
+abbrev pub raysPassed : Vec3 → ℤ → Trixel → Passed
+raysPassed f g t = passedOf (passes f g (ray0 t)) (passes f g (ray1 t)) (passes f g (ray2 t))
+
+pub record OwnRays (s : Shape) : Type 0 where
+  pub r0 : IsRay (s .r0 .r) (s .r0)
+  pub r1 : IsRay (s .r1 .r) (s .r1)
+  pub r2 : IsRay (s .r2 .r) (s .r2)
+
+-- ---- the class
+
+-- for d ≥ 0 within means full and apart means outside; for d < 0 within means outside and apart means full
+abbrev pub classWithin : ℤ → Class
+classWithin d = cond (nonNeg d) Full Outside
+
+abbrev pub classApart : ℤ → Class
+classApart d = cond (nonNeg d) Outside Full
+
+unfoldable pub apartClass : Half → Trixel → Class
+apartClass q t = cond (apartBy (q .f) (q .low) t) (classApart (q .d)) Partial
+
+abbrev pub judgementOf : Class → Ball → Judgement
+judgementOf c m = record { class = c; ball = m }

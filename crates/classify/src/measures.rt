@@ -1,0 +1,120 @@
+// What is measured once: of a halfspace f, D, G and f·f − D², of a trixel its rays and whether V > 0. The rules stand in specs/Shape and specs/Measures.
+use crate::Half;
+use crate::Ray;
+use crate::Shape;
+use mesh::Trixel;
+use vector::Vec3;
+use wide::Wide;
+ghost use mathlib.Core.Path.{_≡_};
+ghost use mathlib.Core.Bool.{true};
+ghost use Prim.Native.Nat.{_*_, _^_, _≤_};
+ghost use lib.IntN.{pos, natAbs};
+ghost use Rattle.algebra.specs.Sizes.{Upto};
+ghost use Rattle.wide.specs.Value.{valueOf};
+ghost use Rattle.vector.specs.Numbers.{Kℕ};
+ghost use Rattle.vector.specs.Vectors.{isVector, AtMost, Small, dot, cross};
+ghost use Rattle.mesh.specs.Corners.{SmallTrixel};
+ghost use Rattle.region.specs.Regions.{halfspaceFrom};
+ghost use Rattle.region.specs.Building.{isOffset};
+ghost use Rattle.classify.specs.Shape.{fOf, DOf, GOf};
+ghost use Rattle.classify.specs.Measures as rule;
+ghost use Rattle.classify.specs.Measures.{IsRay, Shaped};
+
+const K: u64 = 1048576;
+
+// ---- of a halfspace
+
+// f: n, or −n for d < 0.
+fn turned(n: Vec3, d: i64) -> Vec3
+    requires { ⌜ Small n ⌝ }
+    ensures { λ r. ⌜ (r ≡ fOf (halfspaceFrom n d)) × Small r ⌝ }
+{
+    if d < 0 {
+        return vector::negated(n);
+    }
+    n
+}
+
+// D: e·K, divided by K + 2.
+fn low_of(e: u64) -> i64
+    requires { ⌜ e ≤ Kℕ ⌝ }
+    ensures { λ r. ⌜ (r ≡ DOf (pos e)) × Upto Kℕ r ⌝ }
+{
+    (e * K / (K + 2)) as i64
+}
+
+// G: e·K, divided by K − 2, and 1.
+fn high_of(e: u64) -> i64
+    requires { ⌜ e ≤ Kℕ ⌝ }
+    ensures { λ r. ⌜ (r ≡ GOf (pos e)) × Upto (2 ^ 21) r ⌝ }
+{
+    (e * K / (K - 2) + 1) as i64
+}
+
+// What belongs to the halfspace of a direction n and an offset d.
+pub fn prepared(n: Vec3, d: i64) -> Half
+    requires { ⌜ isVector n ≡ true ⌝ }
+    requires { ⌜ isOffset d ≡ true ⌝ }
+    ensures { λ r. ⌜ r ≡ rule.prepared (halfspaceFrom n d) ⌝ }
+{
+    let f = turned(n, d);
+    let e = vector::size(d);
+    let low = low_of(e);
+    Half {
+        f: f,
+        d: d,
+        low: low,
+        high: high_of(e),
+        rest: vector::dot(f, f) - low * low,
+    }
+}
+
+// ---- of a trixel
+
+// a²
+fn squared(a: i64) -> Wide
+    requires { ⌜ Upto (2 ^ 41) a ⌝ }
+    ensures { λ r. ⌜ (valueOf r ≡ natAbs a * natAbs a) × (valueOf r ≤ 2 ^ 82) ⌝ }
+{
+    let n = vector::size(a);
+    wide::product(n, n)
+}
+
+// r·r
+fn square_length(r: Vec3) -> Wide
+    requires { ⌜ AtMost (2 ^ 41) r ⌝ }
+    ensures { λ w. ⌜ valueOf w ≡ natAbs (dot r r) ⌝ }
+{
+    wide::sum(wide::sum(squared(r.x), squared(r.y)), squared(r.z))
+}
+
+// The ray a × b, with its square length.
+pub fn ray(a: Vec3, b: Vec3) -> Ray
+    requires { ⌜ Small a ⌝ }
+    requires { ⌜ Small b ⌝ }
+    ensures { λ r. ⌜ IsRay (cross a b) r ⌝ }
+{
+    let r = vector::cross(a, b);
+    Ray {
+        r: r,
+        square: square_length(r),
+    }
+}
+
+// What belongs to a trixel.
+pub fn measured(t: Trixel) -> Shape
+    requires { ⌜ SmallTrixel t ⌝ }
+    ensures { λ r. ⌜ Shaped t r ⌝ }
+{
+    let p0 = t.p0;
+    let p1 = t.p1;
+    let p2 = t.p2;
+    let r0 = ray(p1, p2);
+    let r = r0.r;
+    Shape {
+        r0: r0,
+        r1: ray(p2, p0),
+        r2: ray(p0, p1),
+        solid: 0 < vector::dot(p0, r),
+    }
+}

@@ -1,0 +1,197 @@
+// The middle b of a trixel, and E, the greatest whole number up to K that b reaches at all three rays. The rules stand in specs/Shape and specs/Measures.
+use crate::Ball;
+use crate::Half;
+use crate::Ray;
+use crate::Shape;
+use crate::reaching;
+use mesh::Trixel;
+use vector::Vec3;
+ghost use mathlib.Core.Path.{_≡_};
+ghost use mathlib.Core.Bool.{true};
+ghost use Prim.Native.Nat.{_*_, _^_, _≤_};
+ghost use lib.Dec.{ltb};
+ghost use Rattle.algebra.specs.Sizes.{Upto};
+ghost use Rattle.vector.specs.Numbers.{Kℕ};
+ghost use Rattle.vector.specs.Vectors.{AtMost, Small};
+ghost use Rattle.vector.specs.Vectors as vectors;
+ghost use Rattle.mesh.specs.Corners.{SmallTrixel};
+ghost use Rattle.classify.specs.Shape as rule;
+ghost use Rattle.classify.specs.Shape.{bOf, EOf};
+ghost use Rattle.classify.specs.Measures.{SoundHalf, Shaped, Balled, reachAll, greatestReach, Bounded, Spanned, ballAhead, ballBehind};
+
+const K: u64 = 1048576;
+
+// Where E lies: `low` is reached, and no number from `high` up to K is.
+pub struct Span {
+    pub low: u64,
+    pub high: u64,
+}
+
+// ---- E
+
+// Whether x² ≥ n² (r·r) for each ray r of s and its x.
+fn reaches_all(x0: u64, x1: u64, x2: u64, s: Shape, n: u64) -> bool
+    requires { ⌜ Bounded x0 x1 x2 s ⌝ }
+    requires { ⌜ n ≤ Kℕ ⌝ }
+    ensures { λ t. ⌜ t ≡ reachAll x0 x1 x2 s n ⌝ }
+{
+    let r0 = s.r0;
+    let r1 = s.r1;
+    let r2 = s.r2;
+    if !reaching::reaches(x0, r0, n) {
+        return false;
+    }
+    if !reaching::reaches(x1, r1, n) {
+        return false;
+    }
+    reaching::reaches(x2, r2, n)
+}
+
+// A span of E, by steps down from K that double: E is near K where the trixel is small.
+fn galloped(x0: u64, x1: u64, x2: u64, s: Shape) -> Span
+    requires { ⌜ Bounded x0 x1 x2 s ⌝ }
+    ensures { λ r. ⌜ Spanned x0 x1 x2 s (r .low) (r .high) ⌝ }
+{
+    let mut high = K + 1;
+    let mut step: u64 = 1;
+    while step < K {
+        let n = K - step;
+        if reaches_all(x0, x1, x2, s, n) {
+            return Span { low: n, high: high };
+        }
+        high = n;
+        step = 2 * step;
+    }
+    Span { low: 0, high: high }
+}
+
+// E by bisection of a span.
+fn bisected(x0: u64, x1: u64, x2: u64, s: Shape, p: Span) -> u64
+    requires { ⌜ Bounded x0 x1 x2 s ⌝ }
+    requires { ⌜ Spanned x0 x1 x2 s (p .low) (p .high) ⌝ }
+    ensures { λ r. ⌜ r ≡ greatestReach x0 x1 x2 s ⌝ }
+{
+    let mut low = p.low;
+    let mut high = p.high;
+    while low + 1 < high {
+        let middle = (low + high) / 2;
+        if reaches_all(x0, x1, x2, s, middle) {
+            low = middle;
+        } else {
+            high = middle;
+        }
+    }
+    low
+}
+
+// E, where each x is b·r for its ray r, and positive.
+fn greatest_reach(x0: u64, x1: u64, x2: u64, s: Shape) -> u64
+    requires { ⌜ Bounded x0 x1 x2 s ⌝ }
+    ensures { λ r. ⌜ r ≡ greatestReach x0 x1 x2 s ⌝ }
+    ensures { λ r. ⌜ r ≤ Kℕ ⌝ }
+{
+    bisected(x0, x1, x2, s, galloped(x0, x1, x2, s))
+}
+
+// ---- b
+
+// b = Unit(v0 + v1 + v2)
+fn middle_of(t: Trixel) -> Vec3
+    requires { ⌜ SmallTrixel t ⌝ }
+    ensures { λ r. ⌜ r ≡ bOf t ⌝ }
+    ensures { λ r. ⌜ Small r ⌝ }
+{
+    let v0 = t.v0;
+    let v1 = t.v1;
+    let v2 = t.v2;
+    vector::unit(vector::sum(vector::sum(v0, v1), v2))
+}
+
+// b·r for the ray r
+fn along(b: Vec3, y: Ray) -> i64
+    requires { ⌜ Small b ⌝ }
+    requires { ⌜ AtMost (2 ^ 41) (y .r) ⌝ }
+    ensures { λ x. ⌜ x ≡ vectors.dot b (y .r) ⌝ }
+    ensures { λ x. ⌜ Upto (3 * 2 ^ 61) x ⌝ }
+{
+    let r = y.r;
+    vector::dot(b, r)
+}
+
+// The ball where b is not ahead of every ray: E is not needed.
+fn ball_behind(b: Vec3) -> Ball
+    ensures { λ r. ⌜ r ≡ ballBehind b ⌝ }
+{
+    Ball {
+        known: true,
+        ahead: false,
+        b: b,
+        reach: 0,
+        rest: 0,
+    }
+}
+
+// The ball where b is ahead of every ray, with E.
+fn ball_ahead(b: Vec3, x0: u64, x1: u64, x2: u64, s: Shape) -> Ball
+    requires { ⌜ Small b ⌝ }
+    requires { ⌜ Bounded x0 x1 x2 s ⌝ }
+    ensures { λ r. ⌜ r ≡ ballAhead b (greatestReach x0 x1 x2 s) ⌝ }
+{
+    let e = greatest_reach(x0, x1, x2, s) as i64;
+    Ball {
+        known: true,
+        ahead: true,
+        b: b,
+        reach: e,
+        rest: vector::dot(b, b) - e * e,
+    }
+}
+
+// b and E of a trixel, and what is left of b·b beside E².
+pub fn ball_of(t: Trixel, s: Shape) -> Ball
+    requires { ⌜ SmallTrixel t ⌝ }
+    requires { ⌜ Shaped t s ⌝ }
+    ensures { λ r. ⌜ (r .known ≡ true) × Balled t r ⌝ }
+{
+    let b = middle_of(t);
+    let r0 = s.r0;
+    let x0 = along(b, r0);
+    if x0 <= 0 {
+        return ball_behind(b);
+    }
+    let r1 = s.r1;
+    let x1 = along(b, r1);
+    if x1 <= 0 {
+        return ball_behind(b);
+    }
+    let r2 = s.r2;
+    let x2 = along(b, r2);
+    if x2 <= 0 {
+        return ball_behind(b);
+    }
+    ball_ahead(b, x0 as u64, x1 as u64, x2 as u64, s)
+}
+
+// ---- the test
+
+// Whether m² > p q.
+fn square_passes(m: u64, p: u64, q: u64) -> bool
+    ensures { λ t. ⌜ t ≡ ltb (p * q) (m * m) ⌝ }
+{
+    wide::less(wide::product(p, q), wide::product(m, m))
+}
+
+// Whether D·E − c > 0 and (D·E − c)² > (f·f − D²)(b·b − E²), with c = f·b.
+pub fn far(q: Half, t: Trixel, m: Ball) -> bool
+    requires { ⌜ SoundHalf q ⌝ }
+    requires { ⌜ Balled t m × (m .ahead ≡ true) ⌝ }
+    ensures { λ r. ⌜ r ≡ rule.far (q .f) (q .low) (bOf t) (EOf t) ⌝ }
+{
+    let f = q.f;
+    let b = m.b;
+    let past = q.low * m.reach - vector::dot(f, b);
+    if past <= 0 {
+        return false;
+    }
+    square_passes(past as u64, q.rest as u64, m.rest as u64)
+}

@@ -1,0 +1,105 @@
+-- The cutting as it goes on, with its two lists in one pass in the lent list. Document 01, 'The two lists'.
+--   nothing            before the first trixel
+--   Walked b start a s out   where a was found so far, s and the list `out` have it: the outer list at the front of what `start` had in its first 2 × b
+--                      elements, the inner list at the front of the rest
+--   Adds b found ..    whatever was found before, `found` is noted after it
+--   Visited ..         so is what the cutting of the trixel t finds, `left` levels above the depth, for every region that was prepared to xs and es
+--   Behind, BehindEnd  the inner list's writer was lent the list from element 2 × b on: the elements before it stay
+--   Room b s out       the counts are at most the budget b, and the list has room for both lists
+--   Level ..           how large identifiers and counts get: `span` is 4 to the power `left`
+--   RowsOf g n rs      rs begins with the n rows of g, which is as the region of an accepted file is; SomeRows: of some region; CoversRows: their cover
+use Prim.Native.Nat.{ℕ, suc, _+_, _*_, _^_, _≤_}
+use mathlib.Core.Path.{_≡_}
+use mathlib.Core.Bool.{true}
+use mathlib.Core.List.{List, [], _++_, foldl}
+use lib.ListN.{length, take, drop}
+use lib.IntN.{ℤ}
+use Rattle.mesh.specs.declared.Trixel.{Trixel}
+use Rattle.region.specs.Regions.{Region}
+use Rattle.region.specs.Building.{total, good, Filled}
+use Rattle.region.specs.Rows.{rows}
+use Rattle.classify.specs.Halves.{Prepared}
+use Rattle.ranges.specs.declared.Pending.{Pending}
+use Rattle.ranges.specs.Ranges.{Range}
+use Rattle.ranges.specs.OnePass.{outerPass, Inner, empty, innerPush}
+use Rattle.ranges.specs.Stored.{Writes, Keeps}
+use Rattle.cutting.specs.declared.Tally.{Tally}
+use Rattle.cutting.specs.declared.Counts.{Counts}
+use Rattle.cutting.specs.Cover.{Found, both, visit, cutting, listed, countsOf, bothListed}
+
+abbrev pub nothing : Found
+nothing = record { accepted = []; full = []; seen = 0 }
+
+abbrev pub innerState : ℕ → List Range → Inner
+innerState b rs = foldl (innerPush b) empty rs
+
+pub record Walked (b : ℕ) (start : List ℕ) (a : Found) (s : Tally) (out : List ℕ) : Type 0 where
+  pub front : List ℕ
+  pub back : List ℕ
+  pub list : out ≡ front ++ back
+  pub width : length front ≡ 2 * b
+  pub outer : Writes (outerPass b (a .accepted)) (take (2 * b) start) front (s .outer)
+  pub inner : Keeps (innerState b (a .full)) (drop (2 * b) start) back (s .inner)
+  pub seen : s .seen ≡ a .seen
+
+-- what `found` is, is found after whatever was found before
+abbrev pub Adds : ℕ → Found → Tally → List ℕ → Tally → List ℕ → Type 0
+Adds b found s out s′ out′ = (start : List ℕ) (a : Found) → Walked b start a s out → Walked b start (both a found) s′ out′
+
+abbrev pub Visited : List ℤ → List ℕ → ℕ → ℕ → ℕ → Trixel → ℕ → Tally → List ℕ → Tally → List ℕ → Type 0
+Visited xs es n b left t i s out s′ out′ = (g : Region) → Prepared g xs es n → Adds b (visit left g t i) s out s′ out′
+
+pub record Behind (b : ℕ) (before after : List ℕ) (state : Inner) (p : Pending) : Type 0 where
+  pub rest : List ℕ
+  pub list : after ≡ take (2 * b) before ++ rest
+  pub keeps : Keeps state (drop (2 * b) before) rest p
+
+pub record BehindEnd (b : ℕ) (before after : List ℕ) (rs : List Range) (n : ℕ) : Type 0 where
+  pub rest : List ℕ
+  pub list : after ≡ take (2 * b) before ++ rest
+  pub writes : Writes rs (drop (2 * b) before) rest n
+
+pub record Room (b : ℕ) (s : Tally) (out : List ℕ) : Type 0 where
+  pub budget : 1 ≤ b
+  pub outer : s .outer ≤ b
+  pub inner : s .inner .n ≤ b
+  pub list : 4 * b ≤ length out
+
+pub record Level (i left span seen : ℕ) : Type 0 where
+  pub power : span ≡ 4 ^ left
+  pub small : (i + 1) * span ≤ 2 ^ 40
+  pub few : 3 * seen + 4 ^ suc left ≤ 2 ^ 60
+
+-- one more is classified
+abbrev pub oneMore : Tally → Tally
+oneMore s = record { outer = s .outer; inner = s .inner; seen = s .seen + 1 }
+
+-- the roots are cut: all that the cutting finds is noted
+abbrev pub Cut : List ℤ → List ℕ → ℕ → ℕ → ℕ → List ℕ → Tally → List ℕ → Type 0
+Cut xs es n b depth before s after = (g : Region) → Prepared g xs es n → Walked b before (cutting depth g) s after
+
+-- the lists stand in the lent list, and the counts are theirs
+abbrev pub Covers : List ℤ → List ℕ → ℕ → ℕ → ℕ → List ℕ → Counts → List ℕ → Type 0
+Covers xs es n b depth before c after =
+    (g : Region) → Prepared g xs es n
+    → (c ≡ countsOf (listed b (cutting depth g))) × (after ≡ bothListed b (listed b (cutting depth g)) before)
+
+-- ---- from rows
+
+-- the list begins with the n rows of the region g, which is as the region of an accepted file is
+pub record RowsOf (g : Region) (n : ℕ) (rs : List ℤ) : Type 0 where
+  pub count : n ≡ total g
+  pub most : n ≤ 512
+  pub few : length g ≤ 64
+  pub good : good g ≡ true
+  pub filled : Filled g
+  pub more : List ℤ
+  pub list : rs ≡ rows g ++ more
+
+abbrev pub SomeRows : ℕ → List ℤ → Type 0
+SomeRows n rs = (g : Region) × RowsOf g n rs
+
+abbrev pub CoversRows : ℕ → List ℤ → ℕ → ℕ → List ℕ → Counts → List ℕ → Type 0
+CoversRows n rs b depth before c after =
+    (g : Region) → RowsOf g n rs
+    → (c ≡ countsOf (listed b (cutting depth g))) × (after ≡ bothListed b (listed b (cutting depth g)) before)

@@ -1,0 +1,110 @@
+-- The inner list in lent memory, with the last range beside it, one range more: what each branch of the code writes is what `innerFull`, `innerClose`,
+-- `innerPush` and `innerEnd` say. Assumes nothing.
+use Prim.Native.Nat.{ℕ, suc, _+_, _*_, _-_, _≤_, _<_}
+use mathlib.Core.Path.{_≡_, refl, sym, ap, ap₂, _∙_}
+use mathlib.Core.Bool.{true, false}
+use mathlib.Core.List.{List, [], _∷_, _++_, map}
+use native.Mathlib.Omega.{arith}
+use lib.ListN.{length, set, drop}
+use borrow.Author.Tests.{lt-ltb, le-ltb}
+use Rattle.ranges.specs.declared.Pending.{Pending}
+use Rattle.ranges.specs.Ranges.{Range}
+use Rattle.ranges.specs.Lists.{touch, size, without, earliest}
+use Rattle.ranges.specs.OnePass.{empty, growing, innerFull, innerClose, innerPush, innerEnd}
+use Rattle.ranges.specs.Stored.{range, rangesIn, written, Writes, stateOf, Keeps, shifted}
+use Rattle.ranges.proofs.Loop.{length-snoc}
+use Rattle.ranges.proofs.InnerPass.{length-without, full-keeps, full-drops, length-innerFull}
+use Rattle.ranges.proofs.StoredLaws.{length-in, written-in, in-written, write-append}
+use Rattle.ranges.proofs.ShiftLaws.{shifted-removes}
+use Rattle.ranges.proofs.OuterStored.{writes}
+
+-- ---- the list is full; i is the place of the shortest
+
+module _ (n : ℕ) (l : List ℕ) (low high s i : ℕ) (fits : 2 * n ≤ length l)
+    (long : s ≡ high - low) (least : i ≡ earliest (map size (rangesIn n (drop 0 l)) ++ s ∷ [])) where
+  many : length (rangesIn n l) ≡ n
+  many = length-in n l
+
+  found : i ≡ earliest (map size (rangesIn n l) ++ (high - low) ∷ [])
+  found = least ∙ ap (λ m. earliest (map size (rangesIn n l) ++ m ∷ [])) long
+
+  pub full-stays : 0 < n → i ≡ n → l ≡ written (innerFull (rangesIn n l) (range low high)) l
+  full-stays some h = sym (ap (λ xs. written xs l) (full-keeps (rangesIn n l) (range low high) i (omega (arith, many)) found (omega (arith, many))) ∙ written-in n l fits)
+
+  pub full-shifts : (m : List ℕ) (k : ℕ) → k + 2 ≡ 2 * n → m ≡ shifted (2 * i) l (k - 2 * i) → i < n → set (set m k low) (k + 1) high ≡ written (innerFull (rangesIn n l) (range low high)) l
+  full-shifts m k last e h =
+      let j : suc (length (without i (rangesIn n l))) ≡ length (rangesIn n l) = length-without i (rangesIn n l) (omega (arith, many)) in
+      ap (λ x. set (set x k low) (k + 1) high) (e ∙ shifted-removes n i (k - 2 * i) l h fits (omega arith))
+      ∙ write-append (without i (rangesIn n l)) l low high k (k + 1) (omega (arith, many)) (omega (arith, many)) (omega (arith, many))
+      ∙ ap (λ xs. written xs l) (sym (full-drops (rangesIn n l) (range low high) i found (omega (arith, many))))
+
+-- ---- a range grows no more
+
+close-room : (B : ℕ) (xs : List Range) (r : Range) → length xs < B → innerClose B xs r ≡ xs ++ r ∷ []
+unfolding innerClose
+close-room B xs r h = rw (lt-ltb (length xs) B h)
+
+close-none : (B : ℕ) (xs : List Range) (r : Range) → B ≤ length xs → innerClose B xs r ≡ innerFull xs r
+unfolding innerClose
+close-none B xs r h = rw (le-ltb (length xs) B h)
+
+module _ (B n : ℕ) (l : List ℕ) (low high : ℕ) (fits : 2 * n ≤ length l) where
+  stored : length (rangesIn n l) ≡ n
+  stored = length-in n l
+
+  pub close-appends : n < B → 2 * B ≤ length l → Writes (innerClose B (rangesIn n l) (range low high)) l (set (set l (2 * n) low) (2 * n + 1) high) (n + 1)
+  close-appends h k =
+      writes (close-room B (rangesIn n l) (range low high) (omega (arith, stored)))
+      (omega (arith, stored, length-snoc (rangesIn n l) (range low high)))
+      (ap (λ m. set (set m (2 * n) low) (2 * n + 1) high) (sym (written-in n l fits))
+      ∙ write-append (rangesIn n l) l low high (2 * n) (2 * n + 1) (omega (arith, stored)) (omega (arith, stored)) (omega (arith, stored)))
+
+  pub close-full : (m : List ℕ) → 1 ≤ n → B ≤ n → m ≡ written (innerFull (rangesIn n l) (range low high)) l → Writes (innerClose B (rangesIn n l) (range low high)) l m n
+  close-full m one h e =
+      writes (close-none B (rangesIn n l) (range low high) (omega (arith, stored)))
+      (sym (length-innerFull (rangesIn n l) (range low high) (omega (arith, stored)) ∙ stored))
+      e
+
+-- ---- one range more
+
+pub state-none : (p : Pending) (l : List ℕ) → p .some ≡ false → stateOf p l ≡ empty
+unfolding stateOf
+state-none p l e = rw e
+
+pub state-some : (p : Pending) (l : List ℕ) → p .some ≡ true → stateOf p l ≡ growing (rangesIn (p .n) l) (range (p .low) (p .high))
+unfolding stateOf
+state-some p l e = rw e
+
+-- the ranges xs are stored, and a range beside them
+beside : {xs : List Range} {l l′ : List ℕ} {n : ℕ} (low high : ℕ) → Writes xs l l′ n → Keeps (growing xs (range low high)) l l′ (record { n = n; some = true; low = low; high = high })
+beside {xs} {l} {l′} {n} low high w =
+    record {
+      state = state-some (record { n = n; some = true; low = low; high = high }) l′ refl ∙ ap (λ ys. growing ys (range low high)) (ap₂ rangesIn (w .count) (w .list) ∙ in-written xs l);
+      stored = w;
+    }
+
+module _ (B : ℕ) (p : Pending) (l : List ℕ) (low high : ℕ) where
+  pub pending-first : p .some ≡ false → Keeps (innerPush B (stateOf p l) (range low high)) l l (record { n = 0; some = true; low = low; high = high })
+  unfolding innerPush written
+  pending-first e = rw (state-none p l e) (beside low high (record { count = refl; list = refl }))
+
+  module _ (is : p .some ≡ true) where
+    pub pending-grows : 2 * p .n ≤ length l → touch (range (p .low) (p .high)) (range low high) ≡ true
+        → Keeps (innerPush B (stateOf p l) (range low high)) l l (record { n = p .n; some = true; low = p .low; high = high })
+    unfolding innerPush
+    pending-grows h t = rw (state-some p l is, t) (beside (p .low) high (record { count = sym (length-in (p .n) l); list = sym (written-in (p .n) l h) }))
+
+    pub pending-closes : (m : ℕ) (l′ : List ℕ) → touch (range (p .low) (p .high)) (range low high) ≡ false
+        → Writes (innerClose B (rangesIn (p .n) l) (range (p .low) (p .high))) l l′ m
+        → Keeps (innerPush B (stateOf p l) (range low high)) l l′ (record { n = m; some = true; low = low; high = high })
+    unfolding innerPush
+    pending-closes m l′ t w = rw (state-some p l is, t) (beside low high w)
+
+module _ (B : ℕ) (p : Pending) (l : List ℕ) where
+  pub end-none : p .some ≡ false → Writes (innerEnd B (stateOf p l)) l l 0
+  unfolding innerEnd written
+  end-none e = rw (state-none p l e) (record { count = refl; list = refl })
+
+  pub end-some : p .some ≡ true → (l′ : List ℕ) (m : ℕ) → Writes (innerClose B (rangesIn (p .n) l) (range (p .low) (p .high))) l l′ m → Writes (innerEnd B (stateOf p l)) l l′ m
+  unfolding innerEnd
+  end-some e l′ m w = rw (state-some p l e) w

@@ -1,0 +1,101 @@
+-- The outer list in lent memory, one range more: what each branch of the code writes is what `outerFull` and `outerPush` say. Assumes nothing.
+use Prim.Native.Nat.{ℕ, zero, suc, _+_, _*_, _-_, _≤_, _<_}
+use mathlib.Core.Path.{_≡_, refl, sym, ap, ap₂, _∙_}
+use mathlib.Core.Bool.{Bool, true, false}
+use mathlib.Core.List.{List, [], _∷_, _++_, map}
+use native.Mathlib.Omega.{arith}
+use lib.Dec.{eqb}
+use lib.ListN.{length, getD, drop, set}
+use borrow.Author.Tests.{le-ltb, lt-ltb}
+use Rattle.ranges.specs.Ranges.{Range}
+use Rattle.ranges.specs.Lists.{size, earliest, gaps, joinAt}
+use Rattle.ranges.specs.OnePass.{lastHigh, extend, outerFull, outerNew, outerPush}
+use Rattle.ranges.specs.Stored.{range, rangesIn, written, Writes, shifted}
+use Rattle.ranges.proofs.Loop.{length-snoc}
+use Rattle.ranges.proofs.OuterPass.{length-extend, length-joinAt, length-full, full-last, full-join, push-some}
+use Rattle.ranges.proofs.StoredLaws.{length-in, last-in, written-in, write-append, write-extend}
+use Rattle.ranges.proofs.ShiftLaws.{shifted-joins}
+use Rattle.ranges.proofs.SearchLaws.{gaps-in}
+
+-- the ranges xs are ys, and those are written
+pub writes : {xs ys : List Range} {l m : List ℕ} {n : ℕ} → xs ≡ ys → n ≡ length ys → m ≡ written ys l → Writes xs l m n
+writes {l = l} e c w = record { count = c ∙ ap length (sym e); list = w ∙ ap (λ z. written z l) (sym e) }
+
+-- ---- the list is full; i is the place of the smallest gap
+
+module _ (n : ℕ) (l : List ℕ) (low high g i end : ℕ) (fits : 2 * n ≤ length l) (last : end + 1 ≡ 2 * n)
+    (far : g ≡ low - getD l end 0) (least : i ≡ earliest (map size (rangesIn (n - 1) (drop 1 l)) ++ g ∷ [])) where
+  found : i ≡ earliest (gaps (rangesIn n l) ++ (low - lastHigh (rangesIn n l)) ∷ [])
+  found = least ∙ ap₂ (λ s m. earliest (s ++ m ∷ [])) (sym (at n fits last)) (far ∙ ap (λ m. low - m) (sym (last-in n l end last fits)))
+    where
+      at : (n : ℕ) → 2 * n ≤ length l → end + 1 ≡ 2 * n → gaps (rangesIn n l) ≡ map size (rangesIn (n - 1) (drop 1 l))
+      at zero f e = absurd (omega arith)
+      at (suc n) f e = let q : n ≡ suc n - 1 = omega arith in gaps-in n l (omega arith) ∙ ap (λ k. map size (rangesIn k (drop 1 l))) q
+
+  many : length (rangesIn n l) ≡ n
+  many = length-in n l
+
+  pub full-extends : i + 1 ≡ n → set l end high ≡ written (outerFull (rangesIn n l) (range low high)) l
+  full-extends h =
+      ap (λ m. set m end high) (sym (written-in n l fits))
+      ∙ write-extend (rangesIn n l) l (range low high) end (omega (arith, many))
+      ∙ ap (λ xs. written xs l) (sym (full-last (rangesIn n l) (range low high) i found (omega (arith, many))))
+
+  pub full-joins : (m : List ℕ) → m ≡ shifted (2 * i + 1) l (end - 1 - (2 * i + 1)) → i + 1 < n → set (set m (end - 1) low) end high ≡ written (outerFull (rangesIn n l) (range low high)) l
+  full-joins m e h =
+      let j : length (joinAt i (rangesIn n l)) + 1 ≡ n = fewer (rangesIn n l) many in
+      ap (λ x. set (set x (end - 1) low) end high) (e ∙ shifted-joins n i (2 * i + 1) (end - 1 - (2 * i + 1)) l h fits refl (omega arith))
+      ∙ write-append (joinAt i (rangesIn n l)) l low high (end - 1) end (omega arith) (omega arith) (omega arith)
+      ∙ ap (λ xs. written xs l) (sym (full-join (rangesIn n l) (range low high) i found (omega (arith, many))))
+    where
+      fewer : (xs : List Range) → length xs ≡ n → length (joinAt i xs) + 1 ≡ n
+      fewer [] e = absurd (omega arith)
+      fewer (a ∷ xs) e = omega (arith, length-joinAt i a xs (omega arith))
+
+-- ---- one range more
+
+push-touching : (B : ℕ) (xs : List Range) (r : Range) → 0 < length xs → eqb (lastHigh xs + 1) (r .low) ≡ true → outerPush B xs r ≡ extend xs r
+push-touching B xs r h t = push-some B xs r h ∙ rw t
+
+push-apart : (B : ℕ) (xs : List Range) (r : Range) → 0 < length xs → eqb (lastHigh xs + 1) (r .low) ≡ false → outerPush B xs r ≡ outerNew B xs r
+push-apart B xs r h t = push-some B xs r h ∙ rw t
+
+new-room : (B : ℕ) (xs : List Range) (r : Range) → length xs < B → outerNew B xs r ≡ xs ++ r ∷ []
+unfolding outerNew
+new-room B xs r h = rw (lt-ltb (length xs) B h)
+
+new-full : (B : ℕ) (xs : List Range) (r : Range) → B ≤ length xs → outerNew B xs r ≡ outerFull xs r
+unfolding outerNew
+new-full B xs r h = rw (le-ltb (length xs) B h)
+
+pub push-first : (B n : ℕ) (l : List ℕ) (low high : ℕ) → n ≡ 0 → 2 ≤ length l → Writes (outerPush B (rangesIn n l) (range low high)) l (set (set l 0 low) 1 high) 1
+unfolding outerPush rangesIn written
+push-first B n l low high e h =
+    writes {ys = range low high ∷ []} (ap (λ m. outerPush B (rangesIn m l) (range low high)) e) refl (write-append [] l low high 0 1 refl refl h)
+
+module _ (B n : ℕ) (l : List ℕ) (low high end : ℕ) (some : 0 < n) (fits : 2 * n ≤ length l) (last : end + 1 ≡ 2 * n) where
+  stored : length (rangesIn n l) ≡ n
+  stored = length-in n l
+
+  at-end : {t : Bool} → eqb (getD l end 0 + 1) low ≡ t → eqb (lastHigh (rangesIn n l) + 1) low ≡ t
+  at-end e = ap (λ m. eqb (m + 1) low) (last-in n l end last fits) ∙ e
+
+  pub push-extends : eqb (getD l end 0 + 1) low ≡ true → Writes (outerPush B (rangesIn n l) (range low high)) l (set l end high) n
+  push-extends t =
+      writes (push-touching B (rangesIn n l) (range low high) (omega (arith, stored)) (at-end t))
+      (sym (length-extend (rangesIn n l) (range low high) ∙ stored))
+      (ap (λ m. set m end high) (sym (written-in n l fits)) ∙ write-extend (rangesIn n l) l (range low high) end (omega (arith, stored)))
+
+  module _ (t : eqb (getD l end 0 + 1) low ≡ false) where
+    pub push-appends : n < B → 2 * B ≤ length l → Writes (outerPush B (rangesIn n l) (range low high)) l (set (set l (end + 1) low) (end + 2) high) (n + 1)
+    push-appends h k =
+        writes (push-apart B (rangesIn n l) (range low high) (omega (arith, stored)) (at-end t) ∙ new-room B (rangesIn n l) (range low high) (omega (arith, stored)))
+        (omega (arith, stored, length-snoc (rangesIn n l) (range low high)))
+        (ap (λ m. set (set m (end + 1) low) (end + 2) high) (sym (written-in n l fits))
+        ∙ write-append (rangesIn n l) l low high (end + 1) (end + 2) (omega (arith, stored)) (omega (arith, stored)) (omega (arith, stored)))
+
+    pub push-full : (m : List ℕ) → B ≤ n → m ≡ written (outerFull (rangesIn n l) (range low high)) l → Writes (outerPush B (rangesIn n l) (range low high)) l m n
+    push-full m h e =
+        writes (push-apart B (rangesIn n l) (range low high) (omega (arith, stored)) (at-end t) ∙ new-full B (rangesIn n l) (range low high) (omega (arith, stored)))
+        (sym (length-full (rangesIn n l) (range low high) (omega (arith, stored)) ∙ stored))
+        e

@@ -1,0 +1,41 @@
+-- `ranges::inner_push` is the three cases of `innerPush`: the first range, a touching one, and a new one. Assumes nothing.
+use mathlib.Core.Path.{sym, _∙_}
+use native.Mathlib.Omega.{arith}
+use borrow.Author.Tests.{not-true, not-false}
+use Rattle.ranges.proofs.InnerStored.{pending-first, pending-grows, pending-closes}
+use Rattle.ranges.proofs.inner_push.Statement.{statement}
+use Rattle.ranges.proofs.inner_push.Tie as tie
+
+first : tie.Need-returns
+first c =
+    let s = c .before .before in
+    (pending-first (s .args .budget) (s .args .p) (s .args .list .now) (s .args .low) (s .args .high) (not-true _ (c .if1 .taken)), omega arith)
+
+touching : tie.Need-returns-2
+touching c =
+    let a = c .before in
+    let s = a .before .before .before in
+    let k = pending-grows (s .args .budget) (s .args .p) (s .args .list .now) (s .args .low) (s .args .high) (not-false _ (a .before .if1 .left)) (omega arith)
+    (sym (a .touches .ensures) ∙ c .if2 .taken) in
+    (k, omega arith)
+
+closes : tie.Need-returns-3
+closes c =
+    let b = c .before .before in
+    let e = b .before .before in
+    let a = e .before in
+    let s = a .before .before .before in
+    let k = pending-closes (s .args .budget) (s .args .p) (s .args .list .now) (s .args .low) (s .args .high) (not-false _ (a .before .if1 .left)) _ _
+    (sym (a .touches .ensures) ∙ e .if2 .left) (b .inner-close .ensures .0) in
+    (k, b .inner-close .ensures .1)
+
+pub inner-push-spec : {M : Type 1} → statement M
+inner-push-spec =
+    tie.close
+    (tie.spec
+    first
+    (λ c κs. tt)
+    touching
+    (λ c κs. c .before .before .before .before .before .pre)
+    (λ c. omega arith)
+    closes)

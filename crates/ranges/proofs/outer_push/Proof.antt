@@ -1,0 +1,66 @@
+-- `ranges::outer_push` is the four cases of `outerPush`: the first range, a touching one, one more, and a full list. Assumes nothing.
+use Prim.Native.Nat.{_*_, _-_}
+use mathlib.Core.Path.{sym, _∙_}
+use native.Mathlib.Omega.{arith}
+use lib.ListN.{length-set}
+use Rattle.ranges.proofs.OuterStored.{push-first, push-extends, push-appends, push-full}
+use Rattle.ranges.proofs.outer_push.Statement.{statement}
+use Rattle.ranges.proofs.outer_push.Tie as tie
+
+first : tie.Need-returns
+first c = (push-first _ _ _ _ _ (omega arith) (omega arith), (omega arith, omega arith))
+
+touching : tie.Need-returns-2
+touching c =
+    let a = c .before in
+    let s = a .before .before .before .before in
+    let w = push-extends (s .args .budget) (s .args .n) (s .args .list .now) (s .args .low) (s .args .high) (2 * s .args .n - 1) (omega arith) (omega arith) (omega arith)
+    (sym (a .touches .ensures) ∙ c .if2 .taken) in
+    (w, (omega arith, omega arith))
+
+more : tie.Need-returns-3
+more c =
+    let a = c .before .before in
+    let s = a .before .before .before .before in
+    let w = push-appends (s .args .budget) (s .args .n) (s .args .list .now) (s .args .low) (s .args .high) (2 * s .args .n - 1) (omega arith) (omega arith) (omega arith)
+    (sym (a .touches .ensures) ∙ c .before .if2 .left) (omega arith) (s .pre .2) in
+    (w, (omega arith, omega arith))
+
+full : tie.Need-returns-4
+full c =
+    let e = c .before .before .before .before in
+    let a = e .before .before in
+    let s = a .before .before .before .before in
+    let w = push-full (s .args .budget) (s .args .n) (s .args .list .now) (s .args .low) (s .args .high) (2 * s .args .n - 1) (omega arith) (omega arith) (omega arith)
+    (sym (a .touches .ensures) ∙ e .before .if2 .left) _ (omega arith) (c .before .before .outer-full .ensures) in
+    (w, (omega arith, omega arith))
+
+pub outer-push-spec : {M : Type 1} → statement M
+outer-push-spec =
+    tie.close
+    (tie.spec
+    (λ c. omega arith)
+    (λ c. simp length-set (omega arith))
+    (λ c. simp length-set (omega arith))
+    first
+    (λ c. omega arith)
+    (λ c. omega arith)
+    (λ c. omega arith)
+    (λ c. omega arith)
+    (λ c κs. tt)
+    (λ c. omega arith)
+    (λ c. omega arith)
+    (λ c. simp length-set (omega arith))
+    touching
+    (λ c. omega arith)
+    (λ c. omega arith)
+    (λ c. omega arith)
+    (λ c. omega arith)
+    (λ c. omega arith)
+    (λ c. simp length-set (omega arith))
+    (λ c. omega arith)
+    (λ c. simp length-set (omega arith))
+    more
+    (λ c κs. (omega arith, omega arith))
+    (λ c. omega arith)
+    full)

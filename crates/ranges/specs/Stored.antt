@@ -1,0 +1,58 @@
+-- The two lists as one pass keeps them, in lent memory. Document 01, 'The two lists': pairs low, high, one range after the other.
+--   range low high   a range, by its two numbers
+--   rangesIn n l     the first n ranges of the list l
+--   written xs l     the list l with the ranges xs at its front, each in the place of two elements; the other elements stay
+--   Writes xs before after n   `after` is `before` with the ranges xs, n of them, at its front
+-- The inner list's last range may still grow, so it stands beside the lent list, with the count of those in it: a `Pending`.
+--   nothingYet       where there is no range yet
+--   closed s         the ranges of the inner list s that grow no more
+--   stateOf p l      the inner list that p and the lent list l say
+--   Keeps s before after p   p and `after` say s, and `after` is `before` with the closed ranges of s, as many as p counts, at its front
+-- And for one step of the code:
+--   shifted at l k   the list l, where k elements, from number `at` on, are those two places further on
+use Prim.Native.Nat.{ℕ, zero, suc, _+_}
+use mathlib.Core.Path.{_≡_}
+use mathlib.Core.Bool.{false, cond}
+use mathlib.Core.List.{List, [], _∷_}
+use lib.ListN.{length, getD, drop}
+use lib.Seq.{paste}
+use Rattle.ranges.specs.declared.Pending.{Pending}
+use Rattle.ranges.specs.Ranges.{Range}
+use Rattle.ranges.specs.OnePass.{Inner, empty, growing}
+
+abbrev pub range : ℕ → ℕ → Range
+range low high = record { low = low; high = high }
+
+-- n pairs low, high from the beginning of xs
+unfoldable pub rangesIn : ℕ → List ℕ → List Range
+rangesIn zero xs = []
+rangesIn (suc n) xs = range (getD xs 0 0) (getD xs 1 0) ∷ rangesIn n (drop 2 xs)
+
+unfoldable pub written : List Range → List ℕ → List ℕ
+written [] l = l
+written (a ∷ xs) l = a .low ∷ a .high ∷ written xs (drop 2 l)
+
+pub record Writes (xs : List Range) (before after : List ℕ) (n : ℕ) : Type 0 where
+  pub count : n ≡ length xs
+  pub list : after ≡ written xs before
+
+-- ---- the inner list
+
+abbrev pub nothingYet : Pending
+nothingYet = record { n = 0; some = false; low = 0; high = 0 }
+
+abbrev pub closed : Inner → List Range
+closed empty = []
+closed (growing xs r) = xs
+
+unfoldable pub stateOf : Pending → List ℕ → Inner
+stateOf p l = cond (p .some) (growing (rangesIn (p .n) l) (range (p .low) (p .high))) empty
+
+pub record Keeps (s : Inner) (before after : List ℕ) (p : Pending) : Type 0 where
+  pub state : stateOf p after ≡ s
+  pub stored : Writes (closed s) before after (p .n)
+
+-- ---- a step of the code
+
+unfoldable pub shifted : ℕ → List ℕ → ℕ → List ℕ
+shifted at l k = paste l at (drop (at + 2) l) k
