@@ -7,6 +7,7 @@ import pathlib
 import re
 from math import gcd, isqrt
 
+import cover_cases
 import htm
 import region_cases as regions
 from htm import K, Refused
@@ -65,6 +66,7 @@ COMMANDS = {
     b'rows': regions.rows_answer,
     b'file': file,
     b'holds': holds,
+    b'cover': cover_cases.cover_answer,
 }
 
 
@@ -395,10 +397,14 @@ def points():
     yield from regions.points(DRAWS, direction)
 
 
+def covers():
+    yield from cover_cases.lines(DRAWS, direction, into_rule)
+
+
 def cases():
     groups = (document_01, document_000, depths, borders, corners_and_middles, ties, lengths, octants, anywhere, no_vectors, identifiers, names,
               trixel_corners, regions.damaged, regions.two_faults, regions.limits, regions.edges, regions.writer_rows, points, regions.region_shapes,
-              odd_numbers, other_shapes, long_lines)
+              odd_numbers, other_shapes, long_lines, covers)
     for group in groups:
         yield from group()
     yield b'id N00000000000'                        # the last line, which ends without a line feed

@@ -3,3 +3,4 @@ pub mod Refusals
 pub mod PromiseKept
 pub mod AnswersKept
 pub mod CoverAnswers
+pub mod CLaws

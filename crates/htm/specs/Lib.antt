@@ -1,4 +1,5 @@
 pub mod Answers
+pub mod CalledFromC
 pub mod Starred
 pub mod Refusals
 pub mod Promise

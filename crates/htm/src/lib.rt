@@ -8,8 +8,12 @@ use region::HeaderOf;
 use region::HeldOf;
 use vector::Vec3;
 ghost use mathlib.Core.Path.{_≡_};
-ghost use Prim.Native.Nat.{_^_, _<_};
+ghost use Prim.Native.Nat.{_^_, _≤_, _<_};
+ghost use lib.ListN.{length};
+ghost use lib.IntN.{pos, negℤ};
+ghost use Rattle.algebra.specs.Sizes.{Upto};
 ghost use Rattle.answer.specs.Calls.{numberOf};
+ghost use Rattle.answer.specs.Lent.{put};
 ghost use Rattle.vector.specs.Vectors.{vec};
 ghost use Rattle.mesh.specs.Lookup as mesh_lookup;
 ghost use Rattle.mesh.specs.Names.{identifierOf};
@@ -19,6 +23,7 @@ ghost use Rattle.mesh.specs.Answers.{nameAnswer, nameAfter};
 ghost use Rattle.region.specs.Answers.{headerGiven, readAnswer, readAfter, writeAnswer, writeAfter, heldGiven, pointTest};
 ghost use Rattle.region.specs.Budgets.{budgetOf};
 ghost use Rattle.htm.specs.Answers.{entry, coverGiven, coverAnswer, coverAfter};
+ghost use Rattle.htm.specs.CalledFromC.{heldForC, statusOf, refusalOf, countsList, coverForC, coverAfterC, countsAfterC};
 
 fn pointing(x: i32, y: i32, z: i32) -> Vec3
     ensures { λ r. ⌜ r ≡ vec x y z ⌝ }
@@ -125,5 +130,67 @@ pub extern "C" fn lookup(x: i32, y: i32, z: i32, depth: u32) -> u64
     match answer {
         Number::Gives(id) => id,
         Number::Refused(_) => 0,
+    }
+}
+
+// A refusal's number for a host in C.
+fn minus(n: u32) -> i64
+    ensures { λ r. ⌜ (r ≡ negℤ (pos n)) × Upto (2 ^ 32) r ⌝ }
+{
+    -(n as i64)
+}
+
+// The point test for a host in C: 1 where the region holds the pointing, 0 where it does not, or minus the number of the refusal.
+#[no_mangle]
+pub extern "C" fn htm_holds(file: &[u8], x: i32, y: i32, z: i32) -> i64
+    ensures { λ r. ⌜ r ≡ heldForC (pointTest (now (file .entry)) (vec x y z)) ⌝ }
+{
+    let answer = holds(file, x, y, z);
+    match answer {
+        HeldOf::Gives(held) => { if held { 1 } else { 0 } }
+        HeldOf::Refused(n) => minus(n),
+    }
+}
+
+// The refusal of a file whose cover has nowhere to go: its own, or 10.
+fn without_room(file: &[u8]) -> i64
+    ensures { λ r. ⌜ (r ≡ statusOf (refusalOf (now (file .entry)))) × Upto (2 ^ 32) r ⌝ }
+{
+    let mut none = [0u64; 1];
+    let answer = cover(file, &mut none);
+    match answer {
+        CoverOf::Gives(_) => 0,
+        CoverOf::Refused(n) => minus(n),
+    }
+}
+
+// The three counts, at the beginning of a list.
+fn put_counts(counts: &mut [u64], c: Counts)
+    requires { ⌜ 3 ≤ length (now counts) ⌝ }
+    ensures { λ _. ⌜ now (counts .exit) ≡ put 0 (countsList c) (now (counts .entry)) ⌝ }
+{
+    counts[0] = c.outer;
+    counts[1] = c.inner;
+    counts[2] = c.seen;
+}
+
+// The cover for a host in C: 0, with both counts and seen at the beginning of `counts`, or minus the number of the refusal; 10 also where `counts`
+// has fewer than three elements.
+#[no_mangle]
+pub extern "C" fn htm_cover(file: &[u8], out: &mut [u64], counts: &mut [u64]) -> i64
+    ensures { λ r. ⌜ r ≡ statusOf (coverForC (now (file .entry)) (now (out .entry)) (now (counts .entry))) ⌝ }
+    ensures { λ r. ⌜ now (out .exit) ≡ coverAfterC (now (file .entry)) (now (out .entry)) (now (counts .entry)) ⌝ }
+    ensures { λ r. ⌜ now (counts .exit) ≡ countsAfterC (now (file .entry)) (now (out .entry)) (now (counts .entry)) ⌝ }
+{
+    if counts.len() < 3 {
+        return without_room(file);
+    }
+    let answer = cover(file, out);
+    match answer {
+        CoverOf::Gives(c) => {
+            put_counts(counts, c);
+            0
+        }
+        CoverOf::Refused(n) => minus(n),
     }
 }

@@ -4,15 +4,13 @@ use crate::arguments;
 use crate::arguments::NaturalAt;
 use crate::arguments::PointAt;
 use crate::numbers::Natural;
-use crate::numbers::least;
-use crate::print;
-use crate::print::Buffer;
 use crate::regions;
 use crate::words;
 use answer::Number;
 use check::same;
 use mesh::Corners;
 use mesh::CornersOf;
+use print::Buffer;
 use vector::Vec3;
 
 pub fn answer(line: &[u8], out: &mut Buffer, at: usize) -> usize {
@@ -38,6 +36,9 @@ pub fn answer(line: &[u8], out: &mut Buffer, at: usize) -> usize {
     }
     if same(word, b"holds") {
         return regions::holds(line, next, out, at);
+    }
+    if same(word, b"cover") {
+        return regions::cover(line, next, out, at);
     }
     print::usage(out, at)
 }
@@ -99,17 +100,10 @@ fn corners(line: &[u8], next: usize, out: &mut Buffer, at: usize) -> usize {
     }
 }
 
-// A name has at most 32 bytes.
+// The name of an identifier, and the line's end.
 fn print_name(out: &mut Buffer, at: usize, i: u64) -> usize {
-    let mut text = [0u8; 32];
-    match htm::name(i, &mut text) {
-        Number::Gives(n) => {
-            let k = least(n, 32);
-            let end = print::text(out, at, &text[0..k]);
-            print::byte(out, end, b'\n')
-        },
-        Number::Refused(n) => print::refused(out, at, n),
-    }
+    let end = print::name(out, at, i);
+    print::byte(out, end, b'\n')
 }
 
 fn print_corners(out: &mut Buffer, at: usize, c: Corners) -> usize {

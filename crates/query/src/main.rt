@@ -7,6 +7,7 @@
 //   rows HEX             depth, budget and count of a region file, and the numbers of its rows
 //   file DEPTH BUDGET N1 N2 ..   the region file of rows of five numbers each, in hexadecimal digits
 //   holds HEX X Y Z      whether the region of a file holds a pointing: yes or no
+//   cover HEX            the lines that program cover prints for a file, joined by `|`
 //
 // A refusal is answered `refused N`, a line of another shape `usage`. Words are parted by one blank; numbers are decimal, X Y Z with an
 // optional minus. HEX is a file in hexadecimal digits, or `-` for one with no bytes. A line ends with a line feed; the last line may do
@@ -15,7 +16,6 @@ mod arguments;
 mod commands;
 mod lists;
 mod numbers;
-mod print;
 mod regions;
 mod words;
 

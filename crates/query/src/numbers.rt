@@ -1,5 +1,4 @@
 // Numbers in decimal digits. A word with no digit or with another byte is none, and neither is one that does not fit.
-ghost use Prim.Native.Nat.{_≤_};
 ghost use mathlib.Core.Path.{_≡_};
 ghost use mathlib.Core.List.{[], _∷_};
 ghost use Rattle.query.specs.Numbers.{UpTo, naturalFrom, naturalIn, wholeIn, plain, negated};
@@ -83,11 +82,4 @@ fn negative(n: Natural) -> Whole
         Natural::Is(k) => Whole::Is((-(k as i64)) as i32),
         Natural::Not => Whole::Not,
     }
-}
-
-// A length that is given as a number, up to `most`.
-pub fn least(n: u64, most: usize) -> usize
-    ensures { λ r. ⌜ r ≤ most ⌝ }
-{
-    if n < most as u64 { n as usize } else { most }
 }

@@ -4,11 +4,9 @@ use crate::arguments::NaturalAt;
 use crate::arguments::PointAt;
 use crate::lists;
 use crate::lists::MOST;
-use crate::numbers::least;
-use crate::print;
-use crate::print::Buffer;
 use crate::words;
 use answer::Number;
+use print::Buffer;
 use region::Header;
 use region::HeaderOf;
 use region::HeldOf;
@@ -36,7 +34,7 @@ fn read(file: &[u8; MOST], n: usize, out: &mut Buffer, at: usize) -> usize {
     let mut rows = [0i32; ROWS];
     match htm::read(&all[0..n], &mut rows) {
         HeaderOf::Gives(header) => {
-            let k = least(header.count as u64 * 5, ROWS);
+            let k = print::least(header.count as u64 * 5, ROWS);
             print_rows(out, at, header, &rows[0..k])
         },
         HeaderOf::Refused(k) => print::refused(out, at, k),
@@ -72,7 +70,7 @@ fn write(
     let mut bytes = [0u8; BYTES];
     match htm::write(depth, budget, &all[0..n], &mut bytes) {
         Number::Gives(count) => {
-            let k = least(count, BYTES);
+            let k = print::least(count, BYTES);
             print_file(out, at, &bytes[0..k])
         },
         Number::Refused(k) => print::refused(out, at, k),
@@ -102,6 +100,22 @@ fn test(file: &[u8; MOST], n: usize, x: i32, y: i32, z: i32, out: &mut Buffer, a
         HeldOf::Gives(held) => print_held(out, at, held),
         HeldOf::Refused(k) => print::refused(out, at, k),
     }
+}
+
+// cover HEX
+pub fn cover(line: &[u8], next: usize, out: &mut Buffer, at: usize) -> usize {
+    let mut file = [0u8; MOST];
+    let n = lists::file(words::last(line, next), &mut file);
+    lines(&file, n, out, at)
+}
+
+// The cover of a file of n bytes on one line, if it has a length.
+fn lines(file: &[u8; MOST], n: usize, out: &mut Buffer, at: usize) -> usize {
+    let all: &[u8] = file;
+    if all.len() < n {
+        return print::usage(out, at);
+    }
+    print::cover::lines(out, at, &all[0..n], b'|')
 }
 
 // The answer of the point test.

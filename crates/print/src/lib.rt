@@ -1,8 +1,12 @@
-// Answers are collected in a lent buffer: each function puts something there from `at` on, and its result is the place after that. A full
-// buffer is written to standard output.
+// What the programs print. Answers are collected in a lent buffer: each function puts something there from `at` on, and its result is the place
+// after that. A full buffer is written to standard output.
+use answer::Number;
 use libc::STDOUT_FILENO;
+ghost use Prim.Native.Nat.{_≤_};
 ghost use mathlib.Core.Path.{_≡_};
 ghost use lib.IntN.{natAbs};
+
+pub mod cover;
 
 pub const SIZE: usize = 65536;
 
@@ -28,10 +32,14 @@ pub fn text(out: &mut Buffer, at: usize, bytes: &[u8]) -> usize {
 
 // A number, and the byte that parts it from what follows.
 pub fn natural(out: &mut Buffer, at: usize, n: u64, then: u8) -> usize {
+    let end = digits(out, at, n);
+    byte(out, end, then)
+}
+
+pub fn digits(out: &mut Buffer, at: usize, n: u64) -> usize {
     let mut digits = [0u8; 20];
     let k = io::decimal(n, &mut digits);
-    let end = text(out, at, &digits[..k]);
-    byte(out, end, then)
+    text(out, at, &digits[..k])
 }
 
 pub fn whole(out: &mut Buffer, at: usize, n: i64, then: u8) -> usize {
@@ -53,9 +61,34 @@ fn size(n: i64) -> u64
     }
 }
 
-pub fn refused(out: &mut Buffer, at: usize, number: u32) -> usize {
+// The name of an identifier, which has at most 32 bytes, or the refusal of a number that is none.
+pub fn name(out: &mut Buffer, at: usize, id: u64) -> usize {
+    let mut name = [0u8; 32];
+    match htm::name(id, &mut name) {
+        Number::Gives(n) => {
+            let k = least(n, 32);
+            text(out, at, &name[0..k])
+        },
+        Number::Refused(n) => refusal(out, at, n),
+    }
+}
+
+// A length that is given as a number, up to `most`.
+pub fn least(n: u64, most: usize) -> usize
+    ensures { λ r. ⌜ r ≤ most ⌝ }
+{
+    if n < most as u64 { n as usize } else { most }
+}
+
+// A refusal, and one that is a line of its own.
+pub fn refusal(out: &mut Buffer, at: usize, number: u32) -> usize {
     let end = text(out, at, b"refused ");
-    natural(out, end, number as u64, b'\n')
+    digits(out, end, number as u64)
+}
+
+pub fn refused(out: &mut Buffer, at: usize, number: u32) -> usize {
+    let end = refusal(out, at, number);
+    byte(out, end, b'\n')
 }
 
 pub fn usage(out: &mut Buffer, at: usize) -> usize {

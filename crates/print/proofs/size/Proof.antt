@@ -1,4 +1,4 @@
--- `query::print::size` meets its contract: a negative number is turned by way of its neighbour, whose negation always fits. Assumes nothing.
+-- `print::size` meets its contract: a negative number is turned by way of its neighbour, whose negation always fits. Assumes nothing.
 use Prim.Native.Nat.{ℕ, zero, suc, _+_, _^_, _<_}
 use native.Mathlib.Omega.{arith}
 use mathlib.Core.Path.{_≡_, refl}
@@ -11,8 +11,8 @@ use mir.Syntax.{w64}
 use mir.Val.{SFits, toZ, ofZ}
 use mir.Facts.{toZ-ofZ}
 use borrow.Author.Needs.{needs}
-use Rattle.query.proofs.print.size.Statement.{statement}
-use Rattle.query.proofs.print.size.Tie as tie
+use Rattle.print.proofs.size.Statement.{statement}
+use Rattle.print.proofs.size.Tie as tie
 
 -- of a negative number: one more, that negated, and what the size of this is
 record Turned (z : ℤ) : Type 0 where

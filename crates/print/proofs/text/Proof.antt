@@ -1,9 +1,9 @@
--- `query::print::text` is safe and ends: the place in `bytes` grows up to their number. Assumes nothing.
+-- `print::text` is safe and ends: the place in `bytes` grows up to their number. Assumes nothing.
 use Prim.Native.Nat.{_-_, _≤_}
 use native.Mathlib.Omega.{arith}
 use lib.ListN.{length}
-use Rattle.query.proofs.print.text.Statement.{statement}
-use Rattle.query.proofs.print.text.Tie as tie
+use Rattle.print.proofs.text.Statement.{statement}
+use Rattle.print.proofs.text.Tie as tie
 
 abbrev Inv-loop : tie.InvT-loop
 Inv-loop out₀ at bytes end₀ i₀ i-end out end i = i ≤ length bytes
