@@ -200,6 +200,20 @@ def class_borders(sky):
     yield from (line(cap((K3, K3, K3), d), 2, 4) for d in range(K3 - 5, K3 + 2))
 
 
+# Trixel, direction and offset for which (f·r)² and G²(r·r), for one ray r of the trixel, are equal in their upper 64 bits and differ below;
+# in the first and the last the former is greater. They were found by a search.
+LOWER_WORDS = ((3338, (-427542, -946560, -144026), 964746), (514, (606475, 829818, 207600), 705691), (3969, (848122, 598210, -149478), 884047),
+               (609, (-387004, 775285, 590483), 408130))
+
+
+def lower_words(sky):
+    """Squares of which the lower word decides, for both signs of the offset."""
+    for i, n, d in LOWER_WORDS:
+        squares = [(htm.dot(n, r)**2, (d * K // (K - 2) + 1)**2 * htm.dot(r, r)) for r in htm.shape(i)[1]]
+        assert any(a != b and a >> 64 == b >> 64 for a, b in squares)
+        yield from (line(region, htm.depth_of(i) + 1, 4) for region in (cap(n, d), cap(htm.neg(n), -d)))
+
+
 def damaged(sky):
     """Every refusal of a file, at every place; what is accepted all the same is covered."""
     good = b''.join(GOOD)
@@ -221,7 +235,7 @@ def shapes(sky):
 
 def lines(draws, direction, into_rule):
     groups = (document_01, budgets, long_lists, empty_lists, whole_sky, great_circles, small_caps, large_caps, several_convexes, polygons,
-              many_halfspaces, class_borders, damaged, shapes)
+              many_halfspaces, class_borders, lower_words, damaged, shapes)
     sky = Sky(draws, direction, into_rule)
     for group in groups:
         yield from group(sky)

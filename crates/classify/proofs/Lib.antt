@@ -10,5 +10,3 @@ pub mod JudgedLaws
 pub mod ReachLaws
 pub mod BallLaws
 pub mod FarLaws
-pub mod ScanLaws
-pub mod PreparingLaws

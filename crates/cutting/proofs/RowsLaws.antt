@@ -6,8 +6,8 @@ use mathlib.Core.List.{List}
 use lib.ListN.{length}
 use lib.IntN.{ℤ}
 use Rattle.region.specs.Regions.{Region}
-use Rattle.classify.specs.Halves.{Prepared, stored, marked, FitRows}
-use Rattle.classify.proofs.PreparingLaws.{rows-fit, rows-prepared}
+use Rattle.scan.specs.Halves.{Prepared, stored, marked, FitRows}
+use Rattle.scan.proofs.PreparingLaws.{rows-fit, rows-prepared}
 use Rattle.cutting.specs.Walk.{RowsOf}
 
 module _ (g : Region) (n : ℕ) (rs : List ℤ) (r : RowsOf g n rs) where

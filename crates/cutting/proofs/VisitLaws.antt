@@ -16,7 +16,7 @@ use Rattle.region.specs.Regions.{Region}
 use Rattle.classify.specs.declared.Class.{Class}
 use Rattle.classify.specs.declared.Class.the-variants.{Outside, Partial, Full}
 use Rattle.classify.specs.Classes.{regionClass}
-use Rattle.classify.specs.Halves.{Prepared, Classed}
+use Rattle.scan.specs.Halves.{Prepared, Classed}
 use Rattle.ranges.specs.Stored.{range}
 use Rattle.cutting.specs.declared.Tally.{Tally}
 use Rattle.cutting.specs.Cover.{descendants, takenFull, takenPartial, both, four, cutInto, visit}

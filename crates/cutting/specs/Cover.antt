@@ -4,7 +4,7 @@
 --   cutting d g     the cutting of the eight roots to the depth d, in identifier order
 --   Cover           the outer and the inner list, and seen
 --   cover x         the cover of a file that was read
---   countsOf c      both counts and seen
+--   countsOf c      both counts and seen; countsList: as three numbers
 --   bothListed b c  the two lists in a lent list
 --   SeenBound       seen is at most 8(4^depth − 1)/3 (proofs/CuttingLaws)
 use Prim.Native.Nat.{ℕ, zero, suc, _+_, _-_, _*_, _^_, _≤_}
@@ -94,6 +94,10 @@ cover x = listed (budgetOf (x .budget)) (cutting (x .depth) (x .region))
 
 abbrev pub countsOf : Cover → Counts
 countsOf c = record { outer = length (c .outer); inner = length (c .inner); seen = c .seen }
+
+-- as three numbers
+abbrev pub countsList : Counts → List ℕ
+countsList c = c .outer ∷ c .inner ∷ c .seen ∷ []
 
 abbrev pub bothListed : ℕ → Cover → List ℕ → List ℕ
 bothListed b c before = put (2 * b) (pairs (c .inner)) (put 0 (pairs (c .outer)) before)

@@ -18,7 +18,7 @@ use Rattle.mesh.specs.declared.Trixel.{Trixel}
 use Rattle.region.specs.Regions.{Region}
 use Rattle.region.specs.Building.{total, good, Filled}
 use Rattle.region.specs.Rows.{rows}
-use Rattle.classify.specs.Halves.{Prepared}
+use Rattle.scan.specs.Halves.{Prepared}
 use Rattle.ranges.specs.declared.Pending.{Pending}
 use Rattle.ranges.specs.Ranges.{Range}
 use Rattle.ranges.specs.OnePass.{outerPass, Inner, empty, innerPush}

@@ -1,18 +1,17 @@
 // The cutting of the roots, depth first, with the two lists in the lent list. The rules stand in specs/.
 use classify::Class;
-use classify::preparing;
-use classify::scan;
 use mesh::Trixel;
 use mesh::trixels;
 use ranges::Pending;
 ghost use mathlib.Core.Path.{_≡_};
 ghost use Prim.Native.Nat.{suc, _+_, _*_, _^_, _≤_, _<_};
 ghost use lib.ListN.{length, drop};
+ghost use Rattle.answer.specs.Lent.{put};
 ghost use Rattle.mesh.specs.Corners.{SmallTrixel};
-ghost use Rattle.classify.specs.Halves.{Ready};
+ghost use Rattle.scan.specs.Halves.{Ready};
 ghost use Rattle.ranges.specs.OnePass.{innerPush, innerEnd};
 ghost use Rattle.ranges.specs.Stored.{range, stateOf};
-ghost use Rattle.cutting.specs.Cover.{takenFull, takenPartial};
+ghost use Rattle.cutting.specs.Cover.{takenFull, takenPartial, countsList};
 ghost use Rattle.cutting.specs.Walk.{Adds, Visited, Behind, BehindEnd, Room, Level, Cut, Covers, SomeRows, CoversRows, oneMore};
 
 // What was found so far: how many outer ranges are stored, the inner list's count and last range, and the trixels classified.
@@ -103,7 +102,7 @@ fn visit(
     ensures { λ r. ⌜ Visited (now (xs .entry)) (now (ends .entry)) n budget left t id s (now (out .entry)) r (now (out .exit)) ⌝ }
     ensures { λ r. ⌜ Room budget r (now (out .exit)) × (3 * r .seen + 1 ≤ 3 * s .seen + 4 ^ suc left) ⌝ }
 {
-    let class = scan::class_of(t, xs, ends, n);
+    let class = scan::classes::class_of(t, xs, ends, n);
     match class {
         Class::Outside => seen_more(s),
         Class::Full => take_full(out, budget, s, id * span, id * span + (span - 1)),
@@ -287,6 +286,16 @@ pub fn cover(depth: u32, rows: &[i32; 2560], n: usize, budget: usize, out: &mut 
 {
     let mut xs = [0i64; 3584];
     let mut ends = [0u64; 64];
-    preparing::prepare(rows, n, &mut xs, &mut ends);
+    scan::preparing::prepare(rows, n, &mut xs, &mut ends);
     cover_arrays(depth, &xs, &ends, n, budget, out)
+}
+
+// The three counts, at the beginning of a list.
+pub fn put_counts(counts: &mut [u64], c: Counts)
+    requires { ⌜ 3 ≤ length (now counts) ⌝ }
+    ensures { λ _. ⌜ now (counts .exit) ≡ put 0 (countsList c) (now (counts .entry)) ⌝ }
+{
+    counts[0] = c.outer;
+    counts[1] = c.inner;
+    counts[2] = c.seen;
 }

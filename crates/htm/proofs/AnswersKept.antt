@@ -9,9 +9,11 @@ use lib.Dec.{leb}
 use lib.ListN.{length, take, drop, length-append, length-drop}
 use lib.Seq.{take-append-add, drop-at, length-take-le}
 use borrow.Author.Tests.{leb-true}
+use Rattle.answer.specs.declared.Number.{Number}
+use Rattle.answer.specs.Calls.{numberOf}
 use Rattle.answer.specs.Answer.{gives, check, Vector, Space}
 use Rattle.answer.specs.Lent.{put, room, stored}
-use Rattle.answer.proofs.AnswerLaws.{check-passed, check-gives, same-value, then-gives, value-gives}
+use Rattle.answer.proofs.AnswerLaws.{check-passed, check-gives, refused-gives, same-value, then-gives, value-gives}
 use Rattle.vector.specs.declared.Vec3.{Vec3}
 use Rattle.vector.specs.Vectors.{isVector}
 use Rattle.region.specs.Regions.{holds}
@@ -23,7 +25,7 @@ use Rattle.ranges.specs.Stored.{rangesIn}
 use Rattle.cutting.specs.Cover.{cover, countsOf}
 use Rattle.cutting.specs.declared.Counts.{Counts}
 use Rattle.htm.specs.Answers.{coverInto, coverAnswer, bothLists, coverAfter, outerIn, innerIn}
-use Rattle.htm.specs.Promise.{Kept, PromiseOfAnswers}
+use Rattle.htm.specs.Promise.{Kept, PromiseOfAnswers, PromiseOfCalls}
 use Rattle.htm.proofs.PromiseKept.{promise-kept}
 
 -- ---- pairs are read back as they were written
@@ -125,3 +127,16 @@ answers-kept p f before c h cov tst =
       k .1,
       subst₃ (λ y l b. Kept (k .0) (outerIn y l) (innerIn B y l) B b) (v .counts) (v .lists) (t .1) lists,
     )
+
+-- ---- of the calls
+
+-- a lookup that gives i
+found-is : (found : Number) (i : ℕ) → numberOf found ≡ gives i → found ≡ Number.Gives i
+found-is (Number.Gives n) i e = ap Number.Gives (same-value n i e)
+found-is (Number.Refused n) i e = refused-gives n i e
+
+pub calls-kept : PromiseOfCalls
+calls-kept p f before after c h cov left tst =
+    let k = answers-kept p f before c h (sym cov) (sym tst) in
+    let B = budgetOf (k .0 .budget) in
+    (k .0, k .1, k .2, λ found e. found-is found (k .2) (e ∙ k .3), subst (λ l. Kept (k .2) (outerIn c l) (innerIn B c l) B h) (sym left) (k .4))

@@ -13,9 +13,9 @@ use Rattle.region.specs.Budgets.{budgetOf}
 use Rattle.region.specs.Reader.{File, read}
 use Rattle.region.proofs.BudgetLaws.{budget-one}
 use Rattle.cutting.specs.declared.Counts.{Counts}
-use Rattle.cutting.specs.Cover.{cover, countsOf}
+use Rattle.cutting.specs.Cover.{cover, countsOf, countsList}
 use Rattle.htm.specs.Answers.{coverInto, coverAnswer, bothLists, coverAfter}
-use Rattle.htm.specs.CalledFromC.{statusOf, refusalOf, countsList, coverForC, coverAfterC, countsAfterC}
+use Rattle.htm.specs.CalledFromC.{statusOf, refusalOf, coverForC, coverAfterC, countsAfterC}
 
 -- a list of one element is too short for every budget
 none-fits : (x : File) (short : List ℕ) → length short ≡ 1 → room (4 * budgetOf (x .budget)) short x ≡ refused Space

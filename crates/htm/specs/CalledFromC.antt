@@ -6,13 +6,13 @@
 --   coverForC, coverAfterC, countsAfterC   its counts; the lent list and the list of counts afterwards: outer, inner, seen
 use Prim.Native.Nat.{ℕ}
 use mathlib.Core.Bool.{Bool, cond}
-use mathlib.Core.List.{List, [], _∷_}
+use mathlib.Core.List.{List}
 use lib.IntN.{ℤ, pos, negℤ}
 use Rattle.answer.specs.Answer.{Answer, refused, gives, then, with-value, Space}
 use Rattle.answer.specs.Lent.{put, stored, room}
 use Rattle.region.specs.Reader.{File, read}
 use Rattle.cutting.specs.declared.Counts.{Counts}
-use Rattle.cutting.specs.Cover.{cover, countsOf}
+use Rattle.cutting.specs.Cover.{cover, countsOf, countsList}
 use Rattle.htm.specs.Answers.{coverInto, bothLists}
 
 abbrev pub heldForC : Answer Bool → ℤ
@@ -25,9 +25,6 @@ statusOf (gives a) = pos 0
 
 abbrev pub refusalOf : List ℕ → Answer File
 refusalOf f = then (read f) (λ x. refused Space)
-
-abbrev pub countsList : Counts → List ℕ
-countsList c = c .outer ∷ c .inner ∷ c .seen ∷ []
 
 abbrev pub coverInBoth : List ℕ → List ℕ → List ℕ → Answer File
 coverInBoth f out counts = then (coverInto f out) (λ x. room 3 counts x)

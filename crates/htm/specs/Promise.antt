@@ -3,24 +3,28 @@
 --   inner-held    where i is in an inner range, the region holds p
 --   held-outer    where the region holds p, i is in exactly one outer range
 --   outer-list, inner-list   each list ascends, leaves at least one identifier between neighbours, and has at most the budget of ranges
--- `Promise` says so of the rules, `PromiseOfAnswers` of what the calls answer and of the lists that stand in the lent list afterwards.
--- Both are proved: proofs/PromiseKept, proofs/AnswersKept.
+-- `Promise` says so of the rules, `PromiseOfAnswers` of what the calls answer and of the lists that stand in the lent list afterwards,
+-- `PromiseOfCalls` of values that meet the calls' contracts. All are proved: proofs/PromiseKept, proofs/AnswersKept.
 use Prim.Native.Nat.{ℕ}
 use mathlib.Core.Path.{_≡_}
 use mathlib.Core.Bool.{Bool, true}
 use mathlib.Core.List.{List}
+use Rattle.answer.specs.declared.Number.{Number}
 use Rattle.answer.specs.Answer.{gives}
+use Rattle.answer.specs.Calls.{numberOf}
 use Rattle.vector.specs.declared.Vec3.{Vec3}
 use Rattle.vector.specs.Vectors.{isVector}
 use Rattle.mesh.specs.Lookup.{lookup}
 use Rattle.region.specs.Regions.{holds}
 use Rattle.region.specs.Budgets.{budgetOf}
 use Rattle.region.specs.Reader.{File, Accepted}
-use Rattle.region.specs.Answers.{pointTest}
+use Rattle.region.specs.declared.HeldOf.{HeldOf}
+use Rattle.region.specs.Answers.{pointTest, heldGiven}
 use Rattle.ranges.specs.Ranges.{Range, inSome, timesIn, Proper}
 use Rattle.cutting.specs.Cover.{cover}
 use Rattle.cutting.specs.declared.Counts.{Counts}
-use Rattle.htm.specs.Answers.{coverAnswer, coverAfter, outerIn, innerIn}
+use Rattle.htm.specs.declared.CoverOf.{CoverOf}
+use Rattle.htm.specs.Answers.{coverAnswer, coverAfter, coverGiven, outerIn, innerIn}
 
 -- of an identifier i, two lists, the budget that is counted with, and whether the region holds the point
 pub record Kept (i : ℕ) (outer inner : List Range) (budget : ℕ) (held : Bool) : Type 0 where
@@ -42,3 +46,13 @@ PromiseOfAnswers =
     (p : Vec3) (f before : List ℕ) (c : Counts) (held : Bool) → coverAnswer f before ≡ gives c → pointTest f p ≡ gives held
     → (x : File) × Accepted f x × (i : ℕ) × (lookup p (x .depth) ≡ gives i)
     × Kept i (outerIn c (coverAfter f before)) (innerIn (budgetOf (x .budget)) c (coverAfter f before)) (budgetOf (x .budget)) held
+
+-- The same by the contracts of the calls, `htm::cover`, `htm::holds` and `htm::locate` (src/lib.rt): where the cover gave c and left `after` in the
+-- lent list, and the point test gave `held`, there is an identifier i that the lookup at the file's depth gives, and the promise holds of all of them.
+abbrev pub PromiseOfCalls : Type 0
+PromiseOfCalls =
+    (p : Vec3) (f before after : List ℕ) (c : Counts) (held : Bool)
+    → coverGiven (CoverOf.Gives c) ≡ coverAnswer f before → after ≡ coverAfter f before
+    → heldGiven (HeldOf.Gives held) ≡ pointTest f p
+    → (x : File) × Accepted f x × (i : ℕ) × ((found : Number) → numberOf found ≡ lookup p (x .depth) → found ≡ Number.Gives i)
+    × Kept i (outerIn c after) (innerIn (budgetOf (x .budget)) c after) (budgetOf (x .budget)) held

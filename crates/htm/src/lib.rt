@@ -8,12 +8,10 @@ use region::HeaderOf;
 use region::HeldOf;
 use vector::Vec3;
 ghost use mathlib.Core.Path.{_≡_};
-ghost use Prim.Native.Nat.{_^_, _≤_, _<_};
-ghost use lib.ListN.{length};
+ghost use Prim.Native.Nat.{_^_, _<_};
 ghost use lib.IntN.{pos, negℤ};
 ghost use Rattle.algebra.specs.Sizes.{Upto};
 ghost use Rattle.answer.specs.Calls.{numberOf};
-ghost use Rattle.answer.specs.Lent.{put};
 ghost use Rattle.vector.specs.Vectors.{vec};
 ghost use Rattle.mesh.specs.Lookup as mesh_lookup;
 ghost use Rattle.mesh.specs.Names.{identifierOf};
@@ -23,7 +21,7 @@ ghost use Rattle.mesh.specs.Answers.{nameAnswer, nameAfter};
 ghost use Rattle.region.specs.Answers.{headerGiven, readAnswer, readAfter, writeAnswer, writeAfter, heldGiven, pointTest};
 ghost use Rattle.region.specs.Budgets.{budgetOf};
 ghost use Rattle.htm.specs.Answers.{entry, coverGiven, coverAnswer, coverAfter};
-ghost use Rattle.htm.specs.CalledFromC.{heldForC, statusOf, refusalOf, countsList, coverForC, coverAfterC, countsAfterC};
+ghost use Rattle.htm.specs.CalledFromC.{heldForC, statusOf, refusalOf, coverForC, coverAfterC, countsAfterC};
 
 fn pointing(x: i32, y: i32, z: i32) -> Vec3
     ensures { λ r. ⌜ r ≡ vec x y z ⌝ }
@@ -95,7 +93,7 @@ pub enum CoverOf {
 }
 
 // The budget that is counted with: 0 means 64.
-fn budget_of(written: u32) -> usize
+pub fn budget_of(written: u32) -> usize
     ensures { λ r. ⌜ (r ≡ budgetOf written) × (r < 2 ^ 32) ⌝ }
 {
     if written == 0 { 64 } else { written as usize }
@@ -164,16 +162,6 @@ fn without_room(file: &[u8]) -> i64
     }
 }
 
-// The three counts, at the beginning of a list.
-fn put_counts(counts: &mut [u64], c: Counts)
-    requires { ⌜ 3 ≤ length (now counts) ⌝ }
-    ensures { λ _. ⌜ now (counts .exit) ≡ put 0 (countsList c) (now (counts .entry)) ⌝ }
-{
-    counts[0] = c.outer;
-    counts[1] = c.inner;
-    counts[2] = c.seen;
-}
-
 // The cover for a host in C: 0, with both counts and seen at the beginning of `counts`, or minus the number of the refusal; 10 also where `counts`
 // has fewer than three elements.
 #[no_mangle]
@@ -188,7 +176,7 @@ pub extern "C" fn htm_cover(file: &[u8], out: &mut [u64], counts: &mut [u64]) ->
     let answer = cover(file, out);
     match answer {
         CoverOf::Gives(c) => {
-            put_counts(counts, c);
+            cutting::put_counts(counts, c);
             0
         }
         CoverOf::Refused(n) => minus(n),

@@ -15,9 +15,6 @@ use region::HeaderOf;
 // Two lists of pairs, each within the largest budget, 2048.
 const ELEMENTS: usize = 8192;
 
-// What a budget of 0 counts as.
-const DEFAULT_BUDGET: usize = 64;
-
 // The most numbers in the rows of a region file.
 const ROWS: usize = 2560;
 
@@ -79,10 +76,7 @@ fn labelled(out: &mut Buffer, at: usize, label: &[u8], n: u64) -> usize {
 
 // The element of the lent list at which the inner list begins: twice the budget.
 fn inner_start(budget: u32) -> usize {
-    if budget == 0 {
-        return 2 * DEFAULT_BUDGET;
-    }
-    least(budget as u64 * 2, ELEMENTS)
+    least(htm::budget_of(budget) as u64 * 2, ELEMENTS)
 }
 
 // The pairs of so many ranges from an element on.

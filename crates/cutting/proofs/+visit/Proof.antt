@@ -5,7 +5,7 @@ use mathlib.Core.Path.{_≡_, ap, _∙_}
 use lib.Dec.{lit<}
 use borrow.Fn.Kinds.{In}
 use borrow.Fn.PlainCycle.{Measures, is, falls, and}
-use Rattle.classify.proofs.scan.class_of.Reads as class-of-reads
+use Rattle.scan.proofs.classes.class_of.Reads as class-of-reads
 use Rattle.mesh.specs.Trixels.{child0, child1, child2, child3}
 use Rattle.mesh.proofs.trixels.child0.Reads as child0-reads
 use Rattle.mesh.proofs.trixels.child1.Reads as child1-reads

@@ -4,7 +4,7 @@ use native.Mathlib.Omega.{arith}
 use mathlib.Core.Path.{_≡_, refl, sym, subst, _∙_}
 use lib.ListN.{length}
 use Rattle.region.specs.Regions.{Region}
-use Rattle.classify.specs.Halves.{Prepared}
+use Rattle.scan.specs.Halves.{Prepared}
 use Rattle.cutting.specs.Walk.{nothing, Walked, Room}
 use Rattle.cutting.proofs.WalkLaws.{foundTo, walk-start, roots-done}
 use Rattle.cutting.proofs.VisitLaws.{root-level, root-seen, root-more}
