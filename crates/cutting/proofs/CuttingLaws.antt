@@ -46,10 +46,10 @@ listOf full f = f .full
 
 -- ---- stretches of numbers
 
-full-stretch : (i q : ℕ) → (i + 1) * q ≡ i * q + q
+pub full-stretch : (i q : ℕ) → (i + 1) * q ≡ i * q + q
 full-stretch i q = ap natAbs (ring 2 (λ i q. (i :+ `1) :* q :≡ i :* q :+ q) refl (pos i) (pos q))
 
-power : (n : ℕ) → 1 ≤ 4 ^ n
+pub power : (n : ℕ) → 1 ≤ 4 ^ n
 power n = one-le-pow n 4 (lit< tt)
 
 four-low : (i n : ℕ) → i * 4 ^ suc n ≡ 4 * i * 4 ^ n

@@ -1,7 +1,7 @@
 -- One trixel of the cutting, by its class: left out, accepted as full, accepted at the depth, or cut, and then its four children one after the other.
 -- And how large identifiers and counts get on the way down. Assumes nothing.
 use Prim.Native.Nat.{ℕ, zero, suc, _+_, _-_, _*_, _/_, _^_, _≤_, _<_}
-use native.Mathlib.Nat.{pow-suc, pow-le-pow-right, one-le-pow, mul-le-mul, mul-le-mul-left, mul-le-mul-right}
+use native.Mathlib.Nat.{pow-suc, pow-le-pow-right, mul-le-mul, mul-le-mul-left, mul-le-mul-right}
 use native.Mathlib.Omega.{arith}
 use mathlib.Core.Path.{_≡_, refl, sym, ap, subst, subst₂, _∙_}
 use mathlib.Core.List.{List}
@@ -21,20 +21,14 @@ use Rattle.ranges.specs.Stored.{range}
 use Rattle.cutting.specs.declared.Tally.{Tally}
 use Rattle.cutting.specs.Cover.{descendants, takenFull, takenPartial, both, four, cutInto, visit}
 use Rattle.cutting.specs.Walk.{Walked, Adds, Visited, Room, Level, oneMore}
-use Rattle.cutting.proofs.CuttingLaws.{below, found-outside, found-full, found-last, found-cut}
+use Rattle.cutting.proofs.CuttingLaws.{full-stretch, power, below, found-outside, found-full, found-last, found-cut}
 use Rattle.cutting.proofs.WalkLaws.{left-out, cut-adds, foundTo}
 
 -- ---- the range of a trixel
 
-power : (n : ℕ) → 1 ≤ 4 ^ n
-power n = one-le-pow n 4 (lit< tt)
-
-one-further : (i q : ℕ) → (i + 1) * q ≡ i * q + q
-one-further i q = ap natAbs (ring 2 (λ i q. (i :+ `1) :* q :≡ i :* q :+ q) refl (pos i) (pos q))
-
 pub full-range : (i left span : ℕ) → span ≡ 4 ^ left → range (i * span) (i * span + (span - 1)) ≡ descendants left i
 full-range i left span e =
-    let h : i * 4 ^ left + (4 ^ left - 1) ≡ (i + 1) * 4 ^ left - 1 = omega (arith, one-further i (4 ^ left), power left) in
+    let h : i * 4 ^ left + (4 ^ left - 1) ≡ (i + 1) * 4 ^ left - 1 = omega (arith, full-stretch i (4 ^ left), power left) in
     ap (λ q. range (i * q) (i * q + (q - 1))) e ∙ (λ j. range (i * 4 ^ left) (h j))
 
 last-range : (i : ℕ) → range i i ≡ descendants 0 i
@@ -104,7 +98,7 @@ room-more {b} {s} {r} {out} h e = subst (λ q. Room b q out) (sym e) (record { b
 module _ (i left span seen : ℕ) (l : Level i left span seen) where
   pub range-fits : (i * span + (span - 1) < 2 ^ 40) × (1 ≤ span)
   range-fits =
-      let e : (i + 1) * span ≡ i * span + span = one-further i span in
+      let e : (i + 1) * span ≡ i * span + span = full-stretch i span in
       let q : 1 ≤ span = subst (λ x. 1 ≤ x) (sym (l .power)) (power left) in
       (omega (arith, l .small), q)
 
