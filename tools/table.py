@@ -1,5 +1,5 @@
 #!/usr/bin/env python3
-"""Prints the rows of crates/table/src/lib.rt by the model htm.py: a line for each of the trixels 128 to 255, x y z of v0 v1 v2 p0 p1 p2;
+"""Prints the rows of crates/table/src/lib.rt by the model htm.py: two lines for each of the trixels 128 to 255, x y z of v0 v1 v2 and of p0 p1 p2;
 the same numbers as the list of crates/table/proofs/Constants.antt; and the lines of crates/table/proofs/row/Proof.antt that answer for them.
 
 python3 tools/table.py              print the rows
@@ -17,12 +17,12 @@ CRATE = Path(__file__).resolve().parent.parent / "crates/table"
 
 
 def row(j):
-    corners, normals = trixel(128 + j)
-    return f"        {j if j < 127 else '_'} => [" + ", ".join(str(n) for v in corners + normals for n in v) + "],\n"
+    three = trixel(128 + j // 2)[j % 2]
+    return f"        {j if j < 255 else '_'} => [" + ", ".join(str(n) for v in three for n in v) + "],\n"
 
 
 def rows():
-    return "".join(map(row, range(128)))
+    return "".join(map(row, range(256)))
 
 
 def signed(n):
@@ -38,7 +38,7 @@ def constants():
 
 
 def answers():
-    return "".join(f"    (λ c. at {j} (c .match .keys{j + 1}) refl (c .before .pre))\n" for j in range(127))
+    return "".join(f"    (λ c. at {j} (c .match .keys{j + 1}) refl (c .before .pre))\n" for j in range(255))
 
 
 FILES = {"": ("src/lib.rt", rows), "--constants": ("proofs/Constants.antt", constants), "--answers": ("proofs/row/Proof.antt", answers)}

@@ -5,6 +5,9 @@ pub mod Claim
 pub mod Inequalities
 pub mod Vec
 pub mod Cone
+pub mod Containment
 pub mod Separation
 pub mod Sized
 pub mod Tests
+pub mod Reciprocal
+pub mod Filters

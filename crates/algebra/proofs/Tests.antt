@@ -1,6 +1,6 @@
 -- Tests and what they say: Booleans joined by &&, the order tests of ℕ and of ℤ, tests over lists. Assumes nothing.
 use Prim.Native.Nat.{ℕ, _*_, _≤_}
-use mathlib.Core.Path.{_≡_, refl, sym, subst, _∙_}
+use mathlib.Core.Path.{_≡_, refl, sym, ap, subst, _∙_}
 use mathlib.Core.Bool.{Bool, true, false, not, _&&_, _||_, true≢false, false≢true}
 use mathlib.Core.List.{List, [], _∷_}
 use borrow.Author.Tests.{ltb-true, ltb-false, le-leb, lt-leb}
@@ -107,6 +107,9 @@ not-le {a} {b} h = split (leZ a b) (λ e. clashℤ h (le-yes e)) (λ e. e)
 
 pub no-le : {a b : ℤ} → leZ a b ≡ false → b <ℤ a
 no-le {a} {b} e = by-order b a (λ l. l) (λ g. absurd (true≢false (sym (yes-le g) ∙ e)))
+
+pub le-not-lt : (a b : ℤ) → leZ a b ≡ not (ltZ b a)
+le-not-lt a b = by-order b a (λ l. not-le l ∙ sym (ap not (yes-lt l))) (λ g. yes-le g ∙ sym (ap not (no-lt g)))
 
 -- ---- tests over lists
 

@@ -2,20 +2,21 @@
 -- are at most K, and what is left of the square length has no sign. D is at most K − 2, and f, a vector, is at least K − 2 long; b is ahead of a ray
 -- that it reaches by E, so its length is at least E, by Cauchy and Schwarz. With them b, E and the rest are what a ball holds. Assumes nothing.
 use Prim.Native.Nat.{ℕ, _*_, _/_, _^_, _≤_}
-use native.Mathlib.Nat.{lt-of-le-of-lt}
 use native.Mathlib.Omega.{arith}
 use mathlib.Core.Path.{_≡_, refl, sym, ap, subst, _∙_}
 use mathlib.Core.Bool.{Bool, true, false, cond, true≢false, false≢true}
-use lib.Dec.{T, le→leb, lit<}
+use mathlib.Core.List.{[], _∷_}
+use lib.Dec.{T, le→leb, leb→le}
 use lib.IntN.{ℤ, pos, negsuc, natAbs, _-ℤ_, _*ℤ_}
 use lib.Signed.{nonNeg, leZ, _≤ℤ_, leZ-yes, yes-nonNeg}
 use Rattle.algebra.specs.Sizes.{Upto}
-use Rattle.algebra.proofs.Order.{≤ℤ-trans, nn-pos, gap-nn}
-use Rattle.algebra.proofs.Inequalities.{sq-mono}
-use Rattle.algebra.proofs.Sized.{upto-sub, upto-mul}
+use Rattle.algebra.proofs.Order.{≤ℤ-trans, nn-pos, nn-sq, gap-nn}
+use Rattle.algebra.proofs.Ring.{_:-_}
+use Rattle.algebra.proofs.Claim.{_:≤_, hyp, prove}
+use Rattle.algebra.proofs.Inequalities.{`0, sq-mono}
+use Rattle.algebra.proofs.Sized.{upto-high}
 use Rattle.algebra.proofs.Tests.{and-left, and-both, and-no-left, and-no-right, le-yes, lt-yes, yes-lt, no-lt, no-le}
 use Rattle.algebra.proofs.Vec.{reach-at-most}
-use Rattle.wide.specs.Value.{valueOf}
 use Rattle.vector.specs.declared.Vec3.{Vec3}
 use Rattle.vector.specs.Numbers.{Kℕ}
 use Rattle.vector.specs.Vectors.{minus, dot, isVector, Small}
@@ -27,12 +28,12 @@ use Rattle.mesh.specs.declared.Trixel.{Trixel}
 use Rattle.region.specs.declared.Halfspace.{Halfspace}
 use Rattle.region.specs.Building.{isOffset}
 use Rattle.classify.specs.declared.Half.{Half}
-use Rattle.classify.specs.declared.Ray.{Ray}
 use Rattle.classify.specs.declared.Shape.{Shape}
 use Rattle.classify.specs.declared.Ball.{Ball}
 use Rattle.classify.specs.Shape.{square, positive, ray0, ray1, ray2, eOf, fOf, DOf, ahead, reachesRay, reaches, bOf, EOf}
-use Rattle.classify.specs.Measures.{SoundHalf, IsRay, Shaped, Balled, greatestReach, Bounded, ballAhead, ballBehind}
+use Rattle.classify.specs.Measures.{SoundHalf, Shaped, Balled, greatestReach, Bounded, ballAhead, ballBehind}
 use Rattle.classify.proofs.WithinApart.{E-reaches}
+use Rattle.classify.proofs.RayLaws.{own-rays}
 use Rattle.classify.proofs.ReachLaws.{reach-is-E}
 
 -- ---- what is left of v·v beside e²
@@ -43,8 +44,17 @@ pub record Beside (v : Vec3) (e rest : ℤ) : Type 0 where
   pub is : rest ≡ dot v v -ℤ square e
   pub sign : T (nonNeg rest)
 
-pub beside-size : {v : Vec3} {e rest : ℤ} → Beside v e rest → Upto (2 ^ 42) rest
-beside-size h = subst (Upto (2 ^ 42)) (sym (h .is)) (upto-sub (dot-upto (h .small) (h .small)) (upto-mul (h .size) (h .size)))
+-- the rest has no sign, and is at most v·v
+less-taken : (a b : ℤ) → pos 0 ≤ℤ b → (a -ℤ b) ≤ℤ a
+less-taken = prove 2 (λ a b. record { given = (`0 :≤ b) ∷ []; goal = a :- b :≤ a; cert = hyp 0 }) refl
+
+unsigned-upto : (z : ℤ) {n : ℕ} → T (nonNeg z) → z ≤ℤ pos n → Upto n z
+unsigned-upto (pos m) {n} t h = record { le = leb→le m n (h .le) }
+unsigned-upto (negsuc m) t h = absurd t
+
+pub beside-size : {v : Vec3} {e rest : ℤ} → Beside v e rest → Upto (3 * 2 ^ 40) rest
+beside-size {v} {e} {rest} h = unsigned-upto rest (h .sign)
+    (subst (λ z. z ≤ℤ pos (3 * 2 ^ 40)) (sym (h .is)) (≤ℤ-trans (less-taken (dot v v) (square e) (nn-sq e)) (upto-high (dot-upto (h .small) (h .small)))))
 
 -- ---- of a halfspace
 
@@ -95,7 +105,7 @@ E-beside t a = record {
 pub ball-beside : {t : Trixel} {m : Ball} → Balled t m → m .ahead ≡ true → Beside (m .b) (m .reach) (m .rest)
 ball-beside {t} {m} h a = rw (h .b, h .reach a, h .rest a) (E-beside t (rw (h .ahead) at a))
 
--- ---- a product that is tested, and a square length
+-- ---- a product that is tested
 
 behind : {y z : ℤ} → z ≡ y → leZ z (pos 0) ≡ true → positive y ≡ false
 behind {y} {z} e l = ap positive (sym e) ∙ no-lt {a = pos 0} {b = z} (le-yes l)
@@ -106,9 +116,6 @@ front {y} {z} e l = ap positive (sym e) ∙ yes-lt (no-le {a = z} {b = pos 0} l)
 product-is : (z : ℤ) → leZ z (pos 0) ≡ false → z ≡ pos (natAbs z)
 product-is (pos n) e = refl
 product-is (negsuc n) e = absurd (true≢false e)
-
-square-size : {v : Vec3} {y : Ray} → IsRay v y → valueOf (y .square) ≤ 3 * 2 ^ 82
-square-size h = subst (λ n. n ≤ 3 * 2 ^ 82) (sym (h .square)) (dot-upto (h .size) (h .size) .le)
 
 -- ---- the balls
 
@@ -122,34 +129,22 @@ module _ (t : Trixel) {z : ℤ} where
   pub behind-third : z ≡ dot (bOf t) (ray2 t) → leZ z (pos 0) ≡ true → ahead (bOf t) t ≡ false
   behind-third e l = and-no-right (positive (dot (bOf t) (ray0 t))) (and-no-right (positive (dot (bOf t) (ray1 t))) (behind e l))
 
-pub behind-balled : (t : Trixel) {b : Vec3} → b ≡ bOf t → ahead (bOf t) t ≡ false → {r : Ball} → r ≡ ballBehind b → (r .known ≡ true) × Balled t r
-behind-balled t c e w = (
-  ap (λ r. r .known) w,
-  subst (Balled t) (sym w) (record { b = c; ahead = sym e; reach = λ a. absurd (false≢true a); rest = λ a. absurd (false≢true a) }),
-)
+pub behind-balled : (t : Trixel) {b : Vec3} → b ≡ bOf t → ahead (bOf t) t ≡ false → {r : Ball} → r ≡ ballBehind b → Balled t r
+behind-balled t c e w = subst (Balled t) (sym w) (record { b = c; ahead = sym e; reach = λ a. absurd (false≢true a); rest = λ a. absurd (false≢true a) })
 
 module _ (t : Trixel) (s : Shape) (h : Shaped t s) {x y z : ℤ} where
   pub bounded : Upto (3 * 2 ^ 61) x → Upto (3 * 2 ^ 61) y → Upto (3 * 2 ^ 61) z → Bounded (natAbs x) (natAbs y) (natAbs z) s
-  bounded p q r = record {
-    p0 = lt-of-le-of-lt (p .le) (lit< tt);
-    p1 = lt-of-le-of-lt (q .le) (lit< tt);
-    p2 = lt-of-le-of-lt (r .le) (lit< tt);
-    q0 = square-size (h .r0);
-    q1 = square-size (h .r1);
-    q2 = square-size (h .r2);
-  }
+  bounded p q r = record { p0 = p .le; p1 = q .le; p2 = r .le; rays = own-rays h }
 
   pub ahead-balled : {b : Vec3} → b ≡ bOf t → x ≡ dot (bOf t) (ray0 t) → y ≡ dot (bOf t) (ray1 t) → z ≡ dot (bOf t) (ray2 t)
       → leZ x (pos 0) ≡ false → leZ y (pos 0) ≡ false → leZ z (pos 0) ≡ false
-      → {r : Ball} → r ≡ ballAhead b (greatestReach (natAbs x) (natAbs y) (natAbs z) s) → (r .known ≡ true) × Balled t r
+      → {r : Ball} → r ≡ ballAhead b (greatestReach (natAbs x) (natAbs y) (natAbs z) s) → Balled t r
   ahead-balled c e f g p q r w =
-      let E = reach-is-E t s h (natAbs x) (natAbs y) (natAbs z) (sym e ∙ product-is x p) (sym f ∙ product-is y q) (sym g ∙ product-is z r) in (
-        ap (λ r. r .known) w,
-        subst (Balled t) (sym w)
-            (record {
-              b = c;
-              ahead = sym (and-both (front e p) (and-both (front f q) (front g r)));
-              reach = λ _. sym E;
-              rest = λ _ i. dot (c i) (c i) -ℤ square (sym E i);
-            }),
-      )
+      let E = reach-is-E t s h (natAbs x) (natAbs y) (natAbs z) (sym e ∙ product-is x p) (sym f ∙ product-is y q) (sym g ∙ product-is z r) in
+      subst (Balled t) (sym w)
+      (record {
+        b = c;
+        ahead = sym (and-both (front e p) (and-both (front f q) (front g r)));
+        reach = λ _. sym E;
+        rest = λ _ i. dot (c i) (c i) -ℤ square (sym E i);
+      })

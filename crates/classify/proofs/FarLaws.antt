@@ -1,34 +1,61 @@
--- The test `far` by sizes: where D·E − c is positive, its square and the product of the two rests have no sign, and are compared as numbers
--- without one. Assumes nothing.
-use Prim.Native.Nat.{ℕ, _*_}
+-- The tests `far` and `enclosed` by what was prepared: the numbers that a program multiplies are those of the rules. Assumes nothing.
 use mathlib.Core.Path.{_≡_, sym, ap, _∙_}
-use mathlib.Core.Bool.{true, false}
-use lib.Dec.{ltb}
-use lib.IntN.{ℤ, pos, natAbs, _-ℤ_, _*ℤ_}
-use lib.Signed.{leZ, ltZ, yes-nonNeg}
-use Rattle.algebra.proofs.Inequalities.{<ℤ→≤ℤ}
-use Rattle.algebra.proofs.Tests.{and-then, and-no-left, le-yes, yes-lt, no-lt, no-le, by-sizes}
+use mathlib.Core.Bool.{Bool, true, false, not, _&&_}
+use lib.IntN.{ℤ, pos, _-ℤ_, _*ℤ_}
+use lib.Signed.{leZ, ltZ}
+use Rattle.algebra.proofs.Tests.{and-then, and-no-left, and-no-right, le-yes, yes-lt, no-lt, no-le, le-not-lt}
 use Rattle.vector.specs.Vectors.{dot}
 use Rattle.mesh.specs.declared.Trixel.{Trixel}
 use Rattle.classify.specs.declared.Half.{Half}
 use Rattle.classify.specs.declared.Ball.{Ball}
-use Rattle.classify.specs.Shape.{positive, bOf, EOf, far}
-use Rattle.classify.specs.Measures.{SoundHalf, Balled}
-use Rattle.classify.proofs.BallLaws.{half-beside, ball-beside}
+use Rattle.classify.specs.Shape.{square, positive, bOf, EOf, far}
+use Rattle.classify.specs.Measures.{SoundHalf, Rest, Balled}
+use Rattle.classify.specs.Rays.{enclosed}
+use Rattle.classify.proofs.BallLaws.{Beside, half-beside, ball-beside, beside-size}
 
--- z is D·E − c
-module _ {q : Half} {t : Trixel} {m : Ball} (h : SoundHalf q) (k : Balled t m) (a : m .ahead ≡ true) {z : ℤ} (e : z ≡ q .low *ℤ m .reach -ℤ dot (q .f) (m .b)) where
-  past : z ≡ q .low *ℤ EOf t -ℤ dot (q .f) (bOf t)
-  past = e ∙ (λ i. q .low *ℤ k .reach a i -ℤ dot (q .f) (k .b i))
+-- ---- what is left of a square length
 
-  pub not-far : leZ z (pos 0) ≡ true → false ≡ far (q .f) (q .low) (bOf t) (EOf t)
-  not-far l = sym (and-no-left _ (ap positive (sym past) ∙ no-lt {a = pos 0} {b = z} (le-yes l)))
+module _ {q : Half} (h : SoundHalf q) where
+  pub half-rest : Rest (q .rest)
+  half-rest = record { sign = half-beside h .sign; size = beside-size (half-beside h) }
 
-  pub far-by-sizes : {x y : ℕ} → x ≡ natAbs (q .rest) → y ≡ natAbs (m .rest) → leZ z (pos 0) ≡ false
-      → ltb (x * y) (natAbs z * natAbs z) ≡ far (q .f) (q .low) (bOf t) (EOf t)
-  far-by-sizes u v l =
-      let p = no-le {a = z} {b = pos 0} l in
-      (λ i. ltb (u i * v i) (natAbs z * natAbs z))
-      ∙ by-sizes z (q .rest) (m .rest) (yes-nonNeg (<ℤ→≤ℤ p)) (half-beside h .sign) (ball-beside k a .sign)
-      ∙ (λ i. ltZ (half-beside h .is i *ℤ k .rest a i) (past i *ℤ past i))
-      ∙ and-then _ (ap positive (sym past) ∙ yes-lt p)
+module _ {t : Trixel} {m : Ball} (k : Balled t m) (a : m .ahead ≡ true) where
+  pub ball-rest : Rest (m .rest)
+  ball-rest = record { sign = ball-beside k a .sign; size = beside-size (ball-beside k a) }
+
+module _ {q : Half} {t : Trixel} {m : Ball} (h : SoundHalf q) (k : Balled t m) (a : m .ahead ≡ true) {z : ℤ} where
+  -- z is D·E − c
+  pub far-is : z ≡ q .low *ℤ m .reach -ℤ dot (q .f) (m .b) → positive z && ltZ (q .rest *ℤ m .rest) (z *ℤ z) ≡ far (q .f) (q .low) (bOf t) (EOf t)
+  far-is e =
+      let past : z ≡ q .low *ℤ EOf t -ℤ dot (q .f) (bOf t) = e ∙ (λ i. q .low *ℤ k .reach a i -ℤ dot (q .f) (k .b i)) in
+      λ i. positive (past i) && ltZ (half-beside h .is i *ℤ k .rest a i) (past i *ℤ past i)
+
+  -- z is f·b − G·E
+  module _ (e : z ≡ dot (q .f) (m .b) -ℤ q .high *ℤ m .reach) where
+    past : z ≡ dot (q .f) (bOf t) -ℤ q .high *ℤ EOf t
+    past = e ∙ (λ i. dot (q .f) (k .b i) -ℤ q .high *ℤ k .reach a i)
+
+    -- S·G ≤ M·E
+    abbrev edges : Bool
+    edges = leZ ((dot (bOf t) (bOf t) -ℤ square (EOf t)) *ℤ q .high) ((dot (q .f) (bOf t) -ℤ q .high *ℤ EOf t) *ℤ EOf t)
+
+    same-edges : {x : Bool} → ltZ (z *ℤ m .reach) (m .rest *ℤ q .high) ≡ x → edges ≡ not x
+    same-edges {x} w = (λ i. leZ (sym (k .rest a) i *ℤ q .high) (sym past i *ℤ sym (k .reach a) i)) ∙ le-not-lt (m .rest *ℤ q .high) (z *ℤ m .reach) ∙ ap not w
+
+    pub too-wide : ltZ (z *ℤ m .reach) (m .rest *ℤ q .high) ≡ true → false ≡ enclosed (q .f) (q .low) (q .high) (bOf t) (EOf t)
+    unfolding enclosed
+    too-wide l = sym
+        (and-no-right (positive (dot (q .f) (bOf t) -ℤ q .high *ℤ EOf t))
+        (and-no-right (positive (dot (bOf t) (bOf t) -ℤ square (EOf t))) (and-no-left _ (same-edges l))))
+
+    pub enclosed-is : leZ (m .rest) (pos 0) ≡ false → ltZ (z *ℤ m .reach) (m .rest *ℤ q .high) ≡ false
+        → positive z && ltZ (q .rest *ℤ m .rest) (z *ℤ z) ≡ enclosed (q .f) (q .low) (q .high) (bOf t) (EOf t)
+    unfolding enclosed
+    enclosed-is n w =
+        (λ i. positive (past i) && ltZ (half-beside h .is i *ℤ k .rest a i) (past i *ℤ past i))
+        ∙ ap (λ l. positive (dot (q .f) (bOf t) -ℤ q .high *ℤ EOf t) && l)
+        (and-then _ (same-edges w) ∙ and-then _ (ap positive (sym (k .rest a)) ∙ yes-lt (no-le {a = m .rest} {b = pos 0} n)))
+
+pub no-rest : (q : Half) {t : Trixel} {m : Ball} → Balled t m → m .ahead ≡ true → leZ (m .rest) (pos 0) ≡ true → false ≡ enclosed (q .f) (q .low) (q .high) (bOf t) (EOf t)
+unfolding enclosed
+no-rest q {t} {m} k a l = sym (and-no-right (positive (dot (q .f) (bOf t) -ℤ q .high *ℤ EOf t)) (and-no-left _ (ap positive (sym (k .rest a)) ∙ no-lt {a = pos 0} {b = m .rest} (le-yes l))))

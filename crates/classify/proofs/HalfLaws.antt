@@ -1,11 +1,13 @@
--- How large what belongs to a halfspace gets: f and d are within ±K, D is at most K and G at most 2²¹. Assumes nothing.
-use Prim.Native.Nat.{ℕ, _^_, _≤_}
+-- How large what belongs to a halfspace gets: f and d are within ±K, D is at most K and G at most K + 4. Assumes nothing.
+use Prim.Native.Nat.{ℕ, _+_, _^_, _≤_}
 use native.Mathlib.Omega.{arith}
 use mathlib.Core.Path.{sym, subst}
 use mathlib.Core.Bool.{Bool, true, false, cond}
+use lib.Dec.{lit≤}
 use lib.IntN.{pos, natAbs}
 use lib.Signed.{nonNeg}
 use Rattle.algebra.specs.Sizes.{Upto}
+use Rattle.algebra.proofs.Sized.{upto-mono}
 use Rattle.vector.specs.declared.Vec3.{Vec3}
 use Rattle.vector.specs.Numbers.{Kℕ}
 use Rattle.vector.specs.Vectors.{minus, Small}
@@ -24,8 +26,11 @@ turned-small false n h = at-most-minus h
 pub low-most : {e : ℕ} → e ≤ Kℕ → Upto Kℕ (DOf (pos e))
 low-most h = record { le = omega arith }
 
+near-most : {e : ℕ} → e ≤ Kℕ → Upto (Kℕ + 4) (GOf (pos e))
+near-most h = record { le = omega arith }
+
 pub high-most : {e : ℕ} → e ≤ Kℕ → Upto (2 ^ 21) (GOf (pos e))
-high-most h = record { le = omega arith }
+high-most h = upto-mono (lit≤ tt) (near-most h)
 
 -- ---- of what a good halfspace is prepared to
 
@@ -35,7 +40,10 @@ sound-small s = subst (λ q. Small (q .f)) (sym (s .is)) (turned-small (nonNeg (
 pub sound-offset : {q : Half} → SoundHalf q → Upto Kℕ (q .d)
 sound-offset s = subst (λ q. Upto Kℕ (q .d)) (sym (s .is)) (between-upto (s .halfspace .d) (s .offset))
 
-pub sound-high : {q : Half} → SoundHalf q → Upto (2 ^ 21) (q .high)
-sound-high s =
+pub sound-near : {q : Half} → SoundHalf q → Upto (Kℕ + 4) (q .high)
+sound-near s =
     let e : natAbs (s .halfspace .d) ≤ Kℕ = between-upto (s .halfspace .d) (s .offset) .le in
-    subst (λ q. Upto (2 ^ 21) (q .high)) (sym (s .is)) (high-most e)
+    subst (λ q. Upto (Kℕ + 4) (q .high)) (sym (s .is)) (near-most e)
+
+pub sound-high : {q : Half} → SoundHalf q → Upto (2 ^ 21) (q .high)
+sound-high s = upto-mono (lit≤ tt) (sound-near s)

@@ -1,25 +1,24 @@
 -- The class by what was prepared is the class of the halfspace; and the class by the rays first: all pass, some do, none does. Assumes nothing.
-use mathlib.Core.Path.{_≡_, refl, sym, ap, subst, _∙_}
-use mathlib.Core.Bool.{Bool, true, false, cond, not, _&&_, _||_}
+use mathlib.Core.Path.{_≡_, refl, sym, ap, _∙_}
+use mathlib.Core.Bool.{Bool, true, false, cond, not, true≢false, _&&_, _||_}
 use borrow.Author.Tests.{not-false}
 use lib.IntN.{ℤ}
 use lib.Signed.{nonNeg}
-use Rattle.algebra.proofs.Tests.{and-both, and-then, and-no-left, and-no-right}
+use Rattle.algebra.proofs.Tests.{split, and-left, and-right, and-both, and-then, and-no-left, and-no-right, or-left}
 use Rattle.vector.specs.declared.Vec3.{Vec3}
 use Rattle.mesh.specs.declared.Trixel.{Trixel}
 use Rattle.region.specs.declared.Halfspace.{Halfspace}
 use Rattle.classify.specs.declared.Class.{Class}
 use Rattle.classify.specs.declared.Class.the-variants.{Outside, Partial, Full}
 use Rattle.classify.specs.declared.Half.{Half}
-use Rattle.classify.specs.declared.Ball.{Ball}
-use Rattle.classify.specs.declared.Judgement.{Judgement}
 use Rattle.classify.specs.declared.reaching.Passed.{Passed}
 use Rattle.classify.specs.declared.reaching.Passed.the-variants.{None, Some, All}
 use Rattle.classify.specs.Shape.{positive, ray0, ray1, ray2, volume, ahead, bOf, EOf, within, far, apart}
 use Rattle.classify.specs.Classes.{halfspaceClass}
-use Rattle.classify.specs.Measures.{prepared, SoundHalf, withinBy, apartBy, judged, Fitting}
-use Rattle.classify.specs.Rays.{passes, allPass, onePasses, passedOf, raysPassed, classWithin, classApart, apartClass, judgementOf}
+use Rattle.classify.specs.Measures.{prepared, SoundHalf, withinBy, apartBy, judged}
+use Rattle.classify.specs.Rays.{passes, allPass, onePasses, passedOf, raysPassed, enclosed, classWithin, classApart, withinClass, apartClass}
 use Rattle.classify.proofs.RaysFirst.{by-rays, sound-refutes}
+use Rattle.classify.proofs.Enclosing.{enclosed-passes}
 
 pub judged-is : (h : Halfspace) (t : Trixel) → judged (prepared h) t ≡ halfspaceClass h t
 unfolding judged halfspaceClass within apart
@@ -40,6 +39,12 @@ by-apart true false = refl
 by-apart false true = refl
 by-apart false false = refl
 
+by-not-apart : (n w : Bool) → classBy n w false ≡ cond w (cond n Full Outside) Partial
+by-not-apart true true = refl
+by-not-apart true false = refl
+by-not-apart false true = refl
+by-not-apart false false = refl
+
 module _ (q : Half) (t : Trixel) where
   judged-within : withinBy (q .f) (q .high) t ≡ true → judged q t ≡ classWithin (q .d)
   unfolding judged
@@ -49,9 +54,28 @@ module _ (q : Half) (t : Trixel) where
   unfolding judged apartClass
   judged-apart w = ap (λ w. classBy (nonNeg (q .d)) w (apartBy (q .f) (q .low) t)) w ∙ by-apart (nonNeg (q .d)) (apartBy (q .f) (q .low) t)
 
+  is-apart : apartBy (q .f) (q .low) t ≡ true → apartClass q t ≡ classApart (q .d)
+  unfolding apartClass
+  is-apart a = ap (λ a. cond a (classApart (q .d)) Partial) a
+
+  not-apart : apartBy (q .f) (q .low) t ≡ false → judged q t ≡ withinClass q t
+  unfolding judged withinClass
+  not-apart a = ap (classBy (nonNeg (q .d)) (withinBy (q .f) (q .high) t)) a ∙ by-not-apart (nonNeg (q .d)) (withinBy (q .f) (q .high) t)
+
+  within-full : withinBy (q .f) (q .high) t ≡ true → withinClass q t ≡ classWithin (q .d)
+  unfolding withinClass
+  within-full w = ap (λ w. cond w (classWithin (q .d)) Partial) w
+
+  within-partial : withinBy (q .f) (q .high) t ≡ false → withinClass q t ≡ Partial
+  unfolding withinClass
+  within-partial w = ap (λ w. cond w (classWithin (q .d)) Partial) w
+
   apart-partial : apartBy (q .f) (q .low) t ≡ false → apartClass q t ≡ Partial
   unfolding apartClass
   apart-partial a = ap (λ a. cond a (classApart (q .d)) Partial) a
+
+one-of-all : (a b c : Bool) → a && b ≡ true → a || c ≡ true
+one-of-all a b c e = or-left c (and-left a b e)
 
 -- ---- how many rays pass
 
@@ -89,23 +113,9 @@ no-ray f g t = none-passed (passes f g (ray0 t)) (passes f g (ray1 t)) (passes f
 
 -- ---- the class, as a program finds it
 
-pub gives : {t : Trixel} {r : Judgement} {c k : Class} {m : Ball} → r ≡ judgementOf c m → c ≡ k → Fitting t m → (r .class ≡ k) × Fitting t (r .ball)
-gives {t} e h f = (ap (λ r. r .class) e ∙ h, subst (λ r. Fitting t (r .ball)) (sym e) f)
-
 module _ (q : Half) (t : Trixel) where
   pub hollow : positive (volume t) ≡ false → judged q t ≡ Partial
   hollow v = judged-apart q t (and-no-left _ v) ∙ apart-partial q t (and-no-left _ v)
-
-  -- by b and E
-  pub not-ahead : ahead (bOf t) t ≡ false → apartClass q t ≡ Partial
-  not-ahead a = apart-partial q t (and-no-right (positive (volume t)) (and-no-left _ a))
-
-  pub not-far : far (q .f) (q .low) (bOf t) (EOf t) ≡ false → apartClass q t ≡ Partial
-  not-far n = apart-partial q t (and-no-right (positive (volume t)) (and-no-right (ahead (bOf t) t) n))
-
-  pub is-far : positive (volume t) ≡ true → ahead (bOf t) t ≡ true → far (q .f) (q .low) (bOf t) (EOf t) ≡ true → apartClass q t ≡ classApart (q .d)
-  unfolding apartClass
-  is-far v a n = ap (λ a. cond a (classApart (q .d)) Partial) (and-both v (and-both a n))
 
   -- by the rays, where V > 0
   module _ (v : positive (volume t) ≡ true) where
@@ -125,3 +135,25 @@ module _ (q : Half) (t : Trixel) where
     when-some s e =
         none-or-some (ap isAll e)
         ∙ apart-partial q t (sound-refutes q s t (not-false (onePasses (q .f) (q .high) t) (sym (no-ray (q .f) (q .high) t) ∙ ap isNone e)))
+
+    -- the same, where apart does not hold
+    pub full-all : allPass (q .f) (q .high) t ≡ true → withinClass q t ≡ classWithin (q .d)
+    full-all e = within-full q t (within-rays ∙ e)
+
+    pub partial-rays : allPass (q .f) (q .high) t ≡ false → withinClass q t ≡ Partial
+    partial-rays e = within-partial q t (within-rays ∙ e)
+
+    -- by b and E
+    pub when-enclosed : SoundHalf q → ahead (bOf t) t && enclosed (q .f) (q .low) (q .high) (bOf t) (EOf t) ≡ true → judged q t ≡ classWithin (q .d)
+    when-enclosed s w = judged-within q t (within-rays ∙ enclosed-passes q s t (and-left (ahead (bOf t) t) _ w) (and-right (ahead (bOf t) t) _ w))
+
+    pub when-far : SoundHalf q → ahead (bOf t) t && far (q .f) (q .low) (bOf t) (EOf t) ≡ true → judged q t ≡ classApart (q .d)
+    when-far s w =
+        judged-apart q t
+        (split (withinBy (q .f) (q .high) t)
+        (λ k. absurd (true≢false (sym (and-both v w) ∙ sound-refutes q s t (one-of-all (passes (q .f) (q .high) (ray0 t)) _ _ (sym within-rays ∙ k)))))
+        (λ n. n))
+        ∙ is-apart q t (and-both v w)
+
+  pub when-near : ahead (bOf t) t && far (q .f) (q .low) (bOf t) (EOf t) ≡ false → judged q t ≡ withinClass q t
+  when-near n = not-apart q t (and-no-right (positive (volume t)) n)

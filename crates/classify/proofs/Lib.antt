@@ -3,8 +3,10 @@ pub mod WithinApart
 pub mod ClassLaws
 pub mod ELaws
 pub mod RaysFirst
+pub mod Enclosing
 pub mod NeverBoth
 pub mod HalfLaws
+pub mod FilterLaws
 pub mod RayLaws
 pub mod JudgedLaws
 pub mod ReachLaws

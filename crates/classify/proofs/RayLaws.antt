@@ -1,20 +1,24 @@
--- Rays with their square lengths: a square length is within 3·2⁸², the test of squares goes by it, and the rays that a trixel was measured to are its own. Assumes nothing.
-use Prim.Native.Nat.{_*_, _^_, _≤_}
+-- Rays with their heights: r·r lies from 2⁵² h to below 2⁵² (h + 5), by which the filters are right; and the rays that a trixel was measured to are
+-- its own. Assumes nothing.
+use Prim.Native.Nat.{ℕ, _+_, _*_, _/_, _^_, _≤_, _<_}
 use mathlib.Core.Path.{_≡_, sym, ap, subst, _∙_}
+use mathlib.Core.Bool.{Bool, true, false, _&&_}
+use borrow.Author.Tests.{le-leb, lt-leb, leb-true}
 use lib.Dec.{leb}
 use lib.IntN.{ℤ, natAbs}
-use Rattle.algebra.proofs.Sized.{squares-by-size}
-use Rattle.wide.specs.Value.{valueOf}
+use Rattle.algebra.proofs.Filters as filters
+use mir.Syntax.{w64}
+use mir.Val.{SFits, toZ, ofZ}
+use mir.Facts.{toZ-ofZ}
 use Rattle.vector.specs.declared.Vec3.{Vec3}
-use Rattle.vector.specs.Vectors.{dot}
-use Rattle.vector.proofs.SizeLaws.{dot-upto, dot-self-positive}
+use Rattle.vector.specs.Vectors.{dot, AtMost}
+use Rattle.vector.proofs.SizeLaws.{dot-self}
 use Rattle.mesh.specs.declared.Trixel.{Trixel}
 use Rattle.classify.specs.declared.Ray.{Ray}
 use Rattle.classify.specs.declared.Shape.{Shape}
 use Rattle.classify.specs.declared.reaching.Passed.{Passed}
-use Rattle.classify.specs.Shape.{reachesRay}
-use Rattle.classify.specs.Measures.{IsRay, Shaped}
-use Rattle.classify.specs.Rays.{passes, passedOf, raysPassed, OwnRays}
+use Rattle.classify.specs.Measures.{heightOf, squareOf, IsRay, Shaped, OwnRays}
+use Rattle.classify.specs.Rays.{passes, allPass, passedOf, raysPassed}
 
 pub own-ray : {v : Vec3} {y : Ray} → IsRay v y → IsRay (y .r) y
 own-ray {y} i = subst (λ v. IsRay v y) (sym (i .r)) i
@@ -26,9 +30,35 @@ own-rays h = record { r0 = own-ray (h .r0); r1 = own-ray (h .r1); r2 = own-ray (
 pub shaped-passed : (f : Vec3) {g k : ℤ} {t : Trixel} {s : Shape} {p : Passed} → Shaped t s → g ≡ k → p ≡ passedOf (passes f g (s .r0 .r)) (passes f g (s .r1 .r)) (passes f g (s .r2 .r)) → p ≡ raysPassed f k t
 shaped-passed f h e q = q ∙ (λ i. passedOf (passes f (e i) (h .r0 .r i)) (passes f (e i) (h .r1 .r i)) (passes f (e i) (h .r2 .r i)))
 
-pub square-bound : {v : Vec3} {y : Ray} → IsRay v y → valueOf (y .square) ≤ 3 * 2 ^ 82
-square-bound i = subst (λ n. n ≤ 3 * 2 ^ 82) (sym (i .square)) (dot-upto (i .size) (i .size) .le)
+pub shaped-all : (f : Vec3) {g k : ℤ} {t : Trixel} {s : Shape} {a : Bool} → Shaped t s → g ≡ k → a ≡ passes f g (s .r0 .r) && (passes f g (s .r1 .r) && passes f g (s .r2 .r)) → a ≡ allPass f k t
+shaped-all f h e q = q ∙ (λ i. passes f (e i) (h .r0 .r i) && (passes f (e i) (h .r1 .r i) && passes f (e i) (h .r2 .r i)))
 
--- (f·r)² ≥ g² (r·r), by sizes
-pub reaches-by-size : (f : Vec3) (g : ℤ) {v : Vec3} {y : Ray} → IsRay v y → leb (natAbs g * natAbs g * valueOf (y .square)) (natAbs (dot f v) * natAbs (dot f v)) ≡ reachesRay f g v
-reaches-by-size f g {v} i = ap (λ n. leb (natAbs g * natAbs g * n) (natAbs (dot f v) * natAbs (dot f v))) (i .square) ∙ squares-by-size g (dot v v) (dot f v) (dot-self-positive v)
+-- a ray that was tested, with a number that was handed on by its bits
+pub tested : (f : Vec3) {g : ℤ} (v : Vec3) → SFits w64 g → {b t : Bool} → b ≡ passes f (toZ w64 (ofZ w64 g)) v → b ≡ t → passes f g v ≡ t
+tested f v h e k = sym (e ∙ ap (λ g. passes f g v) (toZ-ofZ h)) ∙ k
+
+-- ---- the height
+
+module _ {v : Vec3} (l : AtMost (2 ^ 41) v) where
+  height-low : 2 ^ 52 * heightOf v ≤ natAbs (dot v v)
+  unfolding heightOf
+  height-low = subst (λ n. 2 ^ 52 * heightOf v ≤ n) (sym (ap natAbs (dot-self v))) (filters.height-low (natAbs (v .x)) (natAbs (v .y)) (natAbs (v .z)))
+
+  height-high : natAbs (dot v v) < 2 ^ 52 * (heightOf v + 5)
+  unfolding heightOf
+  height-high = subst (λ n. n < 2 ^ 52 * (heightOf v + 5)) (sym (ap natAbs (dot-self v))) (filters.height-high (natAbs (v .x)) (natAbs (v .y)) (natAbs (v .z)) (l .x .le) (l .y .le) (l .z .le))
+
+  height-most : heightOf v ≤ 3 * 2 ^ 30
+  unfolding heightOf
+  height-most = filters.height-most (natAbs (v .x)) (natAbs (v .y)) (natAbs (v .z)) (l .x .le) (l .y .le) (l .z .le)
+
+pub ray-most : {y : Ray} → IsRay (y .r) y → y .height ≤ 3 * 2 ^ 30
+ray-most i = subst (λ h. h ≤ 3 * 2 ^ 30) (sym (i .height)) (height-most (i .size))
+
+-- what the filters tell
+module _ (x g : ℕ) {y : Ray} (i : IsRay (y .r) y) where
+  pub reach-sure : leb ((g * g / 1024 + 1) * (y .height + 5)) (x / 2 ^ 31 * (x / 2 ^ 31)) ≡ true → true ≡ leb (g * g * squareOf y) (x * x)
+  reach-sure e = sym (le-leb _ _ (filters.reach-surely x g (squareOf y) (y .height) (subst (λ h. squareOf y < 2 ^ 52 * (h + 5)) (sym (i .height)) (height-high (i .size))) (leb-true _ _ e)))
+
+  pub reach-sure-not : leb ((x / 2 ^ 31 + 1) * (x / 2 ^ 31 + 1)) (g * g / 1024 * y .height) ≡ true → false ≡ leb (g * g * squareOf y) (x * x)
+  reach-sure-not e = sym (lt-leb _ _ (filters.reach-surely-not x g (squareOf y) (y .height) (subst (λ h. 2 ^ 52 * h ≤ squareOf y) (sym (i .height)) (height-low (i .size))) (leb-true _ _ e)))

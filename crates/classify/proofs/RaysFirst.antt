@@ -25,11 +25,11 @@ use Rattle.classify.specs.Rays.{passes, allPass, onePasses}
 use Rattle.classify.proofs.ELaws.{smaller}
 use Rattle.classify.proofs.WithinApart.{E-reaches}
 
-D-below-G : (e : ℕ) → DOf (pos e) ≤ℤ GOf (pos e)
+pub D-below-G : (e : ℕ) → DOf (pos e) ≤ℤ GOf (pos e)
 D-below-G e = leZ-yes (le→leb (e * 1048576 / 1048578) (e * 1048576 / 1048574 + 1) (omega arith))
 
 -- a ray that passes, as the algebra has it
-passes-far : (f : Vec3) (g : ℤ) (r : Vec3) → passes f g r ≡ true → Far (v3 f) (v3 r) g
+pub passes-far : (f : Vec3) (g : ℤ) (r : Vec3) → passes f g r ≡ true → Far (v3 f) (v3 r) g
 unfolding passes
 passes-far f g r e = record { front = <ℤ→≤ℤ (lt-yes (and-left (positive (dot f r)) _ e)); far = le-yes (and-right (positive (dot f r)) _ e) }
 

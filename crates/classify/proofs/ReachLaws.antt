@@ -7,10 +7,9 @@ use mathlib.Core.Path.{_≡_, sym, ap, _∙_}
 use mathlib.Core.Bool.{Bool, true, false, _&&_}
 use borrow.Author.Tests.{leb-true, le-leb}
 use lib.Dec.{leb}
-use lib.IntN.{pos, _*ℤ_}
+use lib.IntN.{pos, natAbs, _*ℤ_}
 use lib.Signed.{leZ, pos-natAbs}
 use Rattle.algebra.proofs.Tests.{and-left, and-right, and-both, fails-above}
-use Rattle.wide.specs.Value.{valueOf}
 use Rattle.vector.specs.declared.Vec3.{Vec3}
 use Rattle.vector.specs.Numbers.{Kℕ, greatest}
 use Rattle.vector.specs.Vectors.{dot}
@@ -20,7 +19,7 @@ use Rattle.mesh.specs.declared.Trixel.{Trixel}
 use Rattle.classify.specs.declared.Ray.{Ray}
 use Rattle.classify.specs.declared.Shape.{Shape}
 use Rattle.classify.specs.Shape.{square, ray0, ray1, ray2, bOf, EOf}
-use Rattle.classify.specs.Measures.{IsRay, Shaped, reachAll, greatestReach, Spanned}
+use Rattle.classify.specs.Measures.{squareOf, IsRay, Shaped, reachAll, greatestReach, Spanned}
 
 -- ---- one ray of square length q
 
@@ -37,13 +36,13 @@ ray-zero x q = le-leb (0 * 0 * q) (x * x) (omega arith)
 
 module _ (x0 x1 x2 : ℕ) (s : Shape) where
   pub reach-zero : reachAll x0 x1 x2 s 0 ≡ true
-  reach-zero = and-both (ray-zero x0 (valueOf (s .r0 .square))) (and-both (ray-zero x1 (valueOf (s .r1 .square))) (ray-zero x2 (valueOf (s .r2 .square))))
+  reach-zero = and-both (ray-zero x0 (squareOf (s .r0))) (and-both (ray-zero x1 (squareOf (s .r1))) (ray-zero x2 (squareOf (s .r2))))
 
   reach-down : (a b : ℕ) → a ≤ b → reachAll x0 x1 x2 s b ≡ true → reachAll x0 x1 x2 s a ≡ true
   reach-down a b h e =
-      let q0 = valueOf (s .r0 .square) in
-      let q1 = valueOf (s .r1 .square) in
-      let q2 = valueOf (s .r2 .square) in
+      let q0 = squareOf (s .r0) in
+      let q1 = squareOf (s .r1) in
+      let q2 = squareOf (s .r2) in
       let e12 = and-right (reach x0 q0 b) (reach x1 q1 b && reach x2 q2 b) e in
       and-both (ray-down x0 q0 a b h (and-left (reach x0 q0 b) (reach x1 q1 b && reach x2 q2 b) e))
       (and-both (ray-down x1 q1 a b h (and-left (reach x1 q1 b) (reach x2 q2 b) e12)) (ray-down x2 q2 a b h (and-right (reach x1 q1 b) (reach x2 q2 b) e12)))
@@ -57,8 +56,8 @@ module _ (x0 x1 x2 : ℕ) (s : Shape) where
 
 -- ---- E
 
-square-is : {v : Vec3} {y : Ray} → IsRay v y → dot v v ≡ pos (valueOf (y .square))
-square-is {v} {y} h = sym (ap pos (h .square) ∙ pos-natAbs (dot v v) (dot-self-positive v))
+square-is : {v : Vec3} {y : Ray} → IsRay v y → dot v v ≡ pos (squareOf y)
+square-is {v} h = sym (ap (λ r. pos (natAbs (dot r r))) (h .r) ∙ pos-natAbs (dot v v) (dot-self-positive v))
 
 pub reach-is-E : (t : Trixel) (s : Shape) → Shaped t s → (x0 x1 x2 : ℕ) → dot (bOf t) (ray0 t) ≡ pos x0 → dot (bOf t) (ray1 t) ≡ pos x1 → dot (bOf t) (ray2 t) ≡ pos x2
     → EOf t ≡ pos (greatestReach x0 x1 x2 s)

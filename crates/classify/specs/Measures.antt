@@ -1,24 +1,28 @@
 -- What classifying measures once, and keeps: of a halfspace, of a trixel, and of a trixel's middle b where it is needed. Document 01, 'Classifying'.
 --   prepared h           of a halfspace: f, d, D, G and f·f − D²
 --   SoundHalf q          q is what a good halfspace is prepared to
+--   Rest z               z has no sign, and is at most 3·2⁴⁰: so is f·f − D², and b·b − E² where b is ahead
 --   withinBy f G t, apartBy f D t   the two tests, by what they use of a halfspace
 --   judged q t           the class of t for the halfspace that q was prepared from (proofs/JudgedLaws: it is halfspaceClass)
---   IsRay v y            y is the ray v with its square length
+--   upperSquare z        (|z| / 2¹⁰)²
+--   heightOf v           the height of a ray: its three upper squares, divided by 2³²; near (v·v) / 2⁵² (proofs/RayLaws)
+--   squareOf y           r·r of the ray r that y keeps
+--   IsRay v y            y is the ray v with its height
+--   OwnRays s            each ray of s has its own height
 --   Shaped t s           s has the rays of t and whether V > 0
 --   Balled t m           m has b and E of t: whether b is ahead of the rays, and then E and b·b − E²
---   Fitting t m          so it is, where it is known
 --   ballAhead b e, ballBehind b   what is kept of b where it is ahead of the rays and reaches e, and where it is not ahead
 --   reachAll x0 x1 x2 s n    n² (r·r) ≤ x² for each ray r of s and its x: where each x is b·r, and positive, b reaches n at all three
 --   greatestReach x0 x1 x2 s   the greatest such n up to K, which is E (proofs/ReachLaws)
---   Bounded x0 x1 x2 s   how large these numbers are
+--   Bounded x0 x1 x2 s   how large these numbers are, for rays with their heights
 --   Spanned x0 x1 x2 s low high   the search for it: low is such an n, and none from high up to K is
-use Prim.Native.Nat.{ℕ, _+_, _*_, _^_, _≤_, _<_}
+use Prim.Native.Nat.{ℕ, _+_, _*_, _/_, _^_, _≤_, _<_}
 use mathlib.Core.Path.{_≡_}
 use mathlib.Core.Bool.{Bool, true, false, cond, _&&_}
-use lib.Dec.{leb}
+use lib.Dec.{T, leb}
 use lib.IntN.{ℤ, pos, natAbs, _-ℤ_}
 use lib.Signed.{nonNeg}
-use Rattle.wide.specs.Value.{valueOf}
+use Rattle.algebra.specs.Sizes.{Upto}
 use Rattle.vector.specs.declared.Vec3.{Vec3}
 use Rattle.vector.specs.Numbers.{Kℕ, greatest}
 use Rattle.vector.specs.Vectors.{dot, isVector, AtMost}
@@ -50,6 +54,10 @@ pub record SoundHalf (q : Half) : Type 0 where
   pub offset : isOffset (halfspace .d) ≡ true
   pub is : q ≡ prepared halfspace
 
+pub record Rest (z : ℤ) : Type 0 where
+  pub sign : T (nonNeg z)
+  pub size : Upto (3 * 2 ^ 40) z
+
 -- ---- the class by what was prepared
 
 abbrev pub withinBy : Vec3 → ℤ → Trixel → Bool
@@ -66,10 +74,24 @@ judged q t =
 
 -- ---- of a trixel
 
+abbrev pub upperSquare : ℤ → ℕ
+upperSquare z = natAbs z / 1024 * (natAbs z / 1024)
+
+unfoldable pub heightOf : Vec3 → ℕ
+heightOf v = (upperSquare (v .x) + upperSquare (v .y) + upperSquare (v .z)) / 2 ^ 32
+
+abbrev pub squareOf : Ray → ℕ
+squareOf y = natAbs (dot (y .r) (y .r))
+
 pub record IsRay (v : Vec3) (y : Ray) : Type 0 where
   pub r : y .r ≡ v
-  pub square : valueOf (y .square) ≡ natAbs (dot v v)
+  pub height : y .height ≡ heightOf v
   pub size : AtMost (2 ^ 41) v
+
+pub record OwnRays (s : Shape) : Type 0 where
+  pub r0 : IsRay (s .r0 .r) (s .r0)
+  pub r1 : IsRay (s .r1 .r) (s .r1)
+  pub r2 : IsRay (s .r2 .r) (s .r2)
 
 pub record Shaped (t : Trixel) (s : Shape) : Type 0 where
   pub r0 : IsRay (ray0 t) (s .r0)
@@ -83,33 +105,28 @@ pub record Balled (t : Trixel) (m : Ball) : Type 0 where
   pub reach : m .ahead ≡ true → m .reach ≡ EOf t
   pub rest : m .ahead ≡ true → m .rest ≡ dot (bOf t) (bOf t) -ℤ square (EOf t)
 
-abbrev pub Fitting : Trixel → Ball → Type 0
-Fitting t m = m .known ≡ true → Balled t m
-
 abbrev pub ballAhead : Vec3 → ℕ → Ball
-ballAhead b e = record { known = true; ahead = true; b = b; reach = pos e; rest = dot b b -ℤ square (pos e) }
+ballAhead b e = record { ahead = true; b = b; reach = pos e; rest = dot b b -ℤ square (pos e) }
 
 abbrev pub ballBehind : Vec3 → Ball
-ballBehind b = record { known = true; ahead = false; b = b; reach = pos 0; rest = pos 0 }
+ballBehind b = record { ahead = false; b = b; reach = pos 0; rest = pos 0 }
 
 -- ---- E by numbers without a sign: x0 x1 x2 are b·r for the three rays
 
 abbrev pub reachAll : ℕ → ℕ → ℕ → Shape → ℕ → Bool
 reachAll x0 x1 x2 s n =
-    leb (n * n * valueOf (s .r0 .square)) (x0 * x0)
-    && (leb (n * n * valueOf (s .r1 .square)) (x1 * x1)
-    && leb (n * n * valueOf (s .r2 .square)) (x2 * x2))
+    leb (n * n * squareOf (s .r0)) (x0 * x0)
+    && (leb (n * n * squareOf (s .r1)) (x1 * x1)
+    && leb (n * n * squareOf (s .r2)) (x2 * x2))
 
 abbrev pub greatestReach : ℕ → ℕ → ℕ → Shape → ℕ
 greatestReach x0 x1 x2 s = greatest (λ n. reachAll x0 x1 x2 s n) Kℕ
 
 pub record Bounded (x0 x1 x2 : ℕ) (s : Shape) : Type 0 where
-  pub p0 : x0 < 2 ^ 63
-  pub p1 : x1 < 2 ^ 63
-  pub p2 : x2 < 2 ^ 63
-  pub q0 : valueOf (s .r0 .square) ≤ 3 * 2 ^ 82
-  pub q1 : valueOf (s .r1 .square) ≤ 3 * 2 ^ 82
-  pub q2 : valueOf (s .r2 .square) ≤ 3 * 2 ^ 82
+  pub p0 : x0 ≤ 3 * 2 ^ 61
+  pub p1 : x1 ≤ 3 * 2 ^ 61
+  pub p2 : x2 ≤ 3 * 2 ^ 61
+  pub rays : OwnRays s
 
 pub record Spanned (x0 x1 x2 : ℕ) (s : Shape) (low high : ℕ) : Type 0 where
   pub order : low < high

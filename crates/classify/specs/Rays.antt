@@ -4,26 +4,23 @@
 --   allPass f g t, onePasses f g t   all rays of t do; at least one does
 --   passedOf a b c                   none, some or all of three tests passed
 --   raysPassed f g t                 none, some or all of the rays of t pass
---   OwnRays s                        each ray of s has its own square length
+--   enclosed f D G b E               the ball of b and E lies in that of f and G, by a test that is enough (proofs/Enclosing)
+--   withinClass q t                  the class where apart does not hold
 --   classWithin d, classApart d      the class where within holds, and where apart holds
 --   apartClass q t                   the class where within does not hold
---   judgementOf c m                  a class, with the middle as far as it is known
 use mathlib.Core.Bool.{Bool, cond, _&&_, _||_}
-use lib.IntN.{ℤ}
-use lib.Signed.{nonNeg}
+use lib.IntN.{ℤ, _-ℤ_, _*ℤ_}
+use lib.Signed.{nonNeg, leZ, ltZ}
 use Rattle.vector.specs.declared.Vec3.{Vec3}
 use Rattle.vector.specs.Vectors.{dot}
 use Rattle.mesh.specs.declared.Trixel.{Trixel}
 use Rattle.classify.specs.declared.Class.{Class}
 use Rattle.classify.specs.declared.Class.the-variants.{Outside, Partial, Full}
 use Rattle.classify.specs.declared.Half.{Half}
-use Rattle.classify.specs.declared.Shape.{Shape}
-use Rattle.classify.specs.declared.Ball.{Ball}
-use Rattle.classify.specs.declared.Judgement.{Judgement}
 use Rattle.classify.specs.declared.reaching.Passed.{Passed}
 use Rattle.classify.specs.declared.reaching.Passed.the-variants.{None, Some, All}
-use Rattle.classify.specs.Shape.{positive, ray0, ray1, ray2, reachesRay}
-use Rattle.classify.specs.Measures.{apartBy, IsRay}
+use Rattle.classify.specs.Shape.{square, positive, ray0, ray1, ray2, reachesRay}
+use Rattle.classify.specs.Measures.{withinBy, apartBy}
 
 -- ---- the rays
 
@@ -42,10 +39,14 @@ passedOf a b c = cond a (cond b (cond c All Some) Some) (cond b Some (cond c Som
 abbrev pub raysPassed : Vec3 → ℤ → Trixel → Passed
 raysPassed f g t = passedOf (passes f g (ray0 t)) (passes f g (ray1 t)) (passes f g (ray2 t))
 
-pub record OwnRays (s : Shape) : Type 0 where
-  pub r0 : IsRay (s .r0 .r) (s .r0)
-  pub r1 : IsRay (s .r1 .r) (s .r1)
-  pub r2 : IsRay (s .r2 .r) (s .r2)
+-- ---- the middle
+
+unfoldable pub enclosed : Vec3 → ℤ → ℤ → Vec3 → ℤ → Bool
+enclosed f D G b E =
+    positive (dot f b -ℤ G *ℤ E)
+    && (positive (dot b b -ℤ square E)
+    && (leZ ((dot b b -ℤ square E) *ℤ G) ((dot f b -ℤ G *ℤ E) *ℤ E)
+    && ltZ ((dot f f -ℤ square D) *ℤ (dot b b -ℤ square E)) (square (dot f b -ℤ G *ℤ E))))
 
 -- ---- the class
 
@@ -59,5 +60,5 @@ classApart d = cond (nonNeg d) Outside Full
 unfoldable pub apartClass : Half → Trixel → Class
 apartClass q t = cond (apartBy (q .f) (q .low) t) (classApart (q .d)) Partial
 
-abbrev pub judgementOf : Class → Ball → Judgement
-judgementOf c m = record { class = c; ball = m }
+unfoldable pub withinClass : Half → Trixel → Class
+withinClass q t = cond (withinBy (q .f) (q .high) t) (classWithin (q .d)) Partial

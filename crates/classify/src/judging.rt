@@ -1,22 +1,19 @@
-// The class of a trixel for a halfspace. The rays come first: where all three pass the trixel is within, and where one passes it is not apart, so
-// that b and E are needed only where none does. The rules stand in specs/Classes, specs/Measures and specs/Rays.
+// The class of a trixel for a halfspace, by its middle b, and by its rays where that does not tell. The rules stand in specs/Classes, specs/Measures and
+// specs/Rays.
 use crate::Ball;
 use crate::Class;
 use crate::Half;
-use crate::Judgement;
 use crate::Shape;
 use crate::middle;
 use crate::reaching;
-use crate::reaching::Passed;
 use mesh::Trixel;
 ghost use mathlib.Core.Path.{_≡_};
 ghost use mathlib.Core.Bool.{true};
-ghost use Rattle.mesh.specs.Corners.{SmallTrixel};
-ghost use Rattle.classify.specs.Measures.{SoundHalf, judged, Shaped, Balled, Fitting};
-ghost use Rattle.classify.specs.Rays.{classWithin, classApart, apartClass, judgementOf};
+ghost use Rattle.classify.specs.Measures.{SoundHalf, judged, Shaped, Balled};
+ghost use Rattle.classify.specs.Rays.{classWithin, classApart, withinClass};
 
 // The class where within holds.
-fn class_within(d: i64) -> Class
+pub fn class_within(d: i64) -> Class
     ensures { λ r. ⌜ r ≡ classWithin d ⌝ }
 {
     if d < 0 {
@@ -35,62 +32,35 @@ fn class_apart(d: i64) -> Class
     Class::Outside
 }
 
-fn judgement(class: Class, ball: Ball) -> Judgement
-    ensures { λ r. ⌜ r ≡ judgementOf class ball ⌝ }
-{
-    Judgement {
-        class: class,
-        ball: ball,
-    }
-}
-
-// b and E, found where they are not known.
-fn middle_of(t: Trixel, s: Shape, m: Ball) -> Ball
-    requires { ⌜ SmallTrixel t ⌝ }
-    requires { ⌜ Shaped t s ⌝ }
-    requires { ⌜ Fitting t m ⌝ }
-    ensures { λ r. ⌜ Balled t r ⌝ }
-{
-    if m.known {
-        return m;
-    }
-    middle::ball_of(t, s)
-}
-
-// The class by b and E, where no ray passes.
-fn judge_middle(t: Trixel, s: Shape, m: Ball, q: Half) -> Judgement
-    requires { ⌜ SmallTrixel t ⌝ }
+// The class by the rays, where apart does not hold.
+fn class_by_rays(t: Trixel, s: Shape, q: Half) -> Class
     requires { ⌜ Shaped t s × (s .solid ≡ true) ⌝ }
-    requires { ⌜ Fitting t m ⌝ }
     requires { ⌜ SoundHalf q ⌝ }
-    ensures { λ r. ⌜ (r .class ≡ apartClass q t) × Fitting t (r .ball) ⌝ }
+    ensures { λ r. ⌜ r ≡ withinClass q t ⌝ }
 {
-    let ball = middle_of(t, s, m);
-    if !ball.ahead {
-        return judgement(Class::Partial, ball);
+    let f = q.f;
+    let all = reaching::all_pass(f, q.high, s);
+    if all {
+        return class_within(q.d);
     }
-    if middle::far(q, t, ball) {
-        return judgement(class_apart(q.d), ball);
-    }
-    judgement(Class::Partial, ball)
+    Class::Partial
 }
 
-// The class of t for the halfspace that q was prepared from; b and E are found where they are needed and not known.
-pub fn judge(t: Trixel, s: Shape, m: Ball, q: Half) -> Judgement
-    requires { ⌜ SmallTrixel t ⌝ }
+// The class of t for the halfspace that q was prepared from. Of many halfspaces most are far from the trixel or enclose it; the rays are for the others.
+pub fn judge(t: Trixel, s: Shape, m: Ball, q: Half) -> Class
     requires { ⌜ Shaped t s ⌝ }
-    requires { ⌜ Fitting t m ⌝ }
+    requires { ⌜ Balled t m ⌝ }
     requires { ⌜ SoundHalf q ⌝ }
-    ensures { λ r. ⌜ (r .class ≡ judged q t) × Fitting t (r .ball) ⌝ }
+    ensures { λ r. ⌜ r ≡ judged q t ⌝ }
 {
-    if s.solid {
-        let f = q.f;
-        let passed = reaching::count_passed(f, q.high, s);
-        return match passed {
-            Passed::All => judgement(class_within(q.d), m),
-            Passed::Some => judgement(Class::Partial, m),
-            Passed::None => judge_middle(t, s, m, q),
-        };
+    if !s.solid {
+        return Class::Partial;
     }
-    judgement(Class::Partial, m)
+    if middle::far(q, t, m) {
+        return class_apart(q.d);
+    }
+    if middle::encloses(q, t, m) {
+        return class_within(q.d);
+    }
+    class_by_rays(t, s, q)
 }

@@ -4,21 +4,19 @@ use crate::Ray;
 use crate::Shape;
 use mesh::Trixel;
 use vector::Vec3;
-use wide::Wide;
 ghost use mathlib.Core.Path.{_≡_};
 ghost use mathlib.Core.Bool.{true};
-ghost use Prim.Native.Nat.{_*_, _^_, _≤_};
-ghost use lib.IntN.{pos, natAbs};
+ghost use Prim.Native.Nat.{_^_, _≤_};
+ghost use lib.IntN.{pos};
 ghost use Rattle.algebra.specs.Sizes.{Upto};
-ghost use Rattle.wide.specs.Value.{valueOf};
 ghost use Rattle.vector.specs.Numbers.{Kℕ};
-ghost use Rattle.vector.specs.Vectors.{isVector, AtMost, Small, dot, cross};
+ghost use Rattle.vector.specs.Vectors.{isVector, AtMost, Small, cross};
 ghost use Rattle.mesh.specs.Corners.{SmallTrixel};
 ghost use Rattle.region.specs.Regions.{halfspaceFrom};
 ghost use Rattle.region.specs.Building.{isOffset};
 ghost use Rattle.classify.specs.Shape.{fOf, DOf, GOf};
 ghost use Rattle.classify.specs.Measures as rule;
-ghost use Rattle.classify.specs.Measures.{IsRay, Shaped};
+ghost use Rattle.classify.specs.Measures.{upperSquare, heightOf, IsRay, Shaped};
 
 const K: u64 = 1048576;
 
@@ -71,24 +69,24 @@ pub fn prepared(n: Vec3, d: i64) -> Half
 
 // ---- of a trixel
 
-// a²
-fn squared(a: i64) -> Wide
+// (|a| / 2^10)²
+fn upper_square(a: i64) -> u64
     requires { ⌜ Upto (2 ^ 41) a ⌝ }
-    ensures { λ r. ⌜ (valueOf r ≡ natAbs a * natAbs a) × (valueOf r ≤ 2 ^ 82) ⌝ }
+    ensures { λ r. ⌜ (r ≡ upperSquare a) × (r ≤ 2 ^ 62) ⌝ }
 {
-    let n = vector::size(a);
-    wide::product(n, n)
+    let n = vector::size(a) / 1024;
+    n * n
 }
 
-// r·r
-fn square_length(r: Vec3) -> Wide
+// The height of r: its three upper squares, divided by 2^32.
+fn height(r: Vec3) -> u64
     requires { ⌜ AtMost (2 ^ 41) r ⌝ }
-    ensures { λ w. ⌜ valueOf w ≡ natAbs (dot r r) ⌝ }
+    ensures { λ h. ⌜ h ≡ heightOf r ⌝ }
 {
-    wide::sum(wide::sum(squared(r.x), squared(r.y)), squared(r.z))
+    (upper_square(r.x) + upper_square(r.y) + upper_square(r.z)) / 4294967296
 }
 
-// The ray a × b, with its square length.
+// The ray a × b, with its height.
 pub fn ray(a: Vec3, b: Vec3) -> Ray
     requires { ⌜ Small a ⌝ }
     requires { ⌜ Small b ⌝ }
@@ -97,7 +95,7 @@ pub fn ray(a: Vec3, b: Vec3) -> Ray
     let r = vector::cross(a, b);
     Ray {
         r: r,
-        square: square_length(r),
+        height: height(r),
     }
 }
 

@@ -3,21 +3,25 @@ use crate::Ball;
 use crate::Half;
 use crate::Ray;
 use crate::Shape;
+use crate::filters;
 use crate::reaching;
 use mesh::Trixel;
 use vector::Vec3;
 ghost use mathlib.Core.Path.{_≡_};
-ghost use mathlib.Core.Bool.{true};
-ghost use Prim.Native.Nat.{_*_, _^_, _≤_};
+ghost use mathlib.Core.Bool.{true, _&&_};
+ghost use Prim.Native.Nat.{_-_, _*_, _^_, _≤_};
 ghost use lib.Dec.{ltb};
+ghost use lib.IntN.{_*ℤ_};
+ghost use lib.Signed.{ltZ};
 ghost use Rattle.algebra.specs.Sizes.{Upto};
 ghost use Rattle.vector.specs.Numbers.{Kℕ};
 ghost use Rattle.vector.specs.Vectors.{AtMost, Small};
 ghost use Rattle.vector.specs.Vectors as vectors;
 ghost use Rattle.mesh.specs.Corners.{SmallTrixel};
 ghost use Rattle.classify.specs.Shape as rule;
-ghost use Rattle.classify.specs.Shape.{bOf, EOf};
-ghost use Rattle.classify.specs.Measures.{SoundHalf, Shaped, Balled, reachAll, greatestReach, Bounded, Spanned, ballAhead, ballBehind};
+ghost use Rattle.classify.specs.Shape.{positive, ahead, bOf, EOf};
+ghost use Rattle.classify.specs.Rays.{enclosed};
+ghost use Rattle.classify.specs.Measures.{SoundHalf, Rest, Shaped, Balled, reachAll, greatestReach, Bounded, Spanned, ballAhead, ballBehind};
 
 const K: u64 = 1048576;
 
@@ -123,7 +127,6 @@ fn ball_behind(b: Vec3) -> Ball
     ensures { λ r. ⌜ r ≡ ballBehind b ⌝ }
 {
     Ball {
-        known: true,
         ahead: false,
         b: b,
         reach: 0,
@@ -139,7 +142,6 @@ fn ball_ahead(b: Vec3, x0: u64, x1: u64, x2: u64, s: Shape) -> Ball
 {
     let e = greatest_reach(x0, x1, x2, s) as i64;
     Ball {
-        known: true,
         ahead: true,
         b: b,
         reach: e,
@@ -151,7 +153,7 @@ fn ball_ahead(b: Vec3, x0: u64, x1: u64, x2: u64, s: Shape) -> Ball
 pub fn ball_of(t: Trixel, s: Shape) -> Ball
     requires { ⌜ SmallTrixel t ⌝ }
     requires { ⌜ Shaped t s ⌝ }
-    ensures { λ r. ⌜ (r .known ≡ true) × Balled t r ⌝ }
+    ensures { λ r. ⌜ Balled t r ⌝ }
 {
     let b = middle_of(t);
     let r0 = s.r0;
@@ -172,26 +174,81 @@ pub fn ball_of(t: Trixel, s: Shape) -> Ball
     ball_ahead(b, x0 as u64, x1 as u64, x2 as u64, s)
 }
 
-// ---- the test
+// ---- the tests
 
-// Whether m² > p q.
-fn square_passes(m: u64, p: u64, q: u64) -> bool
+// Whether m² > p q, in two words.
+fn square_passes_exactly(m: u64, p: u64, q: u64) -> bool
     ensures { λ t. ⌜ t ≡ ltb (p * q) (m * m) ⌝ }
 {
     wide::less(wide::product(p, q), wide::product(m, m))
 }
 
-// Whether D·E − c > 0 and (D·E − c)² > (f·f − D²)(b·b − E²), with c = f·b.
+// Whether m² > p q. It is so for a large m; else, with a = m / 2^10, u = p / 2^10 and v = q / 2^10, it is sure where (u + 1)(v + 1) ≤ a², and sure
+// not to be where (a + 1)² ≤ u v.
+fn square_passes(m: u64, p: u64, q: u64) -> bool
+    requires { ⌜ (p ≤ 3 * 2 ^ 40) × (q ≤ 3 * 2 ^ 40) ⌝ }
+    ensures { λ t. ⌜ t ≡ ltb (p * q) (m * m) ⌝ }
+{
+    if m >= 4398046510080 {
+        return true;
+    }
+    let a = m / 1024;
+    let u = p / 1024;
+    let v = q / 1024;
+    if filters::product_within(u + 1, v + 1, a) {
+        return true;
+    }
+    if filters::square_within(a + 1, u, v) {
+        return false;
+    }
+    square_passes_exactly(m, p, q)
+}
+
+// Whether x > 0 and x² > p q.
+fn beyond(x: i64, p: i64, q: i64) -> bool
+    requires { ⌜ Upto (2 ^ 63 - 1) x ⌝ }
+    requires { ⌜ Rest p × Rest q ⌝ }
+    ensures { λ t. ⌜ t ≡ positive x && ltZ (p *ℤ q) (x *ℤ x) ⌝ }
+{
+    if x <= 0 {
+        return false;
+    }
+    square_passes(x as u64, p as u64, q as u64)
+}
+
+// Whether b is ahead of the rays, D·E − c > 0 and (D·E − c)² > (f·f − D²)(b·b − E²), with c = f·b.
 pub fn far(q: Half, t: Trixel, m: Ball) -> bool
     requires { ⌜ SoundHalf q ⌝ }
-    requires { ⌜ Balled t m × (m .ahead ≡ true) ⌝ }
-    ensures { λ r. ⌜ r ≡ rule.far (q .f) (q .low) (bOf t) (EOf t) ⌝ }
+    requires { ⌜ Balled t m ⌝ }
+    ensures { λ r. ⌜ r ≡ ahead (bOf t) t && rule.far (q .f) (q .low) (bOf t) (EOf t) ⌝ }
 {
+    if !m.ahead {
+        return false;
+    }
     let f = q.f;
     let b = m.b;
     let past = q.low * m.reach - vector::dot(f, b);
-    if past <= 0 {
+    beyond(past, q.rest, m.rest)
+}
+
+// Whether b is ahead of the rays and its ball by E lies in that of f and G, by a test that is enough: with M = f·b − G·E and S = b·b − E² it asks that
+// both are positive, S·G ≤ M·E and (f·f − D²) S < M².
+pub fn encloses(q: Half, t: Trixel, m: Ball) -> bool
+    requires { ⌜ SoundHalf q ⌝ }
+    requires { ⌜ Balled t m ⌝ }
+    ensures { λ r. ⌜ r ≡ ahead (bOf t) t && enclosed (q .f) (q .low) (q .high) (bOf t) (EOf t) ⌝ }
+{
+    if !m.ahead {
         return false;
     }
-    square_passes(past as u64, q.rest as u64, m.rest as u64)
+    let f = q.f;
+    let b = m.b;
+    let inward = vector::dot(f, b) - q.high * m.reach;
+    if m.rest <= 0 {
+        return false;
+    }
+    if inward * m.reach < m.rest * q.high {
+        return false;
+    }
+    beyond(inward, q.rest, m.rest)
 }

@@ -1,16 +1,22 @@
-// A direction against the rays of a trixel. The rules stand in specs/Shape, specs/Measures and specs/Rays.
+// A direction against the rays of a trixel: by a filter in one word, and in two words where it does not tell. The rules stand in specs/Shape,
+// specs/Measures and specs/Rays.
 use crate::Ray;
 use crate::Shape;
+use crate::filters;
 use vector::Vec3;
+use wide::Wide;
 ghost use mathlib.Core.Path.{_≡_};
-ghost use Prim.Native.Nat.{_*_, _^_, _≤_, _<_};
+ghost use mathlib.Core.Bool.{_&&_};
+ghost use Prim.Native.Nat.{_*_, _^_, _≤_};
 ghost use lib.Dec.{leb};
+ghost use lib.IntN.{natAbs};
 ghost use Rattle.algebra.specs.Sizes.{Upto};
 ghost use Rattle.wide.specs.Value.{valueOf};
-ghost use Rattle.vector.specs.Vectors.{Small};
-ghost use Rattle.classify.specs.Measures.{IsRay};
+ghost use Rattle.vector.specs.Vectors.{AtMost, Small};
+ghost use Rattle.vector.specs.Vectors as vectors;
+ghost use Rattle.classify.specs.Measures.{squareOf, IsRay, OwnRays};
 ghost use Rattle.classify.specs.Rays as rule;
-ghost use Rattle.classify.specs.Rays.{passedOf, OwnRays};
+ghost use Rattle.classify.specs.Rays.{passedOf};
 
 // How many of the three rays of a trixel pass.
 pub enum Passed {
@@ -19,15 +25,52 @@ pub enum Passed {
     All,
 }
 
-// Whether x² ≥ g² (r·r) for the ray r.
-pub fn reaches(x: u64, y: Ray, g: u64) -> bool
-    requires { ⌜ (x < 2 ^ 63) × (g ≤ 2 ^ 21) × (valueOf (y .square) ≤ 3 * 2 ^ 82) ⌝ }
-    ensures { λ t. ⌜ t ≡ leb (g * g * valueOf (y .square)) (x * x) ⌝ }
+// ---- a ray
+
+// a²
+fn squared(a: i64) -> Wide
+    requires { ⌜ Upto (2 ^ 41) a ⌝ }
+    ensures { λ r. ⌜ (valueOf r ≡ natAbs a * natAbs a) × (valueOf r ≤ 2 ^ 82) ⌝ }
 {
-    let s = y.square;
+    let n = vector::size(a);
+    wide::product(n, n)
+}
+
+// r·r
+fn square_length(r: Vec3) -> Wide
+    requires { ⌜ AtMost (2 ^ 41) r ⌝ }
+    ensures { λ w. ⌜ valueOf w ≡ natAbs (vectors.dot r r) ⌝ }
+{
+    wide::sum(wide::sum(squared(r.x), squared(r.y)), squared(r.z))
+}
+
+// Whether x² ≥ g² (r·r), in two words.
+fn reaches_exactly(x: u64, r: Vec3, g: u64) -> bool
+    requires { ⌜ (x ≤ 3 * 2 ^ 61) × (g ≤ 2 ^ 21) × AtMost (2 ^ 41) r ⌝ }
+    ensures { λ t. ⌜ t ≡ leb (g * g * natAbs (vectors.dot r r)) (x * x) ⌝ }
+{
     let given = wide::product(x, x);
-    let wanted = wide::times(s, g * g);
+    let wanted = wide::times(square_length(r), g * g);
     !wide::less(given, wanted)
+}
+
+// Whether x² ≥ g² (r·r) for the ray r of height h. With p = g² / 2^10 and q = x / 2^31 it is sure where (p + 1)(h + 5) ≤ q², and sure not to be
+// where (q + 1)² ≤ p h.
+pub fn reaches(x: u64, y: Ray, g: u64) -> bool
+    requires { ⌜ (x ≤ 3 * 2 ^ 61) × (g ≤ 2 ^ 21) × IsRay (y .r) y ⌝ }
+    ensures { λ t. ⌜ t ≡ leb (g * g * squareOf y) (x * x) ⌝ }
+{
+    let h = y.height;
+    let p = g * g / 1024;
+    let q = x / 2147483648;
+    if filters::product_within(p + 1, h + 5, q) {
+        return true;
+    }
+    if filters::square_within(q + 1, p, h) {
+        return false;
+    }
+    let r = y.r;
+    reaches_exactly(x, r, g)
 }
 
 // Whether f·r > 0 and (f·r)² ≥ g² (r·r) for the ray r.
@@ -40,6 +83,27 @@ pub fn passes(f: Vec3, g: i64, y: Ray) -> bool
     let r = y.r;
     let x = vector::dot(f, r);
     0 < x && reaches(vector::size(x), y, vector::size(g))
+}
+
+// ---- the three rays
+
+// Whether all rays of a trixel pass: the next is tried where those before it do.
+pub fn all_pass(f: Vec3, g: i64, s: Shape) -> bool
+    requires { ⌜ Small f ⌝ }
+    requires { ⌜ Upto (2 ^ 21) g ⌝ }
+    requires { ⌜ OwnRays s ⌝ }
+    ensures { λ t. ⌜ t ≡ rule.passes f g (s .r0 .r) && (rule.passes f g (s .r1 .r) && rule.passes f g (s .r2 .r)) ⌝ }
+{
+    let r0 = s.r0;
+    let r1 = s.r1;
+    let r2 = s.r2;
+    if !passes(f, g, r0) {
+        return false;
+    }
+    if !passes(f, g, r1) {
+        return false;
+    }
+    passes(f, g, r2)
 }
 
 // How many rays of a trixel pass, by at most three tests.

@@ -4,7 +4,7 @@ use native.Mathlib.Omega.{arith}
 use mathlib.Core.Path.{_≡_, ap, _∙_}
 use mathlib.Core.List.{List, [], _++_, append-nil}
 use lib.ListN.{length, take, drop, length-drop}
-use lib.Seq.{take-all, drop-drop, drop-length}
+use lib.Seq.{take-all, drop-drop, drop-length, drop-at, length-take-le}
 use borrow.Rule.Slice.PartMut.{midOf, postOf, putMid}
 
 module _ (a : ℕ) (xs : List ℕ) (h : a ≤ length xs) where
@@ -18,3 +18,6 @@ module _ (a : ℕ) (xs : List ℕ) (h : a ≤ length xs) where
 
   pub tail-back : (ys : List ℕ) → putMid a (length xs - a) xs ys ≡ take a xs ++ ys
   tail-back ys = ap (λ l. take a xs ++ (ys ++ l)) none-after ∙ ap (λ l. take a xs ++ l) (append-nil ys)
+
+  pub tail-after : (ys : List ℕ) → drop a (putMid a (length xs - a) xs ys) ≡ ys
+  tail-after ys = ap (drop a) (tail-back ys) ∙ drop-at (take a xs) ys a (length-take-le a xs h)

@@ -91,7 +91,7 @@ module _ (xs : List ℤ) (es : List ℕ) (n b left : ℕ) (t : Trixel) (i : ℕ)
 
 -- one more is seen, and the lists stay
 pub room-more : {b : ℕ} {s r : Tally} {out : List ℕ} → Room b s out → r ≡ oneMore s → Room b r out
-room-more {b} {s} {r} {out} h e = subst (λ q. Room b q out) (sym e) (record { budget = h .budget; outer = h .outer; inner = h .inner; list = h .list })
+room-more {b} {s} {r} {out} h e = subst (λ q. Room b q out) (sym e) (record { budget = h .budget; outer = h .outer; inner = h .inner; list = h .list; hinted = h .hinted; innerHinted = h .innerHinted })
 
 -- ---- a level down
 

@@ -3,16 +3,17 @@
 use Prim.Native.Nat.{ℕ, zero, suc, _+_, _-_, _*_, _≤_}
 use native.Mathlib.Omega.{arith}
 use mathlib.Core.Path.{_≡_, refl, sym, ap, subst, _∙_}
-use mathlib.Core.List.{List, [], _∷_, _++_, foldl, append-assoc, append-nil}
+use mathlib.Core.List.{List, [], _∷_, _++_, map, foldl, append-assoc, append-nil}
 use lib.ListN.{length, take, drop, take-append-drop}
 use lib.Seq.{take-at, drop-at, length-take-le, drop-append-add}
 use Rattle.answer.specs.Lent.{put}
 use Rattle.region.specs.Regions.{Region}
+use Rattle.ranges.specs.declared.Hint.{Hint}
 use Rattle.ranges.specs.declared.Pending.{Pending}
 use Rattle.ranges.specs.Ranges.{Range, pairs}
-use Rattle.ranges.specs.Lists.{outerOf, innerOf}
+use Rattle.ranges.specs.Lists.{gaps, size, outerOf, innerOf}
 use Rattle.ranges.specs.OnePass.{outerPush, outerPass, empty, innerPush, innerEnd, innerPass}
-use Rattle.ranges.specs.Stored.{range, rangesIn, written, Writes, nothingYet, stateOf, Keeps}
+use Rattle.ranges.specs.Stored.{range, rangesIn, sizesIn, written, Writes, Hinted, nothingYet, stateOf, Keeps}
 use Rattle.ranges.proofs.OnePass.{one-pass}
 use Rattle.ranges.proofs.StoredLaws.{length-written, written-put}
 use Rattle.ranges.proofs.Pushes.{writes-none, writes-push, keeps-none, keeps-push, keeps-end}
@@ -20,7 +21,7 @@ use Rattle.cutting.specs.declared.Tally.{Tally}
 use Rattle.cutting.specs.Cover.{Found, leftOut, takenFull, takenPartial, both, four, cutInto, visitRoot, cutting, listed, countsOf, bothListed}
 use Rattle.cutting.specs.Walk.{nothing, innerState, Walked, Adds, Behind, BehindEnd, oneMore}
 
--- ---- the front part of a list
+-- ---- the front part of a list, and what is behind it
 
 in-front : (n : ℕ) (front back : List ℕ) → 2 * n ≤ length front → rangesIn n (front ++ back) ≡ rangesIn n front
 unfolding rangesIn
@@ -35,6 +36,35 @@ written-front [] front back h = refl
 written-front (a ∷ xs) [] back h = absurd (omega arith)
 written-front (a ∷ xs) (x ∷ []) back h = absurd (omega arith)
 written-front (a ∷ xs) (x ∷ y ∷ front) back h = ap (λ l. a .low ∷ a .high ∷ l) (written-front xs front back (omega arith))
+
+-- what is known of the gaps at the front, where another list is behind it
+pub hinted-before : (h : Hint) (n b : ℕ) (before after rest : List ℕ) → n ≤ b → 2 * b ≤ length before → after ≡ take (2 * b) before ++ rest
+    → Hinted h (gaps (rangesIn n before)) → Hinted h (gaps (rangesIn n after))
+hinted-before h n b before after rest few long e p = subst (λ rs. Hinted h (gaps rs)) (sym same) p
+  where
+    short : 2 * n ≤ length (take (2 * b) before)
+    short = omega (arith, length-take-le (2 * b) before long)
+
+    same : rangesIn n after ≡ rangesIn n before
+    same =
+        ap (rangesIn n) e ∙ in-front n (take (2 * b) before) rest short
+        ∙ sym (in-front n (take (2 * b) before) (drop (2 * b) before) short)
+        ∙ ap (rangesIn n) (take-append-drop (2 * b) before)
+
+past-written : (k : ℕ) (xs : List Range) (l : List ℕ) → 2 * length xs ≤ k → 2 * length xs ≤ length l → drop k (written xs l) ≡ drop k l
+unfolding written
+past-written k [] l h f = refl
+past-written zero (a ∷ xs) l h f = absurd (omega arith)
+past-written (suc zero) (a ∷ xs) l h f = absurd (omega arith)
+past-written (suc (suc k)) (a ∷ xs) [] h f = absurd (omega arith)
+past-written (suc (suc k)) (a ∷ xs) (x ∷ []) h f = absurd (omega arith)
+past-written (suc (suc k)) (a ∷ xs) (x ∷ y ∷ l) h f = past-written k xs l (omega arith) (omega arith)
+
+-- what is known of the sizes behind, where another list is written at the front
+pub hinted-behind : (h : Hint) (n b : ℕ) {xs : List Range} {before after : List ℕ} {m : ℕ} → Writes xs before after m → m ≤ b → 2 * b ≤ length before
+    → Hinted h (sizesIn (2 * b) n before) → Hinted h (sizesIn (2 * b) n after)
+hinted-behind h n b {xs} {before} w few long p =
+    subst (λ l. Hinted h (map size (rangesIn n l))) (sym (ap (drop (2 * b)) (w .list) ∙ past-written (2 * b) xs before (omega (arith, w .count)) (omega (arith, w .count)))) p
 
 fold-snoc : {S : Type 0} (step : S → Range → S) (s : S) (rs : List Range) (r : Range) → foldl step s (rs ++ r ∷ []) ≡ step (foldl step s rs) r
 fold-snoc step s [] r = refl
@@ -89,7 +119,7 @@ module _ (b : ℕ) (start : List ℕ) (a : Found) (s : Tally) (out : List ℕ) (
   }
 
   -- a range more in the outer list
-  module _ (r : Range) (out′ : List ℕ) (n : ℕ) (few : s .outer ≤ b) (v : Writes (outerPush b (rangesIn (s .outer) out) r) out out′ n) (most : n ≤ b) where
+  module _ (r : Range) (out′ : List ℕ) (n : ℕ) (h : Hint) (few : s .outer ≤ b) (v : Writes (outerPush b (rangesIn (s .outer) out) r) out out′ n) (most : n ≤ b) where
     front′ : List ℕ
     front′ = written (outerPush b (rangesIn (s .outer) (w .front)) r) (w .front)
 
@@ -114,7 +144,7 @@ module _ (b : ℕ) (start : List ℕ) (a : Found) (s : Tally) (out : List ℕ) (
         (writes-push b (outerPass b (a .accepted)) r (take (2 * b) start) (w .front) front′ (s .outer) n (w .outer)
         (record { count = v .count ∙ ap (λ rs. length (outerPush b rs r)) same; list = refl }))
 
-    pub taken-partial : Walked b start (both a (takenPartial r)) (record { outer = n; inner = s .inner; seen = s .seen + 1 }) out′
+    pub taken-partial : Walked b start (both a (takenPartial r)) (record { outer = n; hint = h; inner = s .inner; seen = s .seen + 1 }) out′
     taken-partial = record {
       front = front′;
       back = w .back;
@@ -127,7 +157,7 @@ module _ (b : ℕ) (start : List ℕ) (a : Found) (s : Tally) (out : List ℕ) (
 
     -- and in the inner list behind it
     pub taken-full : (out″ : List ℕ) (p : Pending) → Behind b out′ out″ (innerPush b (stateOf (s .inner) (drop (2 * b) out′)) r) p
-        → Walked b start (both a (takenFull r)) (record { outer = n; inner = p; seen = s .seen + 1 }) out″
+        → Walked b start (both a (takenFull r)) (record { outer = n; hint = h; inner = p; seen = s .seen + 1 }) out″
     taken-full out″ p k =
         let before : take (2 * b) out′ ≡ front′ = ap (take (2 * b)) pushed-list ∙ take-at front′ (w .back) (2 * b) pushed-width in
         let after : drop (2 * b) out′ ≡ w .back = ap (drop (2 * b)) pushed-list ∙ drop-at front′ (w .back) (2 * b) pushed-width in
@@ -158,9 +188,9 @@ module _ (b : ℕ) (start : List ℕ) (long : 4 * b ≤ length start) where
   wide : length (take (2 * b) start) ≡ 2 * b
   wide = length-take-le (2 * b) start (omega arith)
 
-  pub walk-start : Walked b start nothing (record { outer = 0; inner = nothingYet; seen = 0 }) start
+  pub walk-start : (h : Hint) → Walked b start nothing (record { outer = 0; hint = h; inner = nothingYet; seen = 0 }) start
   unfolding outerPass
-  walk-start = record {
+  walk-start h = record {
     front = take (2 * b) start;
     back = drop (2 * b) start;
     list = sym (take-append-drop (2 * b) start);

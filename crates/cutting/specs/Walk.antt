@@ -5,7 +5,8 @@
 --   Adds b found ..    whatever was found before, `found` is noted after it
 --   Visited ..         so is what the cutting of the trixel t finds, `left` levels above the depth, for every region that was prepared to xs and es
 --   Behind, BehindEnd  the inner list's writer was lent the list from element 2 × b on: the elements before it stay
---   Room b s out       the counts are at most the budget b, and the list has room for both lists
+--   Room b s out       the counts are at most the budget b, the list has room for both lists, and what s knows of the gaps of the outer list and of the
+--                      sizes of the inner list's stored ranges is so
 --   Level ..           how large identifiers and counts get: `span` is 4 to the power `left`
 --   RowsOf g n rs      rs begins with the n rows of g, which is as the region of an accepted file is; SomeRows: of some region; CoversRows: their cover
 use Prim.Native.Nat.{ℕ, suc, _+_, _*_, _^_, _≤_}
@@ -21,8 +22,9 @@ use Rattle.region.specs.Rows.{rows}
 use Rattle.scan.specs.Halves.{Prepared}
 use Rattle.ranges.specs.declared.Pending.{Pending}
 use Rattle.ranges.specs.Ranges.{Range}
+use Rattle.ranges.specs.Lists.{gaps}
 use Rattle.ranges.specs.OnePass.{outerPass, Inner, empty, innerPush}
-use Rattle.ranges.specs.Stored.{Writes, Keeps}
+use Rattle.ranges.specs.Stored.{rangesIn, sizesIn, Writes, Hinted, Keeps}
 use Rattle.cutting.specs.declared.Tally.{Tally}
 use Rattle.cutting.specs.declared.Counts.{Counts}
 use Rattle.cutting.specs.Cover.{Found, both, visit, cutting, listed, countsOf, bothListed}
@@ -64,6 +66,8 @@ pub record Room (b : ℕ) (s : Tally) (out : List ℕ) : Type 0 where
   pub outer : s .outer ≤ b
   pub inner : s .inner .n ≤ b
   pub list : 4 * b ≤ length out
+  pub hinted : Hinted (s .hint) (gaps (rangesIn (s .outer) out))
+  pub innerHinted : Hinted (s .inner .hint) (sizesIn (2 * b) (s .inner .n) out)
 
 pub record Level (i left span seen : ℕ) : Type 0 where
   pub power : span ≡ 4 ^ left
@@ -72,7 +76,7 @@ pub record Level (i left span seen : ℕ) : Type 0 where
 
 -- one more is classified
 abbrev pub oneMore : Tally → Tally
-oneMore s = record { outer = s .outer; inner = s .inner; seen = s .seen + 1 }
+oneMore s = record { outer = s .outer; hint = s .hint; inner = s .inner; seen = s .seen + 1 }
 
 -- the roots are cut: all that the cutting finds is noted
 abbrev pub Cut : List ℤ → List ℕ → ℕ → ℕ → ℕ → List ℕ → Tally → List ℕ → Type 0

@@ -2,6 +2,7 @@
 use classify::Class;
 use mesh::Trixel;
 use mesh::trixels;
+use ranges::Hint;
 use ranges::Pending;
 ghost use mathlib.Core.Path.{_≡_};
 ghost use Prim.Native.Nat.{suc, _+_, _*_, _^_, _≤_, _<_};
@@ -10,13 +11,15 @@ ghost use Rattle.answer.specs.Lent.{put};
 ghost use Rattle.mesh.specs.Corners.{SmallTrixel};
 ghost use Rattle.scan.specs.Halves.{Ready};
 ghost use Rattle.ranges.specs.OnePass.{innerPush, innerEnd};
-ghost use Rattle.ranges.specs.Stored.{range, stateOf};
+ghost use Rattle.ranges.specs.Stored.{range, sizesIn, Hinted, stateOf};
 ghost use Rattle.cutting.specs.Cover.{takenFull, takenPartial, countsList};
 ghost use Rattle.cutting.specs.Walk.{Adds, Visited, Behind, BehindEnd, Room, Level, Cut, Covers, SomeRows, CoversRows, oneMore};
 
-// What was found so far: how many outer ranges are stored, the inner list's count and last range, and the trixels classified.
+// What was found so far: how many outer ranges are stored and what is known of their gaps, what stands beside the inner list, and the trixels
+// classified.
 pub struct Tally {
     pub outer: usize,
+    pub hint: Hint,
     pub inner: Pending,
     pub seen: u64,
 }
@@ -26,8 +29,10 @@ pub struct Tally {
 // A range of the inner list, which is written from element 2 × budget on.
 fn push_inner(out: &mut [u64], budget: usize, p: Pending, low: u64, high: u64) -> Pending
     requires { ⌜ (1 ≤ budget) × (p .n ≤ budget) × (4 * budget ≤ length (now out)) ⌝ }
+    requires { ⌜ Hinted (p .hint) (sizesIn (2 * budget) (p .n) (now out)) ⌝ }
     ensures { λ r. ⌜ Behind budget (now (out .entry)) (now (out .exit)) (innerPush budget (stateOf p (drop (2 * budget) (now (out .entry)))) (range low high)) r ⌝ }
     ensures { λ r. ⌜ r .n ≤ budget ⌝ }
+    ensures { λ r. ⌜ Hinted (r .hint) (sizesIn (2 * budget) (r .n) (now (out .exit))) ⌝ }
 {
     ranges::inner_push(&mut out[2 * budget..], p, budget, low, high)
 }
@@ -41,9 +46,12 @@ fn take_partial(out: &mut [u64], budget: usize, s: Tally, low: u64, high: u64) -
 {
     let n = s.outer;
     let inner = s.inner;
-    let m = ranges::outer_push(out, n, budget, low, high);
+    let known = s.hint;
+    let m = ranges::outer_push(out, n, budget, low, high, known);
+    let hint = m.hint;
     Tally {
-        outer: m,
+        outer: m.n,
+        hint: hint,
         inner: inner,
         seen: s.seen + 1,
     }
@@ -58,10 +66,13 @@ fn take_full(out: &mut [u64], budget: usize, s: Tally, low: u64, high: u64) -> T
 {
     let n = s.outer;
     let p = s.inner;
-    let m = ranges::outer_push(out, n, budget, low, high);
+    let known = s.hint;
+    let m = ranges::outer_push(out, n, budget, low, high, known);
+    let hint = m.hint;
     let inner = push_inner(out, budget, p, low, high);
     Tally {
-        outer: m,
+        outer: m.n,
+        hint: hint,
         inner: inner,
         seen: s.seen + 1,
     }
@@ -72,9 +83,11 @@ fn seen_more(s: Tally) -> Tally
     requires { ⌜ s .seen < 2 ^ 62 ⌝ }
     ensures { λ r. ⌜ r ≡ oneMore s ⌝ }
 {
+    let hint = s.hint;
     let inner = s.inner;
     Tally {
         outer: s.outer,
+        hint: hint,
         inner: inner,
         seen: s.seen + 1,
     }
@@ -199,6 +212,7 @@ fn visit_roots(
     let span = power(left);
     let mut s = Tally {
         outer: 0,
+        hint: ranges::no_hint(),
         inner: ranges::nothing_yet(),
         seen: 0,
     };
@@ -224,6 +238,7 @@ fn visit_roots(
 // No more ranges of the inner list come.
 fn end_inner(out: &mut [u64], budget: usize, p: Pending) -> usize
     requires { ⌜ (1 ≤ budget) × (p .n ≤ budget) × (4 * budget ≤ length (now out)) ⌝ }
+    requires { ⌜ Hinted (p .hint) (sizesIn (2 * budget) (p .n) (now out)) ⌝ }
     ensures { λ n. ⌜ BehindEnd budget (now (out .entry)) (now (out .exit)) (innerEnd budget (stateOf p (drop (2 * budget) (now (out .entry))))) n ⌝ }
 {
     ranges::inner_end(&mut out[2 * budget..], p, budget)

@@ -19,6 +19,7 @@ use Rattle.mesh.specs.Table.{partOf, vectorAt}
 use Rattle.mesh.specs.Corners.{bare}
 use Rattle.mesh.proofs.CornerLaws.{descend-corners}
 use Rattle.descent.specs.declared.Place.{Place}
+use Rattle.descent.specs.Places.{digitBy}
 
 -- ---- entry e of child d of root k
 
@@ -53,42 +54,43 @@ passed p n c e = ap (λ v. leZ (dot v p) (pos 0)) e ∙ ap (λ z. leZ z (pos 0))
 
 -- ---- the digits from the table
 
-abbrev pub tableDigit : Vec3 → ℕ → ℕ → ℕ → ℕ
-tableDigit p a b c = cond (leZ (dot (vectorAt a) p) (pos 0)) 0 (cond (leZ (dot (vectorAt b) p) (pos 0)) 1 (cond (leZ (dot (vectorAt c) p) (pos 0)) 2 3))
-
-digit-by-table : (p : Vec3) (t : Trixel) (a b c : ℕ) → vectorAt a ≡ minus (cut t .c0) → vectorAt b ≡ minus (cut t .c1) → vectorAt c ≡ minus (cut t .c2) → tableDigit p a b c ≡ digit p t
+digit-by-table : (p : Vec3) (t : Trixel) {a b c : Vec3} → a ≡ minus (cut t .c0) → b ≡ minus (cut t .c1) → c ≡ minus (cut t .c2) → digitBy p a b c ≡ digit p t
 unfolding digit
-digit-by-table p t a b c ea eb ec =
-    λ j. cond (passed p (vectorAt a) (cut t .c0) ea j) 0 (cond (passed p (vectorAt b) (cut t .c1) eb j) 1 (cond (passed p (vectorAt c) (cut t .c2) ec j) 2 3))
+digit-by-table p t {a} {b} {c} ea eb ec =
+    λ j. cond (passed p a (cut t .c0) ea j) 0 (cond (passed p b (cut t .c1) eb j) 1 (cond (passed p c (cut t .c2) ec j) 2 3))
 
-pub root-digit : (p : Vec3) (k : ℕ) → tableDigit p (96 * k + 83) (96 * k + 76) (96 * k + 77) ≡ digit p (rootTrixel k)
+pub root-digit : (p : Vec3) (k : ℕ) {a b c : Vec3} → a ≡ vectorAt (3 * (32 * k + 27) + 2) → b ≡ vectorAt (3 * (32 * k + 25) + 1) → c ≡ vectorAt (3 * (32 * k + 25) + 2)
+    → digitBy p a b c ≡ digit p (rootTrixel k)
 unfolding child
-root-digit p k = digit-by-table p (rootTrixel k) (96 * k + 83) (96 * k + 76) (96 * k + 77)
-    (entry k 3 1 5 (96 * k + 83) (lit< tt) (lit< tt) (lit< tt) (omega arith))
-    (entry k 3 0 4 (96 * k + 76) (lit< tt) (lit< tt) (lit< tt) (omega arith))
-    (entry k 3 0 5 (96 * k + 77) (lit< tt) (lit< tt) (lit< tt) (omega arith))
+root-digit p k ea eb ec = digit-by-table p (rootTrixel k)
+    (ea ∙ entry k 3 1 5 (3 * (32 * k + 27) + 2) (lit< tt) (lit< tt) (lit< tt) (omega arith))
+    (eb ∙ entry k 3 0 4 (3 * (32 * k + 25) + 1) (lit< tt) (lit< tt) (lit< tt) (omega arith))
+    (ec ∙ entry k 3 0 5 (3 * (32 * k + 25) + 2) (lit< tt) (lit< tt) (lit< tt) (omega arith))
 
-pub child-digit : (p : Vec3) (k d : ℕ) → d < 4
-    → tableDigit p (96 * k + 24 * d + 21) (96 * k + 24 * d + 22) (96 * k + 24 * d + 23) ≡ digit p (child d (rootTrixel k))
+-- the three vectors of row j
+abbrev pub Row : ℕ → Vec3 → Vec3 → Vec3 → Type 0
+Row j a b c = (a ≡ vectorAt (3 * j)) × (b ≡ vectorAt (3 * j + 1)) × (c ≡ vectorAt (3 * j + 2))
+
+pub child-digit : (p : Vec3) (k d : ℕ) {a b c : Vec3} → d < 4 → Row (32 * k + 8 * d + 7) a b c → digitBy p a b c ≡ digit p (child d (rootTrixel k))
 unfolding child
-child-digit p k d h = digit-by-table p (child d (rootTrixel k)) (96 * k + 24 * d + 21) (96 * k + 24 * d + 22) (96 * k + 24 * d + 23)
-    (entry k d 3 3 (96 * k + 24 * d + 21) h (lit< tt) (lit< tt) (omega arith))
-    (entry k d 3 4 (96 * k + 24 * d + 22) h (lit< tt) (lit< tt) (omega arith))
-    (entry k d 3 5 (96 * k + 24 * d + 23) h (lit< tt) (lit< tt) (omega arith))
+child-digit p k d h r = digit-by-table p (child d (rootTrixel k))
+    (r .0 ∙ entry k d 3 3 (3 * (32 * k + 8 * d + 7)) h (lit< tt) (lit< tt) (omega arith))
+    (r .1 ∙ entry k d 3 4 (3 * (32 * k + 8 * d + 7) + 1) h (lit< tt) (lit< tt) (omega arith))
+    (r .2 ∙ entry k d 3 5 (3 * (32 * k + 8 * d + 7) + 2) h (lit< tt) (lit< tt) (omega arith))
 
 -- ---- the start
 
 -- two levels down by the digits d and e, with the corners of the entry
 pub started : (p : Vec3) (k d e : ℕ) (s : Place) → d ≡ digit p (rootTrixel k) → e ≡ digit p (child d (rootTrixel k)) → d < 4 → e < 4
     → s .id ≡ 128 + 16 * k + 4 * d + e
-    → s .corners .v0 ≡ vectorAt (96 * k + 24 * d + 6 * e) → s .corners .v1 ≡ vectorAt (96 * k + 24 * d + 6 * e + 1) → s .corners .v2 ≡ vectorAt (96 * k + 24 * d + 6 * e + 2)
+    → Row (32 * k + 8 * d + 2 * e) (s .corners .v0) (s .corners .v1) (s .corners .v2)
     → (n : ℕ) → descend p n (bare (s .corners)) (s .id) ≡ descend p (suc (suc n)) (rootTrixel k) (8 + k)
 unfolding descend
-started p k d e s ed ee hd he ei e0 e1 e2 n =
+started p k d e s ed ee hd he ei r n =
     let t = rootTrixel k in
-    let c0 : s .corners .v0 ≡ child e (child d t) .v0 = e0 ∙ entry k d e 0 (96 * k + 24 * d + 6 * e) hd he (lit< tt) (omega arith) in
-    let c1 : s .corners .v1 ≡ child e (child d t) .v1 = e1 ∙ entry k d e 1 (96 * k + 24 * d + 6 * e + 1) hd he (lit< tt) refl in
-    let c2 : s .corners .v2 ≡ child e (child d t) .v2 = e2 ∙ entry k d e 2 (96 * k + 24 * d + 6 * e + 2) hd he (lit< tt) refl in
+    let c0 : s .corners .v0 ≡ child e (child d t) .v0 = r .0 ∙ entry k d e 0 (3 * (32 * k + 8 * d + 2 * e)) hd he (lit< tt) (omega arith) in
+    let c1 : s .corners .v1 ≡ child e (child d t) .v1 = r .1 ∙ entry k d e 1 (3 * (32 * k + 8 * d + 2 * e) + 1) hd he (lit< tt) (omega arith) in
+    let c2 : s .corners .v2 ≡ child e (child d t) .v2 = r .2 ∙ entry k d e 2 (3 * (32 * k + 8 * d + 2 * e) + 2) hd he (lit< tt) (omega arith) in
     let i : s .id ≡ 4 * (4 * (8 + k) + d) + e = omega arith in
     ap (descend p n (bare (s .corners))) i
     ∙ descend-corners p n (bare (s .corners)) (child e (child d t)) (4 * (4 * (8 + k) + d) + e) (λ j. record { v0 = c0 j; v1 = c1 j; v2 = c2 j })

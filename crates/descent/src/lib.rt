@@ -14,9 +14,8 @@ ghost use Rattle.vector.specs.Vectors as vectors;
 ghost use Rattle.vector.specs.Vectors.{AtMost, Small};
 ghost use Rattle.mesh.specs.Lookup as rule;
 ghost use Rattle.mesh.specs.Lookup.{notNegative, northRoot, southRoot, rootNumber};
-ghost use Rattle.mesh.specs.Table.{vectorAt};
 ghost use Rattle.mesh.specs.Corners.{bare, SmallCorners};
-ghost use Rattle.descent.specs.Places.{childAt, Stepped, Started};
+ghost use Rattle.descent.specs.Places.{childAt, digitBy, Stepped, Started};
 
 // A digit, and the corners of that child.
 pub struct Child {
@@ -126,20 +125,20 @@ fn root_number(p: Vec3) -> u64
     root_by(0 <= p.x, 0 <= p.y, 0 <= p.z)
 }
 
-// Whether vector number k of the table, the normal of a cut turned round, leaves p on the side of the cut.
-fn passes(p: Vec3, k: usize) -> bool
+// Whether n, the normal of a cut turned round, leaves p on the side of the cut.
+fn passes(p: Vec3, n: Vec3) -> bool
     requires { ⌜ Small p ⌝ }
-    requires { ⌜ k < 768 ⌝ }
-    ensures { λ t. ⌜ t ≡ leZ (vectors.dot (vectorAt k) p) (pos 0) ⌝ }
+    requires { ⌜ Small n ⌝ }
+    ensures { λ t. ⌜ t ≡ leZ (vectors.dot n p) (pos 0) ⌝ }
 {
-    vector::dot(p, table::vector_at(k)) <= 0
+    vector::dot(p, n) <= 0
 }
 
-// The child that p goes to, by the three normals turned round that stand at a, b and c of the table.
-fn digit_at(p: Vec3, a: usize, b: usize, c: usize) -> u64
+// The child that p goes to, by the normals of the three cuts turned round.
+fn digit_by(p: Vec3, a: Vec3, b: Vec3, c: Vec3) -> u64
     requires { ⌜ Small p ⌝ }
-    requires { ⌜ (a < 768) × (b < 768) × (c < 768) ⌝ }
-    ensures { λ r. ⌜ r ≡ cond (leZ (vectors.dot (vectorAt a) p) (pos 0)) 0 (cond (leZ (vectors.dot (vectorAt b) p) (pos 0)) 1 (cond (leZ (vectors.dot (vectorAt c) p) (pos 0)) 2 3)) ⌝ }
+    requires { ⌜ Small a × Small b × Small c ⌝ }
+    ensures { λ r. ⌜ r ≡ digitBy p a b c ⌝ }
     ensures { λ r. ⌜ r < 4 ⌝ }
 {
     if passes(p, a) {
@@ -161,18 +160,17 @@ fn from_table(p: Vec3, root: u64) -> Place
     requires { ⌜ root < 8 ⌝ }
     ensures { λ r. ⌜ Started p root r ⌝ }
 {
-    let at = 96 * root as usize;
-    let d = digit_at(p, at + 83, at + 76, at + 77);
-    let below = at + 24 * d as usize;
-    let e = digit_at(p, below + 21, below + 22, below + 23);
-    let found = below + 6 * e as usize;
+    let at = 32 * root as usize;
+    let first = table::three_at(at + 25);
+    let second = table::three_at(at + 27);
+    let d = digit_by(p, second.c, first.b, first.c);
+    let below = at + 8 * d as usize;
+    let cuts = table::three_at(below + 7);
+    let e = digit_by(p, cuts.a, cuts.b, cuts.c);
+    let found = table::three_at(below + 2 * e as usize);
     Place {
         id: 128 + 16 * root + 4 * d + e,
-        corners: Corners {
-            v0: table::vector_at(found),
-            v1: table::vector_at(found + 1),
-            v2: table::vector_at(found + 2),
-        },
+        corners: mesh::cutting::triple(found.a, found.b, found.c),
     }
 }
 

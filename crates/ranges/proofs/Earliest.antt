@@ -13,11 +13,11 @@ use Rattle.algebra.proofs.Tests.{split, and-left, and-right}
 use Rattle.ranges.specs.Lists.{smallest, place, earliest, without}
 use Rattle.ranges.specs.OnePass.{below}
 
-below-cons : (g x : ℕ) (l : List ℕ) → below g (x ∷ l) ≡ true → (g < x) × (below g l ≡ true)
+pub below-cons : (g x : ℕ) (l : List ℕ) → below g (x ∷ l) ≡ true → (g < x) × (below g l ≡ true)
 unfolding below
 below-cons g x l e = (ltb-true g x (and-left (ltb g x) (below g l) e), and-right (ltb g x) (below g l) e)
 
-cons-below : (g x : ℕ) (l : List ℕ) → g < x → below g l ≡ true → below g (x ∷ l) ≡ true
+pub cons-below : (g x : ℕ) (l : List ℕ) → g < x → below g l ≡ true → below g (x ∷ l) ≡ true
 unfolding below
 cons-below g x l h e = rw (lt-ltb g x h, e)
 
@@ -41,11 +41,11 @@ unfolding smallest
 smallest-snoc x [] g = refl
 smallest-snoc x (y ∷ l) g = let h = smallest-snoc y l g in omega arith
 
-place-here : (x y : ℕ) (l : List ℕ) → x ≡ y → place x (y ∷ l) ≡ 0
+pub place-here : (x y : ℕ) (l : List ℕ) → x ≡ y → place x (y ∷ l) ≡ 0
 unfolding place
 place-here x y l e = rw (eq-eqb x y e)
 
-place-later : (x y : ℕ) (l : List ℕ) → (x ≡ y → ⊥) → place x (y ∷ l) ≡ suc (place x l)
+pub place-later : (x y : ℕ) (l : List ℕ) → (x ≡ y → ⊥) → place x (y ∷ l) ≡ suc (place x l)
 unfolding place
 place-later x y l e = rw (ne-eqb x y e)
 

@@ -33,13 +33,13 @@ unfolding without
 without-last [] r = refl
 without-last (a ∷ xs) r = ap (λ l. a ∷ l) (without-last xs r)
 
-sizes-without : (i : ℕ) (xs : List Range) → map size (without i xs) ≡ without i (map size xs)
+pub sizes-without : (i : ℕ) (xs : List Range) → map size (without i xs) ≡ without i (map size xs)
 unfolding without
 sizes-without i [] = refl
 sizes-without zero (a ∷ xs) = refl
 sizes-without (suc i) (a ∷ xs) = ap (λ l. size a ∷ l) (sizes-without i xs)
 
-sizes-snoc : (xs : List Range) (r : Range) → map size (xs ++ r ∷ []) ≡ map size xs ++ size r ∷ []
+pub sizes-snoc : (xs : List Range) (r : Range) → map size (xs ++ r ∷ []) ≡ map size xs ++ size r ∷ []
 sizes-snoc [] r = refl
 sizes-snoc (a ∷ xs) r = ap (λ l. size a ∷ l) (sizes-snoc xs r)
 
@@ -76,14 +76,7 @@ dropShortest-snoc xs r h =
     at : {i : ℕ} → earliest (map size (xs ++ r ∷ [])) ≡ i → without (earliest (map size (xs ++ r ∷ []))) (xs ++ r ∷ []) ≡ without i (xs ++ r ∷ [])
     at e = ap (λ i. without i (xs ++ r ∷ [])) e
 
--- the same by the place of the shortest, the new one being the last
-pub full-keeps : (xs : List Range) (r : Range) (i : ℕ) → 0 < length xs → i ≡ earliest (map size xs ++ size r ∷ []) → i ≡ length xs → innerFull xs r ≡ xs
-full-keeps xs r i h e k =
-    sym (dropShortest-snoc xs r h)
-    ∙ unfold dropShortest in ap (λ l. without (earliest l) (xs ++ r ∷ [])) (sizes-snoc xs r)
-    ∙ ap (λ j. without j (xs ++ r ∷ [])) (sym e ∙ k)
-    ∙ without-last xs r
-
+-- the same by the place of the shortest, where it is not the new one
 pub full-drops : (xs : List Range) (r : Range) (i : ℕ) → i ≡ earliest (map size xs ++ size r ∷ []) → i < length xs → innerFull xs r ≡ without i xs ++ r ∷ []
 full-drops xs r i e k =
     sym (dropShortest-snoc xs r (omega arith))

@@ -10,6 +10,7 @@ pub mod Counts
 pub mod StoredLaws
 pub mod ShiftLaws
 pub mod SearchLaws
+pub mod HintLaws
 pub mod OuterStored
 pub mod InnerStored
 pub mod Pushes

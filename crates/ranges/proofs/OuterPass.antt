@@ -21,7 +21,7 @@ unfolding gaps
 length-gaps a [] = refl
 length-gaps a (b ∷ xs) = ap suc (length-gaps b xs)
 
-gaps-snoc : (a : Range) (xs : List Range) (r : Range) → gaps (a ∷ xs ++ r ∷ []) ≡ gaps (a ∷ xs) ++ (r .low - lastHigh (a ∷ xs)) ∷ []
+pub gaps-snoc : (a : Range) (xs : List Range) (r : Range) → gaps (a ∷ xs ++ r ∷ []) ≡ gaps (a ∷ xs) ++ (r .low - lastHigh (a ∷ xs)) ∷ []
 unfolding gaps lastHigh
 gaps-snoc a [] r = refl
 gaps-snoc a (b ∷ xs) r = ap (λ l. gap a b ∷ l) (gaps-snoc b xs r)
@@ -40,7 +40,7 @@ length-extend [] r = refl
 length-extend (a ∷ []) r = refl
 length-extend (a ∷ b ∷ xs) r = ap suc (length-extend (b ∷ xs) r)
 
-gaps-extend : (xs : List Range) (r : Range) → gaps (extend xs r) ≡ gaps xs
+pub gaps-extend : (xs : List Range) (r : Range) → gaps (extend xs r) ≡ gaps xs
 unfolding gaps extend
 gaps-extend [] r = refl
 gaps-extend (a ∷ []) r = refl
@@ -75,7 +75,7 @@ joinAt-extend (suc i) a (b ∷ []) r h = absurd (omega arith)
 joinAt-extend (suc zero) a (b ∷ c ∷ xs) r h = ap (λ l. a ∷ l) (joinAt-extend zero b (c ∷ xs) r (omega arith))
 joinAt-extend (suc (suc i)) a (b ∷ c ∷ xs) r h = ap (λ l. a ∷ l) (joinAt-extend (suc i) b (c ∷ xs) r (omega arith))
 
-gaps-joinAt : (i : ℕ) (a : Range) (xs : List Range) → i < length xs → gaps (joinAt i (a ∷ xs)) ≡ without i (gaps (a ∷ xs))
+pub gaps-joinAt : (i : ℕ) (a : Range) (xs : List Range) → i < length xs → gaps (joinAt i (a ∷ xs)) ≡ without i (gaps (a ∷ xs))
 unfolding joinAt gaps without
 gaps-joinAt i a [] h = absurd (omega arith)
 gaps-joinAt zero a (b ∷ []) h = refl
@@ -84,7 +84,7 @@ gaps-joinAt (suc i) a (b ∷ []) h = absurd (omega arith)
 gaps-joinAt (suc zero) a (b ∷ c ∷ xs) h = ap (λ l. gap a b ∷ l) (gaps-joinAt zero b (c ∷ xs) (omega arith))
 gaps-joinAt (suc (suc i)) a (b ∷ c ∷ xs) h = ap (λ l. gap a b ∷ l) (gaps-joinAt (suc i) b (c ∷ xs) (omega arith))
 
-lastHigh-joinAt : (i : ℕ) (xs : List Range) → lastHigh (joinAt i xs) ≡ lastHigh xs
+pub lastHigh-joinAt : (i : ℕ) (xs : List Range) → lastHigh (joinAt i xs) ≡ lastHigh xs
 unfolding joinAt lastHigh
 lastHigh-joinAt i [] = refl
 lastHigh-joinAt i (a ∷ []) = refl
@@ -157,18 +157,7 @@ joinSmallest-snoc (a ∷ xs) r h =
     off : Nearest (a ∷ xs) r ≡ false → joinAt (earliest (gaps (a ∷ xs))) (a ∷ xs ++ r ∷ []) ≡ joinSmallest (a ∷ xs) ++ r ∷ []
     off t = unfold joinSmallest in joinAt-snoc (earliest (gaps (a ∷ xs))) a xs r (inside a xs (nearest-alone a xs r t))
 
--- the same by the place of the smallest gap, the new one being the last
-pub full-last : (xs : List Range) (r : Range) (i : ℕ) → i ≡ earliest (gaps xs ++ (r .low - lastHigh xs) ∷ []) → i + 1 ≡ length xs → outerFull xs r ≡ extend xs r
-full-last [] r i e h = absurd (omega arith)
-full-last (a ∷ xs) r i e h =
-    sym (joinSmallest-snoc (a ∷ xs) r (omega arith))
-    ∙ unfold joinSmallest in ap (λ l. joinAt (earliest l) (a ∷ xs ++ r ∷ [])) (gaps-snoc a xs r)
-    ∙ ap (λ k. joinAt k (a ∷ xs ++ r ∷ [])) (sym e ∙ last)
-    ∙ joinAt-last a xs r
-  where
-    last : i ≡ length xs
-    last = omega arith
-
+-- the same by the place of the smallest gap, where it is not the new one
 pub full-join : (xs : List Range) (r : Range) (i : ℕ) → i ≡ earliest (gaps xs ++ (r .low - lastHigh xs) ∷ []) → i + 1 < length xs → outerFull xs r ≡ joinAt i xs ++ r ∷ []
 full-join [] r i e h = absurd (omega arith)
 full-join (a ∷ xs) r i e h =

@@ -1,56 +1,67 @@
 -- The outer list in lent memory, one range more: what each branch of the code writes is what `outerFull` and `outerPush` say. Assumes nothing.
 use Prim.Native.Nat.{ℕ, zero, suc, _+_, _*_, _-_, _≤_, _<_}
-use mathlib.Core.Path.{_≡_, refl, sym, ap, ap₂, _∙_}
+use mathlib.Core.Path.{_≡_, refl, sym, ap, subst, _∙_}
 use mathlib.Core.Bool.{Bool, true, false}
-use mathlib.Core.List.{List, [], _∷_, _++_, map}
+use mathlib.Core.List.{List, [], _∷_, _++_}
 use native.Mathlib.Omega.{arith}
 use lib.Dec.{eqb}
-use lib.ListN.{length, getD, drop, set}
+use lib.ListN.{length, getD, set}
 use borrow.Author.Tests.{le-ltb, lt-ltb}
+use Rattle.ranges.specs.declared.Hint.{Hint}
 use Rattle.ranges.specs.Ranges.{Range}
-use Rattle.ranges.specs.Lists.{size, earliest, gaps, joinAt}
+use Rattle.ranges.specs.Lists.{gaps, joinAt}
 use Rattle.ranges.specs.OnePass.{lastHigh, extend, outerFull, outerNew, outerPush}
-use Rattle.ranges.specs.Stored.{range, rangesIn, written, Writes, shifted}
+use Rattle.ranges.specs.Stored.{range, rangesIn, written, Writes, Hinted, PointsAt, shifted}
 use Rattle.ranges.proofs.Loop.{length-snoc}
-use Rattle.ranges.proofs.OuterPass.{length-extend, length-joinAt, length-full, full-last, full-join, push-some}
+use Rattle.ranges.proofs.OuterPass.{length-extend, length-joinAt, length-full, push-some}
 use Rattle.ranges.proofs.StoredLaws.{length-in, last-in, written-in, write-append, write-extend}
 use Rattle.ranges.proofs.ShiftLaws.{shifted-joins}
-use Rattle.ranges.proofs.SearchLaws.{gaps-in}
+use Rattle.ranges.proofs.HintLaws.{outer-below, outer-points, hinted-extend, hinted-join}
 
 -- the ranges xs are ys, and those are written
 pub writes : {xs ys : List Range} {l m : List ℕ} {n : ℕ} → xs ≡ ys → n ≡ length ys → m ≡ written ys l → Writes xs l m n
 writes {l = l} e c w = record { count = c ∙ ap length (sym e); list = w ∙ ap (λ z. written z l) (sym e) }
 
--- ---- the list is full; i is the place of the smallest gap
+-- ---- the list is full
 
-module _ (n : ℕ) (l : List ℕ) (low high g i end : ℕ) (fits : 2 * n ≤ length l) (last : end + 1 ≡ 2 * n)
-    (far : g ≡ low - getD l end 0) (least : i ≡ earliest (map size (rangesIn (n - 1) (drop 1 l)) ++ g ∷ [])) where
-  found : i ≡ earliest (gaps (rangesIn n l) ++ (low - lastHigh (rangesIn n l)) ∷ [])
-  found = least ∙ ap₂ (λ s m. earliest (s ++ m ∷ [])) (sym (at n fits last)) (far ∙ ap (λ m. low - m) (sym (last-in n l end last fits)))
-    where
-      at : (n : ℕ) → 2 * n ≤ length l → end + 1 ≡ 2 * n → gaps (rangesIn n l) ≡ map size (rangesIn (n - 1) (drop 1 l))
-      at zero f e = absurd (omega arith)
-      at (suc n) f e = let q : n ≡ suc n - 1 = omega arith in gaps-in n l (omega arith) ∙ ap (λ k. map size (rangesIn k (drop 1 l))) q
+-- range number i and the next join, and one more comes behind
+pub joins : (n i end : ℕ) (l : List ℕ) (low high : ℕ) → i + 1 < n → 2 * n ≤ length l → end + 1 ≡ 2 * n → (m : List ℕ) → m ≡ shifted (2 * i + 1) l (end - 1 - (2 * i + 1))
+    → set (set m (end - 1) low) end high ≡ written (joinAt i (rangesIn n l) ++ range low high ∷ []) l
+joins n i end l low high h fits last m e =
+    let j : length (joinAt i (rangesIn n l)) + 1 ≡ n = fewer (rangesIn n l) (length-in n l) in
+    ap (λ x. set (set x (end - 1) low) end high) (e ∙ shifted-joins n i (2 * i + 1) (end - 1 - (2 * i + 1)) l h fits refl (omega arith))
+    ∙ write-append (joinAt i (rangesIn n l)) l low high (end - 1) end (omega arith) (omega arith) (omega arith)
+  where
+    fewer : (xs : List Range) → length xs ≡ n → length (joinAt i xs) + 1 ≡ n
+    fewer [] e = absurd (omega arith)
+    fewer (a ∷ xs) e = omega (arith, length-joinAt i a xs (omega arith))
 
-  many : length (rangesIn n l) ≡ n
-  many = length-in n l
+module _ (n : ℕ) (l : List ℕ) (low high g end : ℕ) (fits : 2 * n ≤ length l) (last : end + 1 ≡ 2 * n) (far : g ≡ low - getD l end 0) (h : Hint) where
+  abbrev xs : List Range
+  xs = rangesIn n l
 
-  pub full-extends : i + 1 ≡ n → set l end high ≡ written (outerFull (rangesIn n l) (range low high)) l
-  full-extends h =
-      ap (λ m. set m end high) (sym (written-in n l fits))
-      ∙ write-extend (rangesIn n l) l (range low high) end (omega (arith, many))
-      ∙ ap (λ xs. written xs l) (sym (full-last (rangesIn n l) (range low high) i found (omega (arith, many))))
+  abbrev Full : List ℕ → Type 0
+  Full m = (m ≡ written (outerFull xs (range low high)) l) × Hinted h (gaps (outerFull xs (range low high)))
 
-  pub full-joins : (m : List ℕ) → m ≡ shifted (2 * i + 1) l (end - 1 - (2 * i + 1)) → i + 1 < n → set (set m (end - 1) low) end high ≡ written (outerFull (rangesIn n l) (range low high)) l
-  full-joins m e h =
-      let j : length (joinAt i (rangesIn n l)) + 1 ≡ n = fewer (rangesIn n l) many in
-      ap (λ x. set (set x (end - 1) low) end high) (e ∙ shifted-joins n i (2 * i + 1) (end - 1 - (2 * i + 1)) l h fits refl (omega arith))
-      ∙ write-append (joinAt i (rangesIn n l)) l low high (end - 1) end (omega arith) (omega arith) (omega arith)
-      ∙ ap (λ xs. written xs l) (sym (full-join (rangesIn n l) (range low high) i found (omega (arith, many))))
-    where
-      fewer : (xs : List Range) → length xs ≡ n → length (joinAt i xs) + 1 ≡ n
-      fewer [] e = absurd (omega arith)
-      fewer (a ∷ xs) e = omega (arith, length-joinAt i a xs (omega arith))
+  gap-is : g ≡ low - lastHigh xs
+  gap-is = far ∙ ap (λ m. low - m) (sym (last-in n l end last fits))
+
+  -- the new gap is below all
+  pub full-extends : Hinted h (gaps xs) → ((i : ℕ) → i < length (gaps xs) → g < getD (gaps xs) i 0) → Full (set l end high)
+  full-extends p f =
+      let e : outerFull xs (range low high) ≡ extend xs (range low high) = outer-below xs (range low high) (λ i k. subst (λ u. u < getD (gaps xs) i 0) gap-is (f i k)) in (
+        ap (λ m. set m end high) (sym (written-in n l fits))
+            ∙ write-extend xs l (range low high) end (omega (arith, length-in n l))
+            ∙ ap (λ ys. written ys l) (sym e),
+        subst (λ ys. Hinted h (gaps ys)) (sym e) (hinted-extend h xs (range low high) p),
+      )
+
+  -- another one is the smallest
+  pub full-joins : PointsAt h (gaps xs) → h .floor ≤ g → (m : List ℕ) → m ≡ written (joinAt (h .from) xs ++ range low high ∷ []) l → Full m
+  full-joins p k m w =
+      let d : h .floor ≤ low - lastHigh xs = omega (arith, gap-is) in
+      let e : outerFull xs (range low high) ≡ joinAt (h .from) xs ++ range low high ∷ [] = outer-points h xs (range low high) p d in
+      (w ∙ ap (λ ys. written ys l) (sym e), subst (λ ys. Hinted h (gaps ys)) (sym e) (hinted-join h xs (range low high) p d))
 
 -- ---- one range more
 
@@ -86,7 +97,16 @@ module _ (B n : ℕ) (l : List ℕ) (low high end : ℕ) (some : 0 < n) (fits : 
       (sym (length-extend (rangesIn n l) (range low high) ∙ stored))
       (ap (λ m. set m end high) (sym (written-in n l fits)) ∙ write-extend (rangesIn n l) l (range low high) end (omega (arith, stored)))
 
+  pub push-keeps : (h : Hint) → eqb (getD l end 0 + 1) low ≡ true → Hinted h (gaps (rangesIn n l)) → Hinted h (gaps (outerPush B (rangesIn n l) (range low high)))
+  push-keeps h t p =
+      subst (λ ys. Hinted h (gaps ys)) (sym (push-touching B (rangesIn n l) (range low high) (omega (arith, stored)) (at-end t))) (hinted-extend h (rangesIn n l) (range low high) p)
+
   module _ (t : eqb (getD l end 0 + 1) low ≡ false) where
+    pub push-hint : (h : Hint) → B ≤ n → Hinted h (gaps (outerFull (rangesIn n l) (range low high))) → Hinted h (gaps (outerPush B (rangesIn n l) (range low high)))
+    push-hint h k p =
+        subst (λ ys. Hinted h (gaps ys))
+        (sym (push-apart B (rangesIn n l) (range low high) (omega (arith, stored)) (at-end t) ∙ new-full B (rangesIn n l) (range low high) (omega (arith, stored)))) p
+
     pub push-appends : n < B → 2 * B ≤ length l → Writes (outerPush B (rangesIn n l) (range low high)) l (set (set l (end + 1) low) (end + 2) high) (n + 1)
     push-appends h k =
         writes (push-apart B (rangesIn n l) (range low high) (omega (arith, stored)) (at-end t) ∙ new-room B (rangesIn n l) (range low high) (omega (arith, stored)))

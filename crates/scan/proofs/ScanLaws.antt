@@ -305,3 +305,17 @@ module _ (t : Trixel) (xs : List ℤ) (es : List ℕ) (n : ℕ) where
 
     pub left-out : AtHalfspace g k end i c a → isOutside a ≡ true → AtConvex g end (k + 1) (join c a)
     left-out s o = closed s (outside-stays a (convexClass (s .convex) t) o)
+
+-- ---- a region of one halfspace
+
+module _ (t : Trixel) (xs : List ℤ) (es : List ℕ) (n : ℕ) (g : Region) (p : Prepared g xs es n) (one : n ≡ 1) where
+  only-convex : (0 < getD es 0 0) × AtHalfspace t xs es n g 0 (getD es 0 0) 0 Outside Full
+  only-convex = opened t xs es n g 0 0 Outside (start t xs es n g p) (omega (arith, one)) .1 _ refl
+
+  pub only-half : Stands t xs es n g 0 (getD es 0 0) 0 Outside Full
+  only-half = stands t xs es n g 0 (getD es 0 0) 0 Outside Full (only-convex .1) (only-convex .0)
+
+  pub only-class : {c : Class} → c ≡ judged (halfIn xs 0) t → c ≡ regionClass g t
+  only-class {c} e = ended t xs es n g _ _ _
+      (exhausted t xs es n g 0 (getD es 0 0) 1 Outside c (only-half .taken c e) (omega (arith, one, only-convex .1 .count)))
+      (omega (arith, one, only-convex .0))

@@ -2,16 +2,20 @@
 use classify::Ball;
 use classify::Class;
 use classify::Half;
+use classify::Shape;
 use classify::judging;
 use classify::measures;
+use classify::middle;
+use classify::reaching;
+use classify::reaching::Passed;
 use mesh::Trixel;
 use vector::Vec3;
 ghost use mathlib.Core.Path.{_≡_};
-ghost use mathlib.Core.Bool.{false};
 ghost use Prim.Native.Nat.{_+_, _*_, _≤_};
 ghost use lib.ListN.{length};
 ghost use Rattle.mesh.specs.Corners.{SmallTrixel};
 ghost use Rattle.classify.specs.Classes.{isOutside, isFull};
+ghost use Rattle.classify.specs.Measures.{Shaped, Balled};
 ghost use Rattle.scan.specs.Halves as halves;
 ghost use Rattle.scan.specs.Halves.{halfIn, Ready, Classed};
 
@@ -83,28 +87,13 @@ fn is_full(c: Class) -> bool
     }
 }
 
-// No middle is known.
-fn unknown() -> Ball
-    ensures { λ m. ⌜ m .known ≡ false ⌝ }
-{
-    Ball {
-        known: false,
-        ahead: false,
-        b: Vec3 { x: 0, y: 0, z: 0 },
-        reach: 0,
-        rest: 0,
-    }
-}
-
-// The class of a trixel for the region whose n halfspaces were prepared to `xs`, with the ends of its convexes in `ends`. The scan of a convex ends at its first halfspace that leaves
-// the trixel outside, that of the region at its first full convex.
-pub fn class_of(t: Trixel, xs: &[i64], ends: &[u64], n: usize) -> Class
-    requires { ⌜ SmallTrixel t ⌝ }
+// The class of a trixel for the region whose n halfspaces were prepared to `xs`, with the ends of its convexes in `ends`. The scan of a convex ends at its
+// first halfspace that leaves the trixel outside, that of the region at its first full convex.
+fn scanned(t: Trixel, s: Shape, m: Ball, xs: &[i64], ends: &[u64], n: usize) -> Class
+    requires { ⌜ Shaped t s × Balled t m ⌝ }
     requires { ⌜ Ready (now xs) (now ends) n ⌝ }
     ensures { λ r. ⌜ Classed t (now (xs .entry)) (now (ends .entry)) n r ⌝ }
 {
-    let s = measures::measured(t);
-    let mut m = unknown();
     let mut settled = Class::Outside;
     let mut i: usize = 0;
     let mut k: usize = 0;
@@ -112,9 +101,7 @@ pub fn class_of(t: Trixel, xs: &[i64], ends: &[u64], n: usize) -> Class
         let end = ends[k] as usize;
         let mut class = Class::Full;
         'halfspaces: while i < end {
-            let j = judging::judge(t, s, m, half_at(xs, 7 * i));
-            m = j.ball;
-            let c = j.class;
+            let c = judging::judge(t, s, m, half_at(xs, 7 * i));
             class = meet(class, c);
             if is_outside(class) {
                 break 'halfspaces;
@@ -129,4 +116,36 @@ pub fn class_of(t: Trixel, xs: &[i64], ends: &[u64], n: usize) -> Class
         k += 1;
     }
     settled
+}
+
+// The same for a region of one halfspace: the rays come first, for where one of them passes and where all do b and E are not needed.
+fn alone(t: Trixel, s: Shape, xs: &[i64], ends: &[u64], n: usize) -> Class
+    requires { ⌜ SmallTrixel t × Shaped t s ⌝ }
+    requires { ⌜ Ready (now xs) (now ends) n × (n ≡ 1) ⌝ }
+    ensures { λ r. ⌜ Classed t (now (xs .entry)) (now (ends .entry)) n r ⌝ }
+{
+    if !s.solid {
+        return Class::Partial;
+    }
+    let q = half_at(xs, 0);
+    let f = q.f;
+    let passed = reaching::count_passed(f, q.high, s);
+    match passed {
+        Passed::All => judging::class_within(q.d),
+        Passed::Some => Class::Partial,
+        Passed::None => scanned(t, s, middle::ball_of(t, s), xs, ends, n),
+    }
+}
+
+// The class of a trixel for a region. What belongs to the trixel, its rays and its middle, is found here, at most once.
+pub fn class_of(t: Trixel, xs: &[i64], ends: &[u64], n: usize) -> Class
+    requires { ⌜ SmallTrixel t ⌝ }
+    requires { ⌜ Ready (now xs) (now ends) n ⌝ }
+    ensures { λ r. ⌜ Classed t (now (xs .entry)) (now (ends .entry)) n r ⌝ }
+{
+    let s = measures::measured(t);
+    if n == 1 {
+        return alone(t, s, xs, ends, n);
+    }
+    scanned(t, s, middle::ball_of(t, s), xs, ends, n)
 }

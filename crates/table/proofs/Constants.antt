@@ -1,17 +1,19 @@
 -- The 2304 constants of the table once more, as one list, for the one test that is computed over all of them: they are the table by the cutting rule.
 -- The lines are printed by tools/table.py. Assumes nothing.
-use Prim.Native.Nat.{ℕ, zero, suc, _+_, _<_}
+use Prim.Native.Nat.{ℕ, zero, suc, _+_, _*_, _/_, _%_, _<_}
 use native.Mathlib.Nat.{add-zero}
 use native.Mathlib.Omega.{arith}
 use mathlib.Core.Path.{_≡_, refl, sym, ap, _∙_}
-use mathlib.Core.List.{List, [], _∷_}
+use mathlib.Core.List.{List, [], _∷_, _++_}
 use lib.ListN.{take, drop}
 use lib.IntN.{ℤ, pos, negsuc}
+use Rattle.vector.specs.declared.Vec3.{Vec3}
 use Rattle.vector.specs.Numbers.{root, rootIn}
 use Rattle.vector.specs.Vectors.{unit, scale}
 use Rattle.mesh.specs.Trixels.{rootTrixel, cut, child}
 use Rattle.mesh.specs.Identifiers.{trixel}
-use Rattle.mesh.specs.Table.{numbers, tableFrom, table}
+use Rattle.mesh.specs.Table.{three, tableFrom, table, partOf, vectorAt}
+use Rattle.table.specs.Rows.{nine}
 
 abbrev pub constants : List ℤ
 constants =
@@ -152,19 +154,32 @@ tested = refl
 
 -- ---- each row
 
--- row number n, of eighteen numbers each
+-- row number n, of nine numbers each
 abbrev pub rowAt : ℕ → List ℤ → List ℤ
-rowAt zero l = take 18 l
-rowAt (suc n) l = rowAt n (drop 18 l)
+rowAt zero l = take 9 l
+rowAt (suc n) l = rowAt n (drop 9 l)
 
-row-from : (n m i : ℕ) → n < m → rowAt n (tableFrom m i) ≡ numbers (trixel 2 (i + n))
+-- vector number k of the trixels from the identifier i on
+abbrev vectorFrom : ℕ → ℕ → Vec3
+vectorFrom i k = partOf (k % 6) (trixel 2 (i + k / 6))
+
+six-on : (i k m : ℕ) → m ≡ k + 6 → vectorFrom (suc i) k ≡ vectorFrom i m
+six-on i k m e =
+    let part : k % 6 ≡ m % 6 = omega arith in
+    let next : suc i + k / 6 ≡ i + m / 6 = omega arith in
+    λ j. partOf (part j) (trixel 2 (next j))
+
+row-from : (n m i : ℕ) → n < 2 * m → rowAt n (tableFrom m i) ≡ three (vectorFrom i (3 * n)) ++ three (vectorFrom i (3 * n + 1)) ++ three (vectorFrom i (3 * n + 2))
 unfolding tableFrom
 row-from n zero i h = absurd (omega arith)
-row-from zero (suc m) i h = ap (λ k. numbers (trixel 2 k)) (sym (add-zero i))
-row-from (suc n) (suc m) i h =
-    let e : suc i + n ≡ i + suc n = omega arith in
-    row-from n m (suc i) (omega arith) ∙ ap (λ k. numbers (trixel 2 k)) e
+row-from zero (suc m) i h = ap (λ k. let t = trixel 2 k in three (t .v0) ++ three (t .v1) ++ three (t .v2)) (sym (add-zero i))
+row-from (suc zero) (suc m) i h = ap (λ k. let t = trixel 2 k in three (t .p0) ++ three (t .p1) ++ three (t .p2)) (sym (add-zero i))
+row-from (suc (suc n)) (suc m) i h =
+    let a = six-on i (3 * n) (3 * suc (suc n)) (omega arith) in
+    let b = six-on i (3 * n + 1) (3 * suc (suc n) + 1) (omega arith) in
+    let c = six-on i (3 * n + 2) (3 * suc (suc n) + 2) (omega arith) in
+    row-from n m (suc i) (omega arith) ∙ (λ j. three (a j) ++ three (b j) ++ three (c j))
 
-pub row-is : (n : ℕ) → n < 128 → rowAt n constants ≡ numbers (trixel 2 (128 + n))
-unfolding table
+pub row-is : (n : ℕ) → n < 256 → rowAt n constants ≡ nine n
+unfolding table vectorAt
 row-is n h = ap (rowAt n) tested ∙ row-from n 128 128 h

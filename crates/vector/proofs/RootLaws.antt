@@ -1,16 +1,16 @@
 -- The square root is the greatest whole number whose square is at most s, and the only number r with r² ≤ s < (r + 1)².
 -- Of a fourth of s the root q has q² ≤ s / 4 < (q + 1)², so (2 q)² ≤ s < (2 q + 2)²: the root of s is 2 q or 2 q + 1. Assumes nothing.
-use Prim.Native.Nat.{ℕ, zero, suc, _+_, _*_, _/_, _<_, _≤_}
-use mathlib.Core.Path.{_≡_, refl, ap}
+use Prim.Native.Nat.{ℕ, zero, suc, _+_, _-_, _*_, _/_, _^_, _<_, _≤_}
+use mathlib.Core.Path.{_≡_, refl, sym, ap, _∙_}
 use mathlib.Core.Bool.{Bool, true, false, cond, _&&_}
 use native.Mathlib.Nat.{mul-le-mul}
 use native.Mathlib.Omega.{arith}
-use borrow.Author.Tests.{leb-true, leb-false, ltb-true, eqb-true}
+use borrow.Author.Tests.{leb-true, leb-false, ltb-true, ltb-false, eqb-true, lt-ltb, le-ltb}
 use lib.Dec.{leb, ltb, eqb}
 use lib.IntN.{pos, natAbs}
 use Rattle.algebra.proofs.Ring.{con, _:+_, _:*_}
 use Rattle.algebra.proofs.Claim.{_:≡_, ring}
-use Rattle.algebra.proofs.Tests.{and-left, and-right}
+use Rattle.algebra.proofs.Tests.{and-left, and-right, split}
 use Rattle.algebra.proofs.Inequalities.{`1}
 use Rattle.vector.specs.Numbers.{root, rootIn, orNext, IsRoot}
 
@@ -46,6 +46,13 @@ pub root-is : (s : ℕ) → IsRoot s (root s)
 unfolding root
 root-is s = is-root-in s s (omega arith)
 
+-- of a number below 2⁴⁶ it is below 2²³
+pub root-below : {s r : ℕ} → r ≡ root s → s < 2 ^ 46 → r < 2 ^ 23
+root-below {s} {r} e h = split (ltb r (2 ^ 23)) (λ t. ltb-true r (2 ^ 23) t)
+    (λ t.
+    let l : 2 ^ 23 ≤ root s = omega (arith, ltb-false r (2 ^ 23) t) in
+    absurd (omega (arith, mul-le-mul l l, (root-is s) .low)))
+
 -- a number whose square is at most s is at most the root: the root is the greatest
 pub root-greatest : (s n : ℕ) → n * n ≤ s → n ≤ root s
 root-greatest s n h = by (leb n (root s)) refl
@@ -60,6 +67,17 @@ root-unique {s} {r} h = by (leb (root s) r) refl
     by : (b : Bool) → leb (root s) r ≡ b → r ≡ root s
     by true e = omega (arith, leb-true (root s) r e, root-greatest s r (h .low))
     by false e = let l : r + 1 ≤ root s = omega (arith, leb-false (root s) r e) in omega (arith, mul-le-mul l l, (root-is s) .low, h .high)
+
+-- the second test by what is left of s
+next-square : (k : ℕ) → (k + 1) * (k + 1) ≡ k * k + 2 * k + 1
+next-square k = ap natAbs (ring 1 (λ k. (k :+ `1) :* (k :+ `1) :≡ k :* k :+ con (pos 2) :* k :+ `1) refl (pos k))
+
+pub rest-tested : (s r : ℕ) → r * r ≤ s → leb (s - r * r) (2 * r) ≡ ltb s ((r + 1) * (r + 1))
+rest-tested s r h =
+    let e = next-square r in
+    split (leb (s - r * r) (2 * r))
+    (λ t. t ∙ sym (lt-ltb s ((r + 1) * (r + 1)) (omega (arith, leb-true (s - r * r) (2 * r) t))))
+    (λ t. t ∙ sym (le-ltb s ((r + 1) * (r + 1)) (omega (arith, leb-false (s - r * r) (2 * r) t))))
 
 -- what passes the two tests is the root
 pub root-tested : (s r : ℕ) → leb (r * r) s && ltb s ((r + 1) * (r + 1)) ≡ true → r ≡ root s

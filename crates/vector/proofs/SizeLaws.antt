@@ -1,6 +1,6 @@
 -- How large numbers get: Unit and Scale give components within ±K, whatever they are given. n is at least every component, since its square
 -- is the greatest square up to the sum of their squares; and so is m. Assumes nothing.
-use Prim.Native.Nat.{ℕ, suc, _+_, _*_, _/_, _≤_}
+use Prim.Native.Nat.{ℕ, suc, _+_, _*_, _/_, _^_, _≤_}
 use native.Mathlib.Nat.{div-le-of-le-mul, mul-le-mul-right}
 use native.Mathlib.Omega.{arith}
 use mathlib.Core.Path.{_≡_, refl, sym, ap, _∙_, subst}
@@ -9,9 +9,11 @@ use borrow.Author.Tests.{leb-true}
 use lib.Dec.{T, leb, leb→le, eqb}
 use lib.IntN.{ℤ, pos, negsuc, negℤ, natAbs, _+ℤ_, _*ℤ_}
 use lib.Signed.{nonNeg}
+use mir.Syntax.{w64}
+use mir.Val.{toZ, ofZ}
 use Rattle.algebra.specs.Sizes.{Upto}
 use Rattle.algebra.proofs.Tests.{and-left, and-right}
-use Rattle.algebra.proofs.Sized.{natAbs-neg, upto-mono, upto-neg, upto-add, upto-sub, upto-mul}
+use Rattle.algebra.proofs.Sized.{natAbs-neg, held, upto-mono, upto-neg, upto-add, upto-sub, upto-mul}
 use Rattle.vector.specs.declared.Vec3.{Vec3}
 use Rattle.vector.specs.Numbers.{Kℕ, K, quot, between, root}
 use Rattle.vector.specs.Vectors.{vec, plus, minus, dot, cross, dividedBy, unit, largest, scale, AtMost, Small}
@@ -35,6 +37,10 @@ at-most-cross p q = record {
 
 pub dot-upto : {m n : ℕ} {a b : Vec3} → AtMost m a → AtMost n b → Upto (m * n + m * n + m * n) (dot a b)
 dot-upto p q = upto-add (upto-add (upto-mul (p .x) (q .x)) (upto-mul (p .y) (q .y))) (upto-mul (p .z) (q .z))
+
+-- a number that is handed on by its bits is the same
+pub same-held : {n : ℕ} {z : ℤ} → n ≤ 2 ^ 41 → Upto n z → toZ w64 (ofZ w64 z) ≡ z
+same-held l h = held (upto-mono l h) tt .eq
 
 -- by three tests: for numbers that are written, `small-test v tt tt tt`
 pub small-test : (v : Vec3) → T (leb (natAbs (v .x)) Kℕ) → T (leb (natAbs (v .y)) Kℕ) → T (leb (natAbs (v .z)) Kℕ) → Small v

@@ -9,7 +9,7 @@ cover-prepared-spec =
     tie.close
     (tie.spec
     (λ c κs. c .before .before .before .pre)
-    (λ c κs. let r = c .before .before .before .before .visit-roots .ensures .1 in (r .budget, r .inner, r .list))
+    (λ c κs. let r = c .before .before .before .before .visit-roots .ensures .1 in ((r .budget, r .inner, r .list), r .innerHinted))
     (λ c. c .before .before .end-inner .kept .0 ∙ c .before .before .before .before .before .before .before .visit-roots .kept .1 .1 .1 .1 .1 .0)
     (λ c g p.
     let s = c .before .before .before .before .before .before .before .before .before .before .before in

@@ -1,12 +1,12 @@
 -- `cutting::end_inner` lends the list from element 2 × budget on to the inner list's writer, and so leaves what is before it. Assumes nothing.
 use Prim.Native.Nat.{_*_, _≤_}
 use native.Mathlib.Omega.{arith}
-use mathlib.Core.Path.{ap, subst}
+use mathlib.Core.Path.{sym, ap, subst}
 use borrow.Author.Needs.{needs}
 use lib.ListN.{length, length-drop}
 use denote.Ref.{now}
 use Rattle.ranges.specs.OnePass.{innerEnd}
-use Rattle.ranges.specs.Stored.{Writes, stateOf}
+use Rattle.ranges.specs.Stored.{sizesIn, Writes, Hinted, stateOf}
 use Rattle.cutting.proofs.LentTail.{tail-lent, tail-back}
 use Rattle.cutting.proofs.end_inner.Statement.{statement}
 use Rattle.cutting.proofs.end_inner.Tie as tie
@@ -15,7 +15,9 @@ wants : tie.Need-inner-end-requires
 wants c κs =
     let s = c .before .before in
     let b = s .args .budget in
-    (s .pre .0, s .pre .1, omega (arith, ap length (tail-lent (2 * b) (now (s .args .out)) (omega arith)), length-drop (2 * b) (now (s .args .out))))
+    let out = now (s .args .out) in
+    let e = tail-lent (2 * b) out (omega arith) in
+    ((s .pre .0 .0, s .pre .0 .1, omega (arith, ap length e, length-drop (2 * b) out)), subst (λ l. Hinted (s .args .p .hint) (sizesIn 0 (s .args .p .n) l)) (sym e) (s .pre .1))
 
 returns : tie.Need-returns
 returns c =

@@ -1,10 +1,11 @@
 -- `cutting::visit_roots` visits the roots one after the other. Assumes nothing.
 use Prim.Native.Nat.{_-_, _*_, _^_, _≤_}
 use native.Mathlib.Omega.{arith}
-use mathlib.Core.Path.{_≡_, refl, sym, subst, _∙_}
+use mathlib.Core.Path.{_≡_, refl, sym, ap, subst, _∙_}
 use lib.ListN.{length}
 use Rattle.region.specs.Regions.{Region}
 use Rattle.scan.specs.Halves.{Prepared}
+use Rattle.ranges.proofs.HintLaws.{hinted-any}
 use Rattle.cutting.specs.Walk.{nothing, Walked, Room}
 use Rattle.cutting.proofs.WalkLaws.{foundTo, walk-start, roots-done}
 use Rattle.cutting.proofs.VisitLaws.{root-level, root-seen, root-more}
@@ -21,16 +22,24 @@ abbrev μ-loop : tie.MeasureT-loop
 started : tie.Need-loop-holds Inv-loop μ-loop
 unfolding foundTo
 started c =
-    let s = c .before .before .before .before in
+    let s = c .before .before .before .before .before in
     let b = s .args .budget in
     let out = s .args .out .now in
     let long = s .pre .1 .1 .1 in
+    let h = c .before .no-hint in
     let n = c .nothing-yet .ensures in (
       omega arith,
-      record { budget = s .pre .1 .1 .0; outer = omega arith; inner = subst (λ p. p .n ≤ b) (sym n) (omega arith); list = long },
+      record {
+        budget = s .pre .1 .1 .0;
+        outer = omega arith;
+        inner = subst (λ p. p .n ≤ b) (sym n) (omega arith);
+        list = long;
+        hinted = hinted-any (h .ensures) _;
+        innerHinted = hinted-any (ap (λ p. p .hint) n) _;
+      },
       omega arith,
       refl,
-      λ g p. subst (λ q. Walked b out nothing (record { outer = 0; inner = q; seen = 0 }) out) (sym n) (walk-start b out long),
+      λ g p. subst (λ q. Walked b out nothing (record { outer = 0; hint = h .result; inner = q; seen = 0 }) out) (sym n) (walk-start b out long (h .result)),
     )
 
 pub visit-roots-spec : {M : Type 1} → statement M
@@ -42,20 +51,21 @@ visit-roots-spec =
     (λ c. omega arith)
     (λ c κs. omega arith)
     (λ c κs. tt)
+    (λ c κs. tt)
     started
     (λ c κs. omega arith)
     (λ c. omega arith)
     (λ c κs.
     let l = c .before .before .before in
-    let s = c .before .before .before .before .before .before .before .before in
-    (c .before .root .ensures .1, (s .pre .1 .0, (l .loop .inv .1, root-level (l .loop .k) (s .args .depth - 1) _ _ (omega arith) (omega arith) (c .before .before .before .before .before .power .ensures) (l .loop .inv .2)))))
+    let s = c .before .before .before .before .before .before .before .before .before in
+    (c .before .root .ensures .1, (s .pre .1 .0, (l .loop .inv .1, root-level (l .loop .k) (s .args .depth - 1) _ _ (omega arith) (omega arith) (c .before .before .before .before .before .before .power .ensures) (l .loop .inv .2)))))
     (λ c. omega arith)
     (λ c. omega arith)
     (λ c.
     let l = c .before .before .before .before .before .before in
-    let s = c .before .before .before .before .before .before .before .before .before .before .before in
+    let s = c .before .before .before .before .before .before .before .before .before .before .before .before in
     let v = c .before .before .visit in (
-      omega arith,
+      omega (arith, c .before .before .before .before .before .loop-test .taken),
       v .ensures .1 .0,
       root-seen (s .args .depth - 1) _ _ (l .loop .k) (omega arith) (v .ensures .1 .1) (l .loop .inv .2),
       v .kept .1 .1 .1 .1 .1 .1 .1 .1 .0 ∙ l .loop .inv .3,
@@ -64,6 +74,6 @@ visit-roots-spec =
     (λ c. c .before .loop .inv .3)
     (λ c.
     let l = c .before in
-    let s = c .before .before .before .before .before .before in
+    let s = c .before .before .before .before .before .before .before in
     let e : l .loop .k ≡ 8 = omega arith in
     (λ g p. roots-done (s .args .depth) (l .loop .k) g e (l .loop .inv .4 g p), l .loop .inv .1)))

@@ -1,7 +1,8 @@
 -- `descent::from_table` finds the trixel of depth 3 by the descent's own tests, whose normals stand in the table turned round, and its corners there. Assumes nothing.
 use Prim.Native.Nat.{ℕ, _+_, _*_, _<_}
 use native.Mathlib.Omega.{arith}
-use mathlib.Core.Path.{refl, _∙_}
+use mathlib.Core.Path.{refl, sym, ap, subst, _∙_}
+use Rattle.mesh.specs.Corners.{SmallCorners}
 use Rattle.descent.proofs.TableLaws.{root-digit, child-digit, started}
 use Rattle.descent.proofs.from_table.Statement.{statement}
 use Rattle.descent.proofs.from_table.Tie as tie
@@ -11,21 +12,25 @@ small-id k d e h i j = omega arith
 
 returns : tie.Need-returns
 returns c =
-    let b = c .before .before .before in
-    let a = b .before in
-    let g = a .before in
+    let below = c .before .before .before in
+    let second = below .before .before in
+    let first = second .before in
+    let g = first .before in
     let p = g .args .p in
     let k = g .args .root in
-    let d = a .digit-at .result in
-    let e = b .digit-at2 .result in
-    let hd = a .digit-at .ensures .1 in
-    let he = b .digit-at2 .ensures .1 in
-    let v0 = c .before .before .vector-at .ensures in
-    let v1 = c .before .vector-at2 .ensures in
-    let v2 = c .vector-at3 .ensures in
+    let by = below .before .digit-by in
+    let by2 = c .before .before .digit-by2 in
+    let d = by .result in
+    let e = by2 .result in
+    let hd = by .ensures .1 in
+    let he = by2 .ensures .1 in
+    let f = first .three-at .ensures .0 in
+    let v = c .before .three-at4 .ensures in
+    let t = c .triple .ensures in
     record {
-      goes-on = started p k d e _ (a .digit-at .ensures .0 ∙ root-digit p k) (b .digit-at2 .ensures .0 ∙ child-digit p k d hd) hd he refl (v0 .0) (v1 .0) (v2 .0);
-      small = record { v0 = v0 .1; v1 = v1 .1; v2 = v2 .1 };
+      goes-on = started p k d e _ (by .ensures .0 ∙ root-digit p k (second .three-at2 .ensures .0 .2) (f .1) (f .2))
+          (by2 .ensures .0 ∙ child-digit p k d hd (below .three-at3 .ensures .0)) hd he refl (ap (λ s. s .v0) t ∙ v .0 .0, ap (λ s. s .v1) t ∙ v .0 .1, ap (λ s. s .v2) t ∙ v .0 .2);
+      small = subst SmallCorners (sym t) (record { v0 = v .1 .0; v1 = v .1 .1; v2 = v .1 .2 });
       low = small-id k d e (g .pre .1) hd he;
     }
 
@@ -35,25 +40,22 @@ from-table-spec =
     (tie.spec
     (λ c. omega arith)
     (λ c. omega arith)
+    (λ c κs. omega arith)
     (λ c. omega arith)
-    (λ c. omega arith)
-    (λ c κs. (c .pre .0, (omega arith, omega arith, omega arith)))
-    (λ c. omega arith)
-    (λ c. omega arith)
-    (λ c. omega arith)
-    (λ c. omega arith)
-    (λ c. omega arith)
-    (λ c κs. (c .before .pre .0, (omega arith, omega arith, omega arith)))
-    (λ c. omega arith)
-    (λ c. omega arith)
-    (λ c. omega arith)
-    (λ c. omega arith)
+    (λ c κs. omega arith)
+    (λ c κs. let f = c .before .three-at .ensures .1 in (c .before .before .pre .0, (c .three-at2 .ensures .1 .2, f .1, f .2)))
     (λ c. omega arith)
     (λ c. omega arith)
     (λ c. omega arith)
     (λ c κs. omega arith)
+    (λ c κs. (c .before .before .before .before .pre .0, c .three-at3 .ensures .1))
+    (λ c. omega arith)
     (λ c. omega arith)
     (λ c κs. omega arith)
     (λ c. omega arith)
-    (λ c κs. omega arith)
+    (λ c. omega arith)
+    (λ c. omega arith)
+    (λ c. omega arith)
+    (λ c. omega arith)
+    (λ c κs. tt)
     returns)

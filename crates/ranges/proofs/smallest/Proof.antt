@@ -1,17 +1,15 @@
 -- `ranges::smallest` goes from the end. The loop's invariant `Least` says what is known of the sizes from i on; the measure is i. Assumes nothing.
 use Prim.Native.Nat.{_≤_}
-use mathlib.Core.List.{[], _∷_, _++_, map}
+use mathlib.Core.List.{[], _∷_, _++_}
 use native.Mathlib.Omega.{arith}
-use lib.ListN.{drop}
-use Rattle.ranges.specs.Lists.{size}
-use Rattle.ranges.specs.Stored.{rangesIn}
+use Rattle.ranges.specs.Stored.{sizesIn}
 use Rattle.ranges.proofs.Earliest.{Least}
 use Rattle.ranges.proofs.SearchLaws.{near-start, near-take, near-keep, near-end}
 use Rattle.ranges.proofs.smallest.Statement.{statement}
 use Rattle.ranges.proofs.smallest.Tie as tie
 
 abbrev Inv-loop : tie.InvT-loop
-Inv-loop list start count last best₀ least₀ i₀ best least i = (i ≤ count) × Least (map size (rangesIn count (drop start list)) ++ last ∷ []) i best least
+Inv-loop list start count last best₀ least₀ i₀ best least i = (i ≤ count) × Least (sizesIn start count list ++ last ∷ []) i best least
 
 abbrev μ-loop : tie.MeasureT-loop
 μ-loop list start count last best₀ least₀ i₀ best least i = i

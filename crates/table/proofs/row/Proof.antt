@@ -1,19 +1,18 @@
 -- `table::row` meets its contract: the row of each arm is that of the constants, which the one test of Constants shows to be the table. The lines are
 -- printed by tools/table.py. Assumes nothing.
-use Prim.Native.Nat.{ℕ, zero, suc, _+_, _≤_, _<_}
+use Prim.Native.Nat.{ℕ, zero, suc, _≤_, _<_}
 use native.Mathlib.Omega.{arith}
 use mathlib.Core.Path.{_≡_, refl, sym, subst, _∙_}
 use mathlib.Core.List.{List}
 use lib.IntN.{ℤ}
-use Rattle.mesh.specs.Identifiers.{trixel}
-use Rattle.mesh.specs.Table.{numbers}
+use Rattle.table.specs.Rows.{nine}
 use Rattle.table.proofs.Constants.{constants, rowAt, row-is}
 use Rattle.table.proofs.row.Statement.{statement}
 use Rattle.table.proofs.row.Tie as tie
 
 -- the row of an arm, by the arm's own number
-at : (n : ℕ) {j : ℕ} → j ≡ n → {xs : List ℤ} → xs ≡ rowAt n constants → j < 128 → xs ≡ numbers (trixel 2 (128 + j))
-at n {j} e {xs} h l = subst (λ i. i < 128 → xs ≡ numbers (trixel 2 (128 + i))) (sym e) (λ m. h ∙ row-is n m) l
+at : (n : ℕ) {j : ℕ} → j ≡ n → {xs : List ℤ} → xs ≡ rowAt n constants → j < 256 → xs ≡ nine j
+at n {j} e {xs} h l = subst (λ i. i < 256 → xs ≡ nine i) (sym e) (λ m. h ∙ row-is n m) l
 
 -- j is none of the n numbers before n
 abbrev Misses : ℕ → ℕ → Type 0
@@ -24,8 +23,8 @@ missed : (n j : ℕ) → Misses n j → n ≤ j
 missed zero j m = omega arith
 missed (suc n) j m = let h = missed n j (m .0) in let k = m .1 in omega arith
 
-last : {j : ℕ} → Misses 127 j → j ≤ 127 → j ≡ 127
-last {j} m h = let l = missed 127 j m in omega (arith, l, h)
+last : {j : ℕ} → Misses 255 j → j ≤ 255 → j ≡ 255
+last {j} m h = let l = missed 255 j m in omega (arith, l, h)
 
 pub row-spec : {M : Type 1} → statement M
 row-spec =
@@ -158,4 +157,132 @@ row-spec =
     (λ c. at 124 (c .match .keys125) refl (c .before .pre))
     (λ c. at 125 (c .match .keys126) refl (c .before .pre))
     (λ c. at 126 (c .match .keys127) refl (c .before .pre))
-    (λ c. at 127 (last (c .match .rest) (omega arith)) refl (c .before .pre)))
+    (λ c. at 127 (c .match .keys128) refl (c .before .pre))
+    (λ c. at 128 (c .match .keys129) refl (c .before .pre))
+    (λ c. at 129 (c .match .keys130) refl (c .before .pre))
+    (λ c. at 130 (c .match .keys131) refl (c .before .pre))
+    (λ c. at 131 (c .match .keys132) refl (c .before .pre))
+    (λ c. at 132 (c .match .keys133) refl (c .before .pre))
+    (λ c. at 133 (c .match .keys134) refl (c .before .pre))
+    (λ c. at 134 (c .match .keys135) refl (c .before .pre))
+    (λ c. at 135 (c .match .keys136) refl (c .before .pre))
+    (λ c. at 136 (c .match .keys137) refl (c .before .pre))
+    (λ c. at 137 (c .match .keys138) refl (c .before .pre))
+    (λ c. at 138 (c .match .keys139) refl (c .before .pre))
+    (λ c. at 139 (c .match .keys140) refl (c .before .pre))
+    (λ c. at 140 (c .match .keys141) refl (c .before .pre))
+    (λ c. at 141 (c .match .keys142) refl (c .before .pre))
+    (λ c. at 142 (c .match .keys143) refl (c .before .pre))
+    (λ c. at 143 (c .match .keys144) refl (c .before .pre))
+    (λ c. at 144 (c .match .keys145) refl (c .before .pre))
+    (λ c. at 145 (c .match .keys146) refl (c .before .pre))
+    (λ c. at 146 (c .match .keys147) refl (c .before .pre))
+    (λ c. at 147 (c .match .keys148) refl (c .before .pre))
+    (λ c. at 148 (c .match .keys149) refl (c .before .pre))
+    (λ c. at 149 (c .match .keys150) refl (c .before .pre))
+    (λ c. at 150 (c .match .keys151) refl (c .before .pre))
+    (λ c. at 151 (c .match .keys152) refl (c .before .pre))
+    (λ c. at 152 (c .match .keys153) refl (c .before .pre))
+    (λ c. at 153 (c .match .keys154) refl (c .before .pre))
+    (λ c. at 154 (c .match .keys155) refl (c .before .pre))
+    (λ c. at 155 (c .match .keys156) refl (c .before .pre))
+    (λ c. at 156 (c .match .keys157) refl (c .before .pre))
+    (λ c. at 157 (c .match .keys158) refl (c .before .pre))
+    (λ c. at 158 (c .match .keys159) refl (c .before .pre))
+    (λ c. at 159 (c .match .keys160) refl (c .before .pre))
+    (λ c. at 160 (c .match .keys161) refl (c .before .pre))
+    (λ c. at 161 (c .match .keys162) refl (c .before .pre))
+    (λ c. at 162 (c .match .keys163) refl (c .before .pre))
+    (λ c. at 163 (c .match .keys164) refl (c .before .pre))
+    (λ c. at 164 (c .match .keys165) refl (c .before .pre))
+    (λ c. at 165 (c .match .keys166) refl (c .before .pre))
+    (λ c. at 166 (c .match .keys167) refl (c .before .pre))
+    (λ c. at 167 (c .match .keys168) refl (c .before .pre))
+    (λ c. at 168 (c .match .keys169) refl (c .before .pre))
+    (λ c. at 169 (c .match .keys170) refl (c .before .pre))
+    (λ c. at 170 (c .match .keys171) refl (c .before .pre))
+    (λ c. at 171 (c .match .keys172) refl (c .before .pre))
+    (λ c. at 172 (c .match .keys173) refl (c .before .pre))
+    (λ c. at 173 (c .match .keys174) refl (c .before .pre))
+    (λ c. at 174 (c .match .keys175) refl (c .before .pre))
+    (λ c. at 175 (c .match .keys176) refl (c .before .pre))
+    (λ c. at 176 (c .match .keys177) refl (c .before .pre))
+    (λ c. at 177 (c .match .keys178) refl (c .before .pre))
+    (λ c. at 178 (c .match .keys179) refl (c .before .pre))
+    (λ c. at 179 (c .match .keys180) refl (c .before .pre))
+    (λ c. at 180 (c .match .keys181) refl (c .before .pre))
+    (λ c. at 181 (c .match .keys182) refl (c .before .pre))
+    (λ c. at 182 (c .match .keys183) refl (c .before .pre))
+    (λ c. at 183 (c .match .keys184) refl (c .before .pre))
+    (λ c. at 184 (c .match .keys185) refl (c .before .pre))
+    (λ c. at 185 (c .match .keys186) refl (c .before .pre))
+    (λ c. at 186 (c .match .keys187) refl (c .before .pre))
+    (λ c. at 187 (c .match .keys188) refl (c .before .pre))
+    (λ c. at 188 (c .match .keys189) refl (c .before .pre))
+    (λ c. at 189 (c .match .keys190) refl (c .before .pre))
+    (λ c. at 190 (c .match .keys191) refl (c .before .pre))
+    (λ c. at 191 (c .match .keys192) refl (c .before .pre))
+    (λ c. at 192 (c .match .keys193) refl (c .before .pre))
+    (λ c. at 193 (c .match .keys194) refl (c .before .pre))
+    (λ c. at 194 (c .match .keys195) refl (c .before .pre))
+    (λ c. at 195 (c .match .keys196) refl (c .before .pre))
+    (λ c. at 196 (c .match .keys197) refl (c .before .pre))
+    (λ c. at 197 (c .match .keys198) refl (c .before .pre))
+    (λ c. at 198 (c .match .keys199) refl (c .before .pre))
+    (λ c. at 199 (c .match .keys200) refl (c .before .pre))
+    (λ c. at 200 (c .match .keys201) refl (c .before .pre))
+    (λ c. at 201 (c .match .keys202) refl (c .before .pre))
+    (λ c. at 202 (c .match .keys203) refl (c .before .pre))
+    (λ c. at 203 (c .match .keys204) refl (c .before .pre))
+    (λ c. at 204 (c .match .keys205) refl (c .before .pre))
+    (λ c. at 205 (c .match .keys206) refl (c .before .pre))
+    (λ c. at 206 (c .match .keys207) refl (c .before .pre))
+    (λ c. at 207 (c .match .keys208) refl (c .before .pre))
+    (λ c. at 208 (c .match .keys209) refl (c .before .pre))
+    (λ c. at 209 (c .match .keys210) refl (c .before .pre))
+    (λ c. at 210 (c .match .keys211) refl (c .before .pre))
+    (λ c. at 211 (c .match .keys212) refl (c .before .pre))
+    (λ c. at 212 (c .match .keys213) refl (c .before .pre))
+    (λ c. at 213 (c .match .keys214) refl (c .before .pre))
+    (λ c. at 214 (c .match .keys215) refl (c .before .pre))
+    (λ c. at 215 (c .match .keys216) refl (c .before .pre))
+    (λ c. at 216 (c .match .keys217) refl (c .before .pre))
+    (λ c. at 217 (c .match .keys218) refl (c .before .pre))
+    (λ c. at 218 (c .match .keys219) refl (c .before .pre))
+    (λ c. at 219 (c .match .keys220) refl (c .before .pre))
+    (λ c. at 220 (c .match .keys221) refl (c .before .pre))
+    (λ c. at 221 (c .match .keys222) refl (c .before .pre))
+    (λ c. at 222 (c .match .keys223) refl (c .before .pre))
+    (λ c. at 223 (c .match .keys224) refl (c .before .pre))
+    (λ c. at 224 (c .match .keys225) refl (c .before .pre))
+    (λ c. at 225 (c .match .keys226) refl (c .before .pre))
+    (λ c. at 226 (c .match .keys227) refl (c .before .pre))
+    (λ c. at 227 (c .match .keys228) refl (c .before .pre))
+    (λ c. at 228 (c .match .keys229) refl (c .before .pre))
+    (λ c. at 229 (c .match .keys230) refl (c .before .pre))
+    (λ c. at 230 (c .match .keys231) refl (c .before .pre))
+    (λ c. at 231 (c .match .keys232) refl (c .before .pre))
+    (λ c. at 232 (c .match .keys233) refl (c .before .pre))
+    (λ c. at 233 (c .match .keys234) refl (c .before .pre))
+    (λ c. at 234 (c .match .keys235) refl (c .before .pre))
+    (λ c. at 235 (c .match .keys236) refl (c .before .pre))
+    (λ c. at 236 (c .match .keys237) refl (c .before .pre))
+    (λ c. at 237 (c .match .keys238) refl (c .before .pre))
+    (λ c. at 238 (c .match .keys239) refl (c .before .pre))
+    (λ c. at 239 (c .match .keys240) refl (c .before .pre))
+    (λ c. at 240 (c .match .keys241) refl (c .before .pre))
+    (λ c. at 241 (c .match .keys242) refl (c .before .pre))
+    (λ c. at 242 (c .match .keys243) refl (c .before .pre))
+    (λ c. at 243 (c .match .keys244) refl (c .before .pre))
+    (λ c. at 244 (c .match .keys245) refl (c .before .pre))
+    (λ c. at 245 (c .match .keys246) refl (c .before .pre))
+    (λ c. at 246 (c .match .keys247) refl (c .before .pre))
+    (λ c. at 247 (c .match .keys248) refl (c .before .pre))
+    (λ c. at 248 (c .match .keys249) refl (c .before .pre))
+    (λ c. at 249 (c .match .keys250) refl (c .before .pre))
+    (λ c. at 250 (c .match .keys251) refl (c .before .pre))
+    (λ c. at 251 (c .match .keys252) refl (c .before .pre))
+    (λ c. at 252 (c .match .keys253) refl (c .before .pre))
+    (λ c. at 253 (c .match .keys254) refl (c .before .pre))
+    (λ c. at 254 (c .match .keys255) refl (c .before .pre))
+    (λ c. at 255 (last (c .match .rest) (omega arith)) refl (c .before .pre)))

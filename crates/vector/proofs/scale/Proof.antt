@@ -1,8 +1,8 @@
 -- `vector::scale` is Scale: K times the components, divided by the largest of them. Assumes nothing.
 use mathlib.Core.Path.{sym, ap, subst, _∙_}
 use native.Mathlib.Omega.{arith}
-use Rattle.vector.specs.Vectors.{dividedBy, scale, Small}
-use Rattle.vector.proofs.SizeLaws.{scale-small}
+use Rattle.vector.specs.Vectors.{dividedBy, scale, AtMost, Small}
+use Rattle.vector.proofs.SizeLaws.{largest-at-most, largest-bound, scale-small}
 use Rattle.vector.proofs.scale.Statement.{statement}
 use Rattle.vector.proofs.scale.Tie as tie
 
@@ -12,7 +12,7 @@ scale-spec =
     tie.close
     (tie.spec
     (λ c κs. c .pre)
-    (λ c κs. (c .before .pre, omega (arith, c .largest .ensures)))
+    (λ c κs. (omega (arith, c .largest .ensures, largest-bound (c .before .pre)), subst (λ n. AtMost n (c .before .args .c)) (sym (c .largest .ensures)) (largest-at-most (c .before .args .c))))
     (λ c.
     let v = c .before .before .args .c in
     let e = c .divided .ensures ∙ ap (λ n. dividedBy n v) (c .before .largest .ensures) in

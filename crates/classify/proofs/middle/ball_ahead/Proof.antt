@@ -19,7 +19,7 @@ returns c =
     let g = c .before .greatest-reach .ensures .0 in
     let e = reach (c .before) .eq ∙ ap pos g in
     let r = is-sub (held (c .dot .ensures .1) tt) (is-mul (reach (c .before)) (reach (c .before)) tt) tt .eq ∙ (λ i. c .dot .ensures .0 i -ℤ square (pos (g i))) in
-    λ i. record { known = true; ahead = true; b = c .before .before .args .b; reach = e i; rest = r i }
+    λ i. record { ahead = true; b = c .before .before .args .b; reach = e i; rest = r i }
 
 pub ball-ahead-spec : {M : Type 1} → statement M
 ball-ahead-spec =

@@ -1,55 +1,56 @@
--- `classify::middle::far` is the test: D·E − c stays below 2⁶³, and the two rests, which have no sign, are at most 2⁴². Assumes nothing.
-use mathlib.Core.Path.{ap, _∙_}
+-- `classify::middle::far` is the test: D·E − c stays below 2⁶³. Assumes nothing.
+use mathlib.Core.Path.{ap, subst, sym, _∙_}
+use mathlib.Core.Bool.{_&&_}
 use lib.Dec.{lit≤}
-use lib.IntN.{natAbs, _-ℤ_, _*ℤ_}
-use Rattle.algebra.proofs.Sized.{held, is-mul, is-sub, fits-mul, fits-sub, fits-cast, fits-tested}
+use lib.IntN.{_-ℤ_, _*ℤ_}
+use lib.Signed.{ltZ}
+use borrow.Author.Tests.{not-true, not-false}
+use Rattle.algebra.proofs.Tests.{and-then, and-no-left}
+use Rattle.algebra.proofs.Sized.{held, upto-mono, is-mul, is-sub, fits-mul, fits-sub}
 use Rattle.vector.proofs.SizeLaws.{at-most-mono}
-use Rattle.classify.proofs.BallLaws.{Beside, half-beside, ball-beside, beside-size}
-use Rattle.classify.proofs.FarLaws.{not-far, far-by-sizes}
+use Rattle.classify.specs.Shape.{positive}
+use Rattle.classify.specs.Measures.{Rest}
+use Rattle.classify.proofs.BallLaws.{Beside, half-beside, ball-beside}
+use Rattle.classify.proofs.FarLaws.{half-rest, ball-rest, far-is}
 use Rattle.classify.proofs.middle.far.Statement.{statement}
 use Rattle.classify.proofs.middle.far.Tie as tie
 
 half : (c : tie.Start) → Beside (c .args .q .f) (c .args .q .low) (c .args .q .rest)
 half c = half-beside (c .pre .0)
 
-ball : (c : tie.Start) → Beside (c .args .m .b) (c .args .m .reach) (c .args .m .rest)
-ball c = ball-beside (c .pre .1 .0) (c .pre .1 .1)
+ball : (c : tie.Else1) → Beside (c .before .before .args .m .b) (c .before .before .args .m .reach) (c .before .before .args .m .rest)
+ball c = ball-beside (c .before .before .pre .1) (not-false _ (c .if1 .left))
 
-returns : tie.Need-returns
-returns c =
-    let s = c .before .before .before .before .before .before .before .before in
-    let d = c .before .dot .ensures in
-    let z = is-sub (is-mul (held (half s .size) tt) (held (ball s .size) tt) tt) (held (d .1) tt) tt in
-    not-far (s .pre .0) (s .pre .1 .0) (s .pre .1 .1) (z .eq ∙ ap (λ x. s .args .q .low *ℤ s .args .m .reach -ℤ x) (d .0)) (c .if1 .taken)
-
-cast-square-passes : tie.Need-cast-square-passes
-cast-square-passes c =
-    let s = c .before .before .before .before .before .before .before .before in
-    let z = is-sub (is-mul (held (half s .size) tt) (held (ball s .size) tt) tt) (held (c .before .dot .ensures .1) tt) tt in
-    fits-tested z (c .if1 .left) tt
+beyond-requires : tie.Need-beyond-requires
+beyond-requires c κs =
+    let e = c .before .before .before .before .before .before .before .before .before in
+    let s = c .before .before .before .before .before .before .before .before .before .before .before in
+    let z = is-sub (is-mul (held (half s .size) tt) (held (ball e .size) tt) tt) (held (c .before .before .dot .ensures .1) tt) tt in
+    let p = half-rest (s .pre .0) in
+    let q = ball-rest (s .pre .1) (not-false _ (e .if1 .left)) in
+    (rw (z .eq) (upto-mono (lit≤ tt) (z .size)), (rw (held (p .size) tt .eq) p, rw (held (q .size) tt .eq) q))
 
 returns-2 : tie.Need-returns-2
 returns-2 c =
-    let i = c .before .before .before .before .before in
-    let s = i .before .before .before .before .before .before .before .before in
-    let d = i .before .dot .ensures in
-    let z = is-sub (is-mul (held (half s .size) tt) (held (ball s .size) tt) tt) (held (d .1) tt) tt in
-    c .square-passes .ensures
-    ∙ far-by-sizes (s .pre .0) (s .pre .1 .0) (s .pre .1 .1) (z .eq ∙ ap (λ x. s .args .q .low *ℤ s .args .m .reach -ℤ x) (d .0))
-    (ap natAbs (held (beside-size (half s)) tt .eq)) (ap natAbs (held (beside-size (ball s)) tt .eq)) (i .if1 .left)
+    let d = c .before .before .before in
+    let e = c .before .before .before .before .before .before .before .before .before .before in
+    let s = c .before .before .before .before .before .before .before .before .before .before .before .before in
+    let a = not-false _ (e .if1 .left) in
+    let z = is-sub (is-mul (held (half s .size) tt) (held (ball e .size) tt) tt) (held (d .dot .ensures .1) tt) tt in
+    let p = held (half-rest (s .pre .0) .size) tt in
+    let q = held (ball-rest (s .pre .1) a .size) tt in
+    c .beyond .ensures
+    ∙ (λ i. positive (z .eq i) && ltZ (p .eq i *ℤ q .eq i) (z .eq i *ℤ z .eq i))
+    ∙ far-is (s .pre .0) (s .pre .1) a (ap (λ x. s .args .q .low *ℤ s .args .m .reach -ℤ x) (d .dot .ensures .0))
+    ∙ and-then _ (sym (s .pre .1 .ahead) ∙ a)
 
 pub far-spec : {M : Type 1} → statement M
 far-spec =
     tie.close
     (tie.spec
-    (λ c. let s = c .before .before .before .before .before .before in fits-mul (held (half s .size) tt) (held (ball s .size) tt) tt)
-    (λ c κs. let s = c .before .before .before .before .before .before in (half s .small, at-most-mono (lit≤ tt) (ball s .small)))
-    (λ c.
-    let s = c .before .before .before .before .before .before .before in
-    fits-sub (is-mul (held (half s .size) tt) (held (ball s .size) tt) tt) (held (c .dot .ensures .1) tt) tt)
-    returns
-    cast-square-passes
-    (λ c. let h = half (c .before .before .before .before .before .before .before .before .before .before) in fits-cast (held (beside-size h) tt) (h .sign) tt)
-    (λ c. let h = ball (c .before .before .before .before .before .before .before .before .before .before .before .before) in fits-cast (held (beside-size h) tt) (h .sign) tt)
-    (λ c κs. tt)
+    (λ c. sym (and-no-left _ (sym (c .before .before .pre .1 .ahead) ∙ not-true _ (c .if1 .taken))))
+    (λ c. let e = c .before .before .before .before .before .before in fits-mul (held (half (c .before .before .before .before .before .before .before .before) .size) tt) (held (ball e .size) tt) tt)
+    (λ c κs. (half (c .before .before .before .before .before .before .before .before) .small, at-most-mono (lit≤ tt) (ball (c .before .before .before .before .before .before) .small)))
+    (λ c. fits-sub (is-mul (held (half (c .before .before .before .before .before .before .before .before .before) .size) tt) (held (ball (c .before .before .before .before .before .before .before) .size) tt) tt) (held (c .dot .ensures .1) tt) tt)
+    beyond-requires
     returns-2)

@@ -2,18 +2,10 @@
 use mathlib.Core.Path.{_≡_, sym, ap, _∙_}
 use mathlib.Core.Bool.{Bool}
 use borrow.Author.Needs.{needs}
-use lib.IntN.{ℤ}
-use mir.Syntax.{w64}
-use mir.Val.{SFits, toZ, ofZ}
-use mir.Facts.{toZ-ofZ}
-use Rattle.vector.specs.declared.Vec3.{Vec3}
 use Rattle.classify.specs.Rays.{passes, passedOf}
+use Rattle.classify.proofs.RayLaws.{tested}
 use Rattle.classify.proofs.reaching.count_passed.Statement.{statement}
 use Rattle.classify.proofs.reaching.count_passed.Tie as tie
-
--- a ray that was tested, with a number that was handed on by its bits
-tested : (f : Vec3) {g : ℤ} (v : Vec3) → SFits w64 g → {b t : Bool} → b ≡ passes f (toZ w64 (ofZ w64 g)) v → b ≡ t → passes f g v ≡ t
-tested f v h e k = sym (e ∙ ap (λ g. passes f g v) (toZ-ofZ h)) ∙ k
 
 abbrev r0 : tie.Start → Bool
 r0 s = passes (s .args .f) (s .args .g) (s .args .s .r0 .r)

@@ -1,20 +1,19 @@
 -- `classify::reaching::passes` is its two tests: the squares are compared where f·r > 0. Assumes nothing.
-use Prim.Native.Nat.{_*_, _^_, _≤_, _<_}
-use native.Mathlib.Nat.{lt-of-le-of-lt}
+use Prim.Native.Nat.{_*_, _^_, _≤_}
 use mathlib.Core.Path.{_≡_, sym, ap, subst, _∙_}
 use mathlib.Core.Bool.{Bool}
-use lib.Dec.{leb, lit<, lit≤}
+use lib.Dec.{leb, lit≤}
 use lib.IntN.{pos, natAbs}
 use lib.Signed.{ltZ}
 use mir.Syntax.{w64}
 use mir.Val.{toZ, ofZ}
-use Rattle.algebra.proofs.Sized.{held, upto-held, upto-mono}
+use Rattle.algebra.proofs.Sized.{squares-by-size, held, upto-held, upto-mono}
 use Rattle.algebra.proofs.Tests.{and-then, and-else}
-use Rattle.wide.specs.Value.{valueOf}
 use Rattle.vector.specs.Vectors.{dot}
+use Rattle.vector.proofs.SizeLaws.{dot-self-positive}
 use Rattle.classify.specs.Shape.{positive}
+use Rattle.classify.specs.Measures.{squareOf}
 use Rattle.classify.specs.Rays.{passes}
-use Rattle.classify.proofs.RayLaws.{square-bound, reaches-by-size}
 use Rattle.classify.proofs.reaching.passes.Statement.{statement}
 use Rattle.classify.proofs.reaching.passes.Tie as tie
 
@@ -32,11 +31,12 @@ returns c =
     let x = z .before in
     let d = x .before .before in
     let s = d .before .before in
+    let r = s .args .y .r in
     let n = x .size .ensures ∙ ap natAbs (product d) in
     let g = z .size2 .ensures ∙ ap natAbs (held (s .pre .1 .0) tt .eq) in
     c .reaches .ensures
-    ∙ (λ i. leb (g i * g i * valueOf (s .args .y .square)) (n i * n i))
-    ∙ reaches-by-size (s .args .f) (s .args .g) (s .pre .1 .1)
+    ∙ (λ i. leb (g i * g i * squareOf (s .args .y)) (n i * n i))
+    ∙ squares-by-size (s .args .g) (dot r r) (dot (s .args .f) r) (dot-self-positive r)
     ∙ and-then _ (front d (x .before .if1 .taken))
 
 returns-2 : tie.Need-returns-2
@@ -53,9 +53,9 @@ passes-spec =
     (λ c κs.
     let d = c .before .before .before in
     let p = d .before .before .pre .1 in (
-      subst (λ n. n < 2 ^ 63) (sym (c .before .size .ensures)) (lt-of-le-of-lt (upto-held (d .dot .ensures .1) tt .le) (lit< tt)),
+      subst (λ n. n ≤ 3 * 2 ^ 61) (sym (c .before .size .ensures)) (upto-held (d .dot .ensures .1) tt .le),
       subst (λ n. n ≤ 2 ^ 21) (sym (c .size2 .ensures)) (upto-held (p .0) tt .le),
-      square-bound (p .1),
+      p .1,
     ))
     returns
     returns-2)

@@ -1,140 +1,15 @@
--- `scan::classes::class_of`. Assumes nothing.
-use Prim.Native.Nat.{ℕ, _+_, _-_, _*_, _^_, _≤_, _<_}
-use native.Mathlib.Omega.{arith}
-use mathlib.Core.Path.{_≡_, refl, sym, ap, subst, _∙_}
-use mathlib.Core.Bool.{true≢false}
-use mathlib.Core.Logic.{⊎-elim}
-use mathlib.Core.List.{List}
-use lib.ListN.{length, getD}
-use lib.IntN.{ℤ}
-use Rattle.mesh.specs.declared.Trixel.{Trixel}
-use Rattle.classify.specs.declared.Class.{Class}
-use Rattle.classify.specs.declared.Half.{Half}
-use Rattle.region.specs.Regions.{Region}
-use Rattle.classify.specs.Measures.{Fitting, judged, SoundHalf}
-use Rattle.scan.specs.Halves.{halfIn, Prepared, meet, join}
-use Rattle.scan.proofs.ScanLaws.{AtConvex, AtHalfspace, start, opened, ended, full, stands, exhausted, left-out, Stands}
+-- `scan::classes::class_of` is the class by the only halfspace or by the scan. Assumes nothing.
+use borrow.Author.Needs.{needs}
 use Rattle.scan.proofs.classes.class_of.Statement.{statement}
 use Rattle.scan.proofs.classes.class_of.Tie as tie
-
-abbrev Inv-halfspaces : tie.InvT-halfspaces
-Inv-halfspaces t xs ends n s m₀ settled i₀ k end class₀ m i class = (i₀ < end) × (end ≤ n) × Fitting t m × ((g : Region) → Prepared g xs ends n → AtHalfspace t xs ends n g k end i settled class)
-
-abbrev μ-halfspaces : tie.MeasureT-halfspaces
-μ-halfspaces t xs ends n s m₀ settled i₀ k end class₀ m i class = end - i
-
-abbrev Inv-convexes : tie.InvT-convexes
-Inv-convexes t xs ends n s m₀ settled₀ i₀ k₀ m settled i k = Fitting t m × ((g : Region) → Prepared g xs ends n → AtConvex t xs ends n g i k settled)
-
-abbrev μ-convexes : tie.MeasureT-convexes
-μ-convexes t xs ends n s m₀ settled₀ i₀ k₀ m settled i k = n - i
-
--- a halfspace more is taken
-module _ (t : Trixel) (xs : List ℤ) (es : List ℕ) (n k end i : ℕ) (settled class : Class) where
-  abbrev Each : ℕ → Class → Type 0
-  Each i class = (g : Region) → Prepared g xs es n → AtHalfspace t xs es n g k end i settled class
-
-  taken : Each i class → i < end → {q : Half} {b r : Class} → q ≡ halfIn xs (7 * i) → b ≡ judged q t → r ≡ meet class b → Each (i + 1) r
-  taken inv h e f m g p =
-      let s = stands t xs es n g k end i settled class (inv g p) h in
-      subst (AtHalfspace t xs es n g k end (i + 1) settled) (sym m) (s .taken _ (f ∙ ap (λ q. judged q t) e))
-
--- the place of the next end
-opening : (c : tie.In-convexes Inv-halfspaces μ-halfspaces Inv-convexes μ-convexes) → c .before .convexes .k < length (c .before .before .before .before .before .args .ends .now)
-opening c =
-    let l = c .before in
-    let r = l .before .before .before .before .pre .1 in
-    opened _ _ _ _ (r .0) _ _ _ (l .convexes .inv .1 (r .0) (r .1)) (omega arith) .0
-
--- a convex more is still counted
-counted : (c : tie.In-convexes Inv-halfspaces μ-halfspaces Inv-convexes μ-convexes) → c .before .convexes .k + 1 < 2 ^ 64
-counted c = let h = opening c in omega arith
-
--- the halfspace at the next place
-module _ (c : tie.In-halfspaces Inv-halfspaces μ-halfspaces Inv-convexes μ-convexes) where
-  next-half :
-      Stands (c .before .before .before .before .before .before .before .before .args .t)
-      (c .before .before .before .before .before .before .before .before .args .xs .now)
-      (c .before .before .before .before .before .before .before .before .args .ends .now)
-      (c .before .before .before .before .before .before .before .before .args .n)
-      (c .before .before .before .before .before .before .before .before .pre .1 .0)
-      (c .before .before .before .before .convexes .k)
-      (getD (c .before .before .before .before .before .before .before .before .args .ends .now) (c .before .before .before .before .convexes .k) 0)
-      (c .before .halfspaces .i)
-      (c .before .before .before .before .convexes .settled)
-      (c .before .halfspaces .class)
-  next-half =
-      let r = c .before .before .before .before .before .before .before .before .pre .1 in
-      stands _ _ _ _ (r .0) _ _ _ _ _ (c .before .halfspaces .inv .3 (r .0) (r .1)) (omega arith)
-
-  below : 7 * c .before .halfspaces .i + 1 < 2 ^ 64
-  below = let h = next-half .room in omega arith
-
--- where the scan of a convex has ended, at its own end or at a halfspace that leaves the trixel outside
-module _ (c : tie.Left-halfspaces Inv-halfspaces μ-halfspaces Inv-convexes μ-convexes) where
-  fitting : Fitting (c .before .before .before .before .before .before .before .before .args .t) (c .halfspaces-test .m)
-  fitting = ⊎-elim
-      (λ w. subst (Fitting (c .before .before .before .before .before .before .before .before .args .t)) (sym (w .1)) (c .before .halfspaces .inv .2))
-      (λ w. subst (Fitting (c .before .before .before .before .before .before .before .before .args .t)) (sym (w .7)) (w .2 .ensures .1))
-      (c .halfspaces-test .came)
-
-  closing : (g : Region) → Prepared g (c .before .before .before .before .before .before .before .before .args .xs .now) (c .before .before .before .before .before .before .before .before .args .ends .now) (c .before .before .before .before .before .before .before .before .args .n)
-      → AtConvex (c .before .before .before .before .before .before .before .before .args .t) (c .before .before .before .before .before .before .before .before .args .xs .now) (c .before .before .before .before .before .before .before .before .args .ends .now) (c .before .before .before .before .before .before .before .before .args .n) g (getD (c .before .before .before .before .before .before .before .before .args .ends .now) (c .before .before .before .before .convexes .k) 0) ((c .before .before .before .before .convexes .k) + 1) (join (c .before .before .before .before .convexes .settled) (c .halfspaces-test .class))
-  closing g p = ⊎-elim
-      (λ w. subst (λ a. AtConvex (c .before .before .before .before .before .before .before .before .args .t) (c .before .before .before .before .before .before .before .before .args .xs .now) (c .before .before .before .before .before .before .before .before .args .ends .now) (c .before .before .before .before .before .before .before .before .args .n) g (getD (c .before .before .before .before .before .before .before .before .args .ends .now) (c .before .before .before .before .convexes .k) 0) ((c .before .before .before .before .convexes .k) + 1) (join (c .before .before .before .before .convexes .settled) a)) (sym (w .2))
-      (exhausted _ _ _ _ g _ _ _ _ _ (c .before .halfspaces .inv .3 g p) (omega (arith, w .0 .left))))
-      (λ w. subst (λ a. AtConvex (c .before .before .before .before .before .before .before .before .args .t) (c .before .before .before .before .before .before .before .before .args .xs .now) (c .before .before .before .before .before .before .before .before .args .ends .now) (c .before .before .before .before .before .before .before .before .args .n) g (getD (c .before .before .before .before .before .before .before .before .args .ends .now) (c .before .before .before .before .convexes .k) 0) ((c .before .before .before .before .convexes .k) + 1) (join (c .before .before .before .before .convexes .settled) a)) (sym (w .8))
-      (left-out _ _ _ _ g _ _ _ _ _
-      (taken _ _ _ _ _ _ _ _ _ (c .before .halfspaces .inv .3) (omega (arith, w .0 .taken)) (w .1 .ensures) (w .2 .ensures .0) (w .4 .ensures) g p)
-      (sym (w .5 .ensures) ∙ w .6 .taken)))
-      (c .halfspaces-test .came)
 
 pub class-of-spec : {M : Type 1} → statement M
 class-of-spec =
     tie.close
     (tie.spec
-    Inv-halfspaces
-    μ-halfspaces
-    Inv-convexes
-    μ-convexes
     (λ c κs. c .before .pre .0)
-    (λ c κs. tt)
-    (λ c. (λ e. absurd (true≢false (sym e ∙ c .unknown .ensures)), λ g p. start _ _ _ _ g p))
-    (λ c. let h = opening c in omega arith)
-    (λ c. opening (c .before))
-    (λ c.
-    let l = c .before .before in
-    let r = l .before .before .before .before .pre .1 in
-    let o = opened _ _ _ _ (r .0) _ _ _ (l .convexes .inv .1 (r .0) (r .1)) (omega arith) .1 _ refl in
-    (o .0, omega (arith, o .1 .count), l .convexes .inv .0, λ g p. opened _ _ _ _ g _ _ _ (l .convexes .inv .1 g p) (omega arith) .1 _ refl .1))
-    (λ c. let h = next-half c .room in omega arith)
-    (λ c κs. next-half c .room)
-    (λ c κs.
-    let l = c .before in
-    let m = l .before .before .before .before .before .before in
-    (m .before .before .pre .0, (m .measured .ensures, (l .before .halfspaces .inv .2, subst SoundHalf (sym (c .half-at .ensures)) (next-half l .sound)))))
-    (λ c κs. tt)
-    (λ c κs. tt)
-    (λ c. let h = below (c .before .before .before .before .before .before) in omega arith)
-    (λ c. omega arith)
-    (λ c.
-    let j = c .before .before .before .before in
-    let q = j .before in
-    let l = q .before .before in (
-      l .halfspaces .inv .0,
-      l .halfspaces .inv .1,
-      j .judge .ensures .1,
-      taken _ _ _ _ _ _ _ _ _ (l .halfspaces .inv .3) (omega arith) (q .half-at .ensures) (j .judge .ensures .0) (c .before .before .meet .ensures),
-    ))
-    (λ c κs. tt)
-    (λ c κs. tt)
-    (λ c. let h = counted (c .before .before .before .before .before .before) in omega arith)
-    (λ c. omega arith)
-    (λ c.
-    let t = c .before .before .before in
-    let l = t .before in
-    (fitting t, λ g p. subst (AtConvex _ _ _ _ g _ _) (sym (c .before .before .join .ensures)) (closing t g p)))
-    (λ c g p. let l = c .before in ended _ _ _ _ g _ _ _ (l .convexes .inv .1 g p) (omega arith))
-    (λ c g p.
-    let j = c .before .before in
-    full _ _ _ _ g _ _ _ (sym (c .before .is-full .ensures) ∙ c .if2 .taken) (subst (AtConvex _ _ _ _ g _ _) (sym (j .join .ensures)) (closing (j .before) g p))))
+    (λ c κs. let p = c .before .before .before .pre in ((p .0, c .before .measured .ensures), (p .1, c .if1 .taken)))
+    (λ c. c .alone .ensures)
+    (λ c κs. (c .before .before .before .pre .0, c .before .measured .ensures))
+    (λ c κs. ((c .before .before .measured .ensures, c .ball-of .ensures), c .before .before .before .before .pre .1))
+    (λ c. c .scanned .ensures))

@@ -1,0 +1,161 @@
+// One table: the proved library through its C calls, and the literal implementation beside it. For each row how many trixels were classified (or
+// pointings looked up), microseconds for all of them and nanoseconds for each, of both, and our time over the literal one. Of both the best of
+// seven rounds, one after the other, in processor time; reading the file is part of a cover. Both lists, counts, seen and the elements that must
+// stay are compared, and the identifiers of the pointings: a difference ends with 1.
+#include "literal.hpp"
+#include "../include/htm.h"
+#include <random>
+#include <time.h>
+
+using literal::Bytes;
+
+static const double K = 1048576, PI = acos(-1);
+static const uint64_t UNTOUCHED = 0x5555555555555555;
+
+struct Point { double x, y, z; };
+
+static Point cross(Point a, Point b) { return {a.y * b.z - a.z * b.y, a.z * b.x - a.x * b.z, a.x * b.y - a.y * b.x}; }
+static Point unit(Point a)
+{
+    double n = sqrt(a.x * a.x + a.y * a.y + a.z * a.z);
+    return {a.x / n, a.y / n, a.z / n};
+}
+
+// ---- region files
+
+static void begin(Bytes &f, unsigned depth, unsigned budget)
+{
+    for (unsigned n : {8u, 1u, depth, budget}) literal::put16(f, n);
+}
+static void convex(Bytes &f) { literal::put16(f, 4); literal::put16(f, 2); }
+static void halfspace(Bytes &f, Point n, double offset)
+{
+    literal::put16(f, 20); literal::put16(f, 3);
+    for (double c : {n.x, n.y, n.z, offset}) literal::put32(f, lround(c * K));
+}
+static void end(Bytes &f) { literal::put16(f, 4); literal::put16(f, 4); }
+
+// A convex of great circles around a middle, each so many degrees away from it.
+static void polygon(Bytes &f, Point middle, double degrees, int sides)
+{
+    Point u = unit(cross(middle, {0.1, 0.9, 0.3})), w = cross(middle, u);
+    double far = cos(degrees * PI / 180), near = sin(degrees * PI / 180);
+    convex(f);
+    for (int k = 0; k < sides; k++) {
+        double a = 2 * PI * k / sides, c = cos(a) * far, s = sin(a) * far;
+        halfspace(f, {near * middle.x - c * u.x - s * w.x, near * middle.y - c * u.y - s * w.y, near * middle.z - c * u.z - s * w.z}, 0);
+    }
+}
+
+static const Point MIDDLE = unit({0.31, -0.52, 0.83});
+
+static Bytes cap(double degrees, unsigned budget)
+{
+    Bytes f;
+    begin(f, 12, budget); convex(f); halfspace(f, MIDDLE, cos(degrees * PI / 180)); end(f);
+    return f;
+}
+static Bytes one_polygon(double degrees, int sides, unsigned budget)
+{
+    Bytes f;
+    begin(f, 12, budget); polygon(f, MIDDLE, degrees, sides); end(f);
+    return f;
+}
+// Polygons all over the sky, along a spiral.
+static Bytes polygons(int count, double degrees, int sides, unsigned budget)
+{
+    Bytes f;
+    begin(f, 12, budget);
+    for (int k = 0; k < count; k++) {
+        double z = 1 - (2 * k + 1.0) / count, r = sqrt(1 - z * z), a = 2.4 * k;
+        polygon(f, {r * cos(a), r * sin(a), z}, degrees, sides);
+    }
+    end(f);
+    return f;
+}
+
+// ---- rounds
+
+static double processor_us()
+{
+    timespec t;
+    clock_gettime(CLOCK_PROCESS_CPUTIME_ID, &t);
+    return t.tv_sec * 1e6 + t.tv_nsec * 1e-3;
+}
+
+template <class Call> static double us(Call call)
+{
+    double t = processor_us();
+    call();
+    return processor_us() - t;
+}
+
+struct Times { double ours = 1e18, literal = 1e18; };
+
+// The least times of seven rounds, in microseconds.
+template <class Ours, class Literal> static Times best(Ours ours, Literal literal)
+{
+    Times least;
+    for (int round = 0; round < 7; round++) {
+        least.ours = std::min(least.ours, us(ours));
+        least.literal = std::min(least.literal, us(literal));
+    }
+    return least;
+}
+
+static bool print(const char *name, size_t count, Times t, bool same)
+{
+    printf("%-34s %8zu %9.0f %8.0f %10.0f %8.0f %6.2f%s\n", name, count, t.ours, t.ours * 1000 / count, t.literal, t.literal * 1000 / count,
+           t.ours / t.literal, same ? "" : "  DIFFERS");
+    return same;
+}
+
+// ---- rows
+
+static bool lookup_row(size_t n, unsigned depth)
+{
+    std::mt19937_64 random(20261115);
+    std::normal_distribution<double> normal;
+    std::vector<int32_t> p;
+    while (p.size() < 3 * n) {
+        double a = normal(random), b = normal(random), c = normal(random), q = sqrt(a * a + b * b + c * c);
+        int32_t x = lround(a / q * K), y = lround(b / q * K), z = lround(c / q * K);
+        if (literal::is_vector(x, y, z)) { p.push_back(x); p.push_back(y); p.push_back(z); }
+    }
+    std::vector<uint64_t> id(n), want(n);
+    Times t = best([&] { for (size_t i = 0; i < n; i++) id[i] = lookup(p[3 * i], p[3 * i + 1], p[3 * i + 2], depth); },
+                   [&] { for (size_t i = 0; i < n; i++) literal::lookup(p[3 * i], p[3 * i + 1], p[3 * i + 2], depth, want[i]); });
+    return print(("lookups at depth " + std::to_string(depth)).c_str(), n, t, id == want);
+}
+
+static bool cover_row(const std::string &name, const Bytes &file)
+{
+    literal::Region region;
+    if (literal::read_file(file, region)) { printf("%-34s is no region file\n", name.c_str()); return false; }
+    size_t budget = literal::eff_budget(region.budget);
+    literal::Cover cover;
+    std::vector<uint64_t> out(4 * budget, UNTOUCHED), want = out;
+    uint64_t counts[3] = {0, 0, 0};
+    int64_t answer = 0;
+    Times t = best([&] { answer = htm_cover(file.data(), file.size(), out.data(), out.size(), counts, 3); },
+                   [&] { literal::Region r; if (!literal::read_file(file, r)) cover = literal::cover_region(r); });
+    for (size_t k = 0; k < cover.outer.size(); k++) { want[2 * k] = cover.outer[k].first; want[2 * k + 1] = cover.outer[k].second; }
+    for (size_t k = 0; k < cover.inner.size(); k++) { want[2 * (budget + k)] = cover.inner[k].first; want[2 * (budget + k) + 1] = cover.inner[k].second; }
+    bool same = answer == 0 && counts[0] == cover.outer.size() && counts[1] == cover.inner.size() && counts[2] == cover.seen && out == want;
+    return print(name.c_str(), cover.seen, t, same);
+}
+
+int main()
+{
+    printf("%-34s %8s %9s %8s %10s %8s %6s\n", "covers at depth 12, and lookups", "trixels", "ours us", "ns each", "literal us", "ns each", "ratio");
+    bool same = lookup_row(200000, 12);
+    for (unsigned budget : {64u, 256u, 2048u}) {
+        std::string end = ", budget " + std::to_string(budget);
+        for (int degrees : {1, 5, 30}) same &= cover_row("cap of " + std::to_string(degrees) + " degrees" + end, cap(degrees, budget));
+        same &= cover_row("polygon of 4 sides" + end, one_polygon(5, 4, budget));
+    }
+    for (int sides : {10, 30, 100}) same &= cover_row(std::to_string(sides) + " halfspaces in one convex", one_polygon(5, sides, 64));
+    same &= cover_row("512 halfspaces in 64 convexes", polygons(64, 1, 8, 64));
+    printf("%s\n", same ? "all answers of both are equal" : "NOT EQUAL");
+    return !same;
+}

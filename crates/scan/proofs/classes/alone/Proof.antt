@@ -1,0 +1,63 @@
+-- `scan::classes::alone` is the class for the only halfspace: by the rays, or by the scan where none passes. Assumes nothing.
+use mathlib.Core.Path.{_≡_, sym, ap, subst, _∙_}
+use mathlib.Core.Bool.{true}
+use borrow.Author.Needs.{needs}
+use borrow.Author.Tests.{not-true, not-false}
+use native.Mathlib.Omega.{arith}
+use Rattle.algebra.proofs.Sized.{held, upto-held}
+use Rattle.classify.specs.Shape.{positive, volume}
+use Rattle.classify.specs.Measures.{SoundHalf, judged}
+use Rattle.classify.specs.Rays.{raysPassed, classWithin}
+use Rattle.classify.proofs.HalfLaws.{sound-small, sound-offset, sound-high}
+use Rattle.classify.proofs.RayLaws.{own-rays, shaped-passed}
+use Rattle.classify.proofs.JudgedLaws.{hollow, when-all, when-some}
+use Rattle.scan.specs.Halves.{halfIn}
+use Rattle.scan.proofs.ScanLaws.{Stands, only-half, only-class}
+use Rattle.scan.proofs.classes.alone.Statement.{statement}
+use Rattle.scan.proofs.classes.alone.Tie as tie
+
+-- the halfspace is sound
+sound : (c : tie.After-half-at) → SoundHalf (c .half-at .result)
+sound c = let s = c .before .before .before .before in let r = s .pre .1 .0 in subst SoundHalf (sym (c .half-at .ensures)) (only-half (s .args .t) _ _ _ (r .0) (r .1) (s .pre .1 .1) .sound)
+
+solid : (c : tie.Else1) → positive (volume (c .before .before .before .args .t)) ≡ true
+solid c = sym (c .before .before .before .pre .0 .1 .solid) ∙ not-false _ (c .if1 .left)
+
+-- how many rays of the trixel pass
+rays : (c : tie.After-count-passed) → c .count-passed .result ≡ raysPassed (c .before .before .before .half-at .result .f) (c .before .before .before .half-at .result .high) (c .before .before .before .before .before .before .before .args .t)
+rays c =
+    let h = c .before .before .before in
+    shaped-passed (h .half-at .result .f) (c .before .before .before .before .before .before .before .pre .0 .1) (held (sound-high (sound h)) tt .eq) (c .count-passed .ensures)
+
+returns-2 : tie.Need-returns-2
+returns-2 c g p =
+    let a = c .before .before .before .before in
+    let h = c .before .before .before .before .before .before .before in
+    let s = c .before .before .before .before .before .before .before .before .before .before .before in
+    only-class _ _ _ _ g p (s .pre .1 .1)
+    (c .class-within .ensures ∙ ap classWithin (held (sound-offset (sound h)) tt .eq) ∙ sym (when-all (h .half-at .result) (s .args .t) (solid (c .before .before .before .before .before .before .before .before)) (sym (rays a) ∙ c .before .before .enum-told .given .1)) ∙ ap (λ q. judged q (s .args .t)) (h .half-at .ensures))
+
+returns-3 : tie.Need-returns-3
+returns-3 c g p =
+    let a = c .before .before in
+    let h = c .before .before .before .before .before in
+    let s = c .before .before .before .before .before .before .before .before .before in
+    only-class _ _ _ _ g p (s .pre .1 .1)
+    (sym (when-some (h .half-at .result) (s .args .t) (solid (c .before .before .before .before .before .before)) (sound h) (sym (rays a) ∙ c .enum-told2 .given .1)) ∙ ap (λ q. judged q (s .args .t)) (h .half-at .ensures))
+
+pub alone-spec : {M : Type 1} → statement M
+alone-spec =
+    tie.close
+    (tie.spec
+    (λ c g p. let s = c .before .before .before in only-class _ _ _ _ g p (s .pre .1 .1) (sym (hollow (halfIn (s .args .xs .now) 0) (s .args .t) (sym (s .pre .0 .1 .solid) ∙ not-true _ (c .if1 .taken)))))
+    (λ c κs. let s = c .before .before .before in let r = s .pre .1 .0 in only-half (s .args .t) _ _ _ (r .0) (r .1) (s .pre .1 .1) .room)
+    (λ c κs. let q = sound (c .before .before) in (sound-small q, (upto-held (sound-high q) tt, own-rays (c .before .before .before .before .before .before .pre .0 .1))))
+    (λ c. search needs)
+    (λ c κs. tt)
+    (λ c. search needs)
+    (λ c. search needs)
+    (λ c κs. c .before .before .before .before .before .before .before .before .before .pre .0)
+    (λ c κs. let p = c .before .before .before .before .before .before .before .before .before .before .pre in ((p .0 .1, c .ball-of .ensures), p .1 .0))
+    returns-2
+    returns-3
+    (λ c. c .scanned .ensures))
