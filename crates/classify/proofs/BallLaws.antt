@@ -130,7 +130,7 @@ module _ (t : Trixel) {z : ℤ} where
   behind-third e l = and-no-right (positive (dot (bOf t) (ray0 t))) (and-no-right (positive (dot (bOf t) (ray1 t))) (behind e l))
 
 pub behind-balled : (t : Trixel) {b : Vec3} → b ≡ bOf t → ahead (bOf t) t ≡ false → {r : Ball} → r ≡ ballBehind b → Balled t r
-behind-balled t c e w = subst (Balled t) (sym w) (record { b = c; ahead = sym e; reach = λ a. absurd (false≢true a); rest = λ a. absurd (false≢true a) })
+behind-balled t c e w = subst (Balled t) (sym w) (record { b = c; ahead = sym e; reach = λ a. absurd (false≢true a); rest = λ a. absurd (false≢true a); room = λ a. absurd (false≢true a) })
 
 module _ (t : Trixel) (s : Shape) (h : Shaped t s) {x y z : ℤ} where
   pub bounded : Upto (3 * 2 ^ 61) x → Upto (3 * 2 ^ 61) y → Upto (3 * 2 ^ 61) z → Bounded (natAbs x) (natAbs y) (natAbs z) s
@@ -147,4 +147,5 @@ module _ (t : Trixel) (s : Shape) (h : Shaped t s) {x y z : ℤ} where
         ahead = sym (and-both (front e p) (and-both (front f q) (front g r)));
         reach = λ _. sym E;
         rest = λ _ i. dot (c i) (c i) -ℤ square (sym E i);
+        room = λ _. refl;
       })

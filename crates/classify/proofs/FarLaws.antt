@@ -1,9 +1,11 @@
 -- The tests `far` and `enclosed` by what was prepared: the numbers that a program multiplies are those of the rules. Assumes nothing.
-use mathlib.Core.Path.{_≡_, sym, ap, _∙_}
+use Prim.Native.Nat.{_^_}
+use mathlib.Core.Path.{_≡_, refl, sym, ap, subst, _∙_}
 use mathlib.Core.Bool.{Bool, true, false, not, _&&_}
-use lib.IntN.{ℤ, pos, _-ℤ_, _*ℤ_}
-use lib.Signed.{leZ, ltZ}
-use Rattle.algebra.proofs.Tests.{and-then, and-no-left, and-no-right, le-yes, yes-lt, no-lt, no-le, le-not-lt}
+use lib.IntN.{ℤ, pos, natAbs, _-ℤ_, _*ℤ_}
+use lib.Signed.{leZ, ltZ, _≤ℤ_}
+use Rattle.algebra.specs.Sizes.{Upto}
+use Rattle.algebra.proofs.Tests.{and-both, and-then, and-no-left, and-no-right, le-yes, yes-lt, no-lt, no-le, not-le, le-not-lt}
 use Rattle.vector.specs.Vectors.{dot}
 use Rattle.mesh.specs.declared.Trixel.{Trixel}
 use Rattle.classify.specs.declared.Half.{Half}
@@ -11,6 +13,8 @@ use Rattle.classify.specs.declared.Ball.{Ball}
 use Rattle.classify.specs.Shape.{square, positive, bOf, EOf, far}
 use Rattle.classify.specs.Measures.{SoundHalf, Rest, Balled}
 use Rattle.classify.specs.Rays.{enclosed}
+use Rattle.classify.proofs.HalfLaws.{sound-high}
+use Rattle.classify.proofs.RoomLaws.{Beyond, beyond-room, room-upto}
 use Rattle.classify.proofs.BallLaws.{Beside, half-beside, ball-beside, beside-size}
 
 -- ---- what is left of a square length
@@ -23,12 +27,34 @@ module _ {t : Trixel} {m : Ball} (k : Balled t m) (a : m .ahead ≡ true) where
   pub ball-rest : Rest (m .rest)
   ball-rest = record { sign = ball-beside k a .sign; size = beside-size (ball-beside k a) }
 
+module _ {t : Trixel} {m : Ball} (k : Balled t m) (a : m .ahead ≡ true) where
+  pub ball-room : Upto (2 ^ 62) (m .room)
+  ball-room = subst (Upto (2 ^ 62)) (sym (k .room a)) (room-upto (m .rest) (natAbs (m .reach)))
+
+E-pos : (t : Trixel) → pos (natAbs (EOf t)) ≡ EOf t
+unfolding EOf
+E-pos t = refl
+
+reach-pos : {t : Trixel} {m : Ball} → Balled t m → m .ahead ≡ true → pos (natAbs (m .reach)) ≡ m .reach
+reach-pos {t} k a = ap (λ y. pos (natAbs y)) (k .reach a) ∙ E-pos t ∙ sym (k .reach a)
+
 module _ {q : Half} {t : Trixel} {m : Ball} (h : SoundHalf q) (k : Balled t m) (a : m .ahead ≡ true) {z : ℤ} where
   -- z is D·E − c
   pub far-is : z ≡ q .low *ℤ m .reach -ℤ dot (q .f) (m .b) → positive z && ltZ (q .rest *ℤ m .rest) (z *ℤ z) ≡ far (q .f) (q .low) (bOf t) (EOf t)
   far-is e =
       let past : z ≡ q .low *ℤ EOf t -ℤ dot (q .f) (bOf t) = e ∙ (λ i. q .low *ℤ k .reach a i -ℤ dot (q .f) (k .b i)) in
       λ i. positive (past i) && ltZ (half-beside h .is i *ℤ k .rest a i) (past i *ℤ past i)
+
+  -- beyond the room
+  module _ (l : m .room ≤ℤ z) (u : Upto (2 ^ 43) z) where
+    beyond : Beyond (m .rest) (m .reach) z
+    beyond = subst (λ y. Beyond (m .rest) y z) (reach-pos k a) (beyond-room (m .rest) z (natAbs (m .reach)) (ball-rest k a) (subst (λ y. y ≤ℤ z) (k .room a) l) u)
+
+    squares : positive z && ltZ (q .rest *ℤ m .rest) (z *ℤ z) ≡ true
+    squares = and-both (yes-lt (beyond .front)) (yes-lt (beyond .square (q .rest) (half-rest h)))
+
+    pub far-beyond : z ≡ q .low *ℤ m .reach -ℤ dot (q .f) (m .b) → true ≡ far (q .f) (q .low) (bOf t) (EOf t)
+    far-beyond e = sym squares ∙ far-is e
 
   -- z is f·b − G·E
   module _ (e : z ≡ dot (q .f) (m .b) -ℤ q .high *ℤ m .reach) where
@@ -55,6 +81,12 @@ module _ {q : Half} {t : Trixel} {m : Ball} (h : SoundHalf q) (k : Balled t m) (
         (λ i. positive (past i) && ltZ (half-beside h .is i *ℤ k .rest a i) (past i *ℤ past i))
         ∙ ap (λ l. positive (dot (q .f) (bOf t) -ℤ q .high *ℤ EOf t) && l)
         (and-then _ (same-edges w) ∙ and-then _ (ap positive (sym (k .rest a)) ∙ yes-lt (no-le {a = m .rest} {b = pos 0} n)))
+
+module _ {q : Half} {t : Trixel} {m : Ball} (h : SoundHalf q) (k : Balled t m) (a : m .ahead ≡ true) {z : ℤ} where
+  pub enclosed-beyond : m .room ≤ℤ z → Upto (2 ^ 43) z → z ≡ dot (q .f) (m .b) -ℤ q .high *ℤ m .reach → true ≡ enclosed (q .f) (q .low) (q .high) (bOf t) (EOf t)
+  enclosed-beyond l u e =
+      let b = beyond h k a l u in
+      sym (squares h k a l u) ∙ enclosed-is h k a e (not-le (b .rest)) (no-lt (b .edges (q .high) (sound-high h)))
 
 pub no-rest : (q : Half) {t : Trixel} {m : Ball} → Balled t m → m .ahead ≡ true → leZ (m .rest) (pos 0) ≡ true → false ≡ enclosed (q .f) (q .low) (q .high) (bOf t) (EOf t)
 unfolding enclosed

@@ -128,9 +128,6 @@ module _ (q : Half) (t : Trixel) where
     pub when-all : raysPassed (q .f) (q .high) t ≡ All → judged q t ≡ classWithin (q .d)
     when-all e = judged-within q t (within-rays ∙ sym (all-rays (q .f) (q .high) t) ∙ ap isAll e)
 
-    pub when-none : raysPassed (q .f) (q .high) t ≡ None → judged q t ≡ apartClass q t
-    when-none e = none-or-some (ap isAll e)
-
     pub when-some : SoundHalf q → raysPassed (q .f) (q .high) t ≡ Some → judged q t ≡ Partial
     when-some s e =
         none-or-some (ap isAll e)

@@ -10,5 +10,6 @@ pub mod FilterLaws
 pub mod RayLaws
 pub mod JudgedLaws
 pub mod ReachLaws
+pub mod RoomLaws
 pub mod BallLaws
 pub mod FarLaws

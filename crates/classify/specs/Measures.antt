@@ -10,7 +10,9 @@
 --   IsRay v y            y is the ray v with its height
 --   OwnRays s            each ray of s has its own height
 --   Shaped t s           s has the rays of t and whether V > 0
---   Balled t m           m has b and E of t: whether b is ahead of the rays, and then E and b·b − E²
+--   Balled t m           m has b and E of t: whether b is ahead of the rays, and then E, b·b − E² and their room
+--   rootAbove s          a number whose square is not below s, for s up to 2⁴² (proofs/RoomLaws)
+--   roomOf rest e        the bound beyond which every halfspace is settled (proofs/RoomLaws)
 --   ballAhead b e, ballBehind b   what is kept of b where it is ahead of the rays and reaches e, and where it is not ahead
 --   reachAll x0 x1 x2 s n    n² (r·r) ≤ x² for each ray r of s and its x: where each x is b·r, and positive, b reaches n at all three
 --   greatestReach x0 x1 x2 s   the greatest such n up to K, which is E (proofs/ReachLaws)
@@ -19,9 +21,9 @@
 use Prim.Native.Nat.{ℕ, _+_, _*_, _/_, _^_, _≤_, _<_}
 use mathlib.Core.Path.{_≡_}
 use mathlib.Core.Bool.{Bool, true, false, cond, _&&_}
-use lib.Dec.{T, leb}
+use lib.Dec.{T, leb, ltb}
 use lib.IntN.{ℤ, pos, natAbs, _-ℤ_}
-use lib.Signed.{nonNeg}
+use lib.Signed.{nonNeg, leZ}
 use Rattle.algebra.specs.Sizes.{Upto}
 use Rattle.vector.specs.declared.Vec3.{Vec3}
 use Rattle.vector.specs.Numbers.{Kℕ, greatest}
@@ -99,17 +101,29 @@ pub record Shaped (t : Trixel) (s : Shape) : Type 0 where
   pub r2 : IsRay (ray2 t) (s .r2)
   pub solid : s .solid ≡ positive (volume t)
 
+unfoldable pub rootAbove : ℕ → ℕ
+rootAbove s =
+    cond (ltb s 65536) 256
+    (cond (ltb s 1048576) 1024
+    (cond (ltb s 16777216) 4096
+    (cond (ltb s 268435456) 16384
+    (cond (ltb s 4294967296) 65536 2097152))))
+
+unfoldable pub roomOf : ℤ → ℕ → ℤ
+roomOf rest e = cond (leZ rest (pos 0)) (pos (2 ^ 62)) (cond (ltb e (rootAbove (natAbs rest))) (pos (2 ^ 62)) (pos (2097152 * rootAbove (natAbs rest))))
+
 pub record Balled (t : Trixel) (m : Ball) : Type 0 where
   pub b : m .b ≡ bOf t
   pub ahead : m .ahead ≡ ahead (bOf t) t
   pub reach : m .ahead ≡ true → m .reach ≡ EOf t
   pub rest : m .ahead ≡ true → m .rest ≡ dot (bOf t) (bOf t) -ℤ square (EOf t)
+  pub room : m .ahead ≡ true → m .room ≡ roomOf (m .rest) (natAbs (m .reach))
 
 abbrev pub ballAhead : Vec3 → ℕ → Ball
-ballAhead b e = record { ahead = true; b = b; reach = pos e; rest = dot b b -ℤ square (pos e) }
+ballAhead b e = record { ahead = true; b = b; reach = pos e; rest = dot b b -ℤ square (pos e); room = roomOf (dot b b -ℤ square (pos e)) e }
 
 abbrev pub ballBehind : Vec3 → Ball
-ballBehind b = record { ahead = false; b = b; reach = pos 0; rest = pos 0 }
+ballBehind b = record { ahead = false; b = b; reach = pos 0; rest = pos 0; room = pos 0 }
 
 -- ---- E by numbers without a sign: x0 x1 x2 are b·r for the three rays
 

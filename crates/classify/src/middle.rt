@@ -21,9 +21,11 @@ ghost use Rattle.mesh.specs.Corners.{SmallTrixel};
 ghost use Rattle.classify.specs.Shape as rule;
 ghost use Rattle.classify.specs.Shape.{positive, ahead, bOf, EOf};
 ghost use Rattle.classify.specs.Rays.{enclosed};
-ghost use Rattle.classify.specs.Measures.{SoundHalf, Rest, Shaped, Balled, reachAll, greatestReach, Bounded, Spanned, ballAhead, ballBehind};
+ghost use Rattle.classify.specs.Measures.{SoundHalf, Rest, rootAbove, roomOf, Shaped, Balled, reachAll, greatestReach, Bounded, Spanned, ballAhead, ballBehind};
 
 const K: u64 = 1048576;
+
+const NEVER: i64 = 4611686018427387904;
 
 // Where E lies: `low` is reached, and no number from `high` up to K is.
 pub struct Span {
@@ -122,6 +124,44 @@ fn along(b: Vec3, y: Ray) -> i64
     vector::dot(b, r)
 }
 
+// A number whose square is not below s, for s up to 2^42.
+fn root_above(s: u64) -> u64
+    ensures { λ r. ⌜ r ≡ rootAbove s ⌝ }
+{
+    if s < 65536 {
+        return 256;
+    }
+    if s < 1048576 {
+        return 1024;
+    }
+    if s < 16777216 {
+        return 4096;
+    }
+    if s < 268435456 {
+        return 16384;
+    }
+    if s < 4294967296 {
+        return 65536;
+    }
+    2097152
+}
+
+// The bound beyond which every halfspace is settled, for the rest b·b − E² and E: 2^21 times a number whose square is not below the rest. It is out of
+// reach where there is no rest, or that number is above E.
+fn room_of(rest: i64, reach: u64) -> i64
+    requires { ⌜ Upto (2 ^ 63 - 1) rest ⌝ }
+    ensures { λ z. ⌜ z ≡ roomOf rest reach ⌝ }
+{
+    if rest <= 0 {
+        return NEVER;
+    }
+    let r = root_above(rest as u64);
+    if reach < r {
+        return NEVER;
+    }
+    (2097152 * r) as i64
+}
+
 // The ball where b is not ahead of every ray: E is not needed.
 fn ball_behind(b: Vec3) -> Ball
     ensures { λ r. ⌜ r ≡ ballBehind b ⌝ }
@@ -131,6 +171,7 @@ fn ball_behind(b: Vec3) -> Ball
         b: b,
         reach: 0,
         rest: 0,
+        room: 0,
     }
 }
 
@@ -140,12 +181,15 @@ fn ball_ahead(b: Vec3, x0: u64, x1: u64, x2: u64, s: Shape) -> Ball
     requires { ⌜ Bounded x0 x1 x2 s ⌝ }
     ensures { λ r. ⌜ r ≡ ballAhead b (greatestReach x0 x1 x2 s) ⌝ }
 {
-    let e = greatest_reach(x0, x1, x2, s) as i64;
+    let n = greatest_reach(x0, x1, x2, s);
+    let e = n as i64;
+    let rest = vector::dot(b, b) - e * e;
     Ball {
         ahead: true,
         b: b,
         reach: e,
-        rest: vector::dot(b, b) - e * e,
+        rest: rest,
+        room: room_of(rest, n),
     }
 }
 
@@ -228,6 +272,9 @@ pub fn far(q: Half, t: Trixel, m: Ball) -> bool
     let f = q.f;
     let b = m.b;
     let past = q.low * m.reach - vector::dot(f, b);
+    if m.room <= past {
+        return true;
+    }
     beyond(past, q.rest, m.rest)
 }
 
@@ -244,6 +291,9 @@ pub fn encloses(q: Half, t: Trixel, m: Ball) -> bool
     let f = q.f;
     let b = m.b;
     let inward = vector::dot(f, b) - q.high * m.reach;
+    if m.room <= inward {
+        return true;
+    }
     if m.rest <= 0 {
         return false;
     }

@@ -1,13 +1,17 @@
 -- `classify::middle::ball_ahead` is the ball of b and E: b·b is at most 3·2⁶¹ in size, and E² at most 2⁴⁰. Assumes nothing.
 use native.Mathlib.Omega.{arith}
-use mathlib.Core.Path.{ap, _∙_}
+use Prim.Native.Nat.{_^_}
+use mathlib.Core.Path.{sym, ap, subst, _∙_}
 use mathlib.Core.Bool.{true}
 use lib.Dec.{lit≤}
-use lib.IntN.{pos, _-ℤ_}
-use Rattle.algebra.proofs.Sized.{Is, held, nat, is-mul, is-sub, fits-mul, fits-sub}
+use lib.IntN.{pos, _-ℤ_, _*ℤ_}
+use Rattle.algebra.specs.Sizes.{Upto}
+use Rattle.algebra.proofs.Sized.{Is, held, nat, is-mul, is-sub, fits-mul, fits-sub, upto-mono}
 use Rattle.vector.specs.Numbers.{Kℕ}
 use Rattle.vector.proofs.SizeLaws.{at-most-mono}
 use Rattle.classify.specs.Shape.{square}
+use Rattle.classify.specs.Measures.{roomOf}
+use Rattle.classify.proofs.RoomLaws.{room-upto}
 use Rattle.classify.proofs.middle.ball_ahead.Statement.{statement}
 use Rattle.classify.proofs.middle.ball_ahead.Tie as tie
 
@@ -16,10 +20,14 @@ reach c = nat (c .greatest-reach .ensures .1) tt
 
 returns : tie.Need-returns
 returns c =
-    let g = c .before .greatest-reach .ensures .0 in
-    let e = reach (c .before) .eq ∙ ap pos g in
-    let r = is-sub (held (c .dot .ensures .1) tt) (is-mul (reach (c .before)) (reach (c .before)) tt) tt .eq ∙ (λ i. c .dot .ensures .0 i -ℤ square (pos (g i))) in
-    λ i. record { ahead = true; b = c .before .before .args .b; reach = e i; rest = r i }
+    let d = c .before in
+    let g = c .before .before .greatest-reach .ensures .0 in
+    let e = reach (c .before .before) .eq ∙ ap pos g in
+    let w = is-sub (held (d .dot .ensures .1) tt) (is-mul (reach (d .before)) (reach (d .before)) tt) tt in
+    let r = w .eq ∙ (λ i. d .dot .ensures .0 i -ℤ square (pos (g i))) in
+    let u = subst (Upto (2 ^ 62)) (sym (c .room-of .ensures)) (room-upto _ _) in
+    let z = held u tt .eq ∙ c .room-of .ensures ∙ (λ i. roomOf (r i) (g i)) in
+    λ i. record { ahead = true; b = c .before .before .before .args .b; reach = e i; rest = r i; room = z i }
 
 pub ball-ahead-spec : {M : Type 1} → statement M
 ball-ahead-spec =
@@ -30,4 +38,5 @@ ball-ahead-spec =
     (λ c κs. (c .before .pre .0, at-most-mono (lit≤ tt) (c .before .pre .0)))
     (λ c. fits-mul (reach (c .before)) (reach (c .before)) tt)
     (λ c. fits-sub (held (c .dot .ensures .1) tt) (is-mul (reach (c .before)) (reach (c .before)) tt) tt)
+    (λ c κs. let w = is-sub (held (c .dot .ensures .1) tt) (is-mul (reach (c .before)) (reach (c .before)) tt) tt in rw (w .eq) (upto-mono (lit≤ tt) (w .size)))
     returns)

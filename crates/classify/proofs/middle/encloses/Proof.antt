@@ -8,14 +8,14 @@ use lib.IntN.{pos, _-ℤ_, _*ℤ_}
 use lib.Signed.{leZ, ltZ}
 use borrow.Author.Tests.{not-true, not-false}
 use Rattle.algebra.specs.Sizes.{Upto}
-use Rattle.algebra.proofs.Tests.{and-then, and-no-left}
-use Rattle.algebra.proofs.Sized.{held, upto-mono, is-mul, is-sub, fits-mul, fits-sub, same-lt}
+use Rattle.algebra.proofs.Tests.{and-then, and-no-left, le-yes}
+use Rattle.algebra.proofs.Sized.{held, upto-mono, is-mul, is-sub, fits-mul, fits-sub, same-lt, same-le}
 use Rattle.vector.specs.Numbers.{Kℕ}
 use Rattle.vector.proofs.SizeLaws.{at-most-mono, dot-upto}
 use Rattle.classify.specs.Shape.{positive, ahead, bOf}
 use Rattle.classify.proofs.HalfLaws.{sound-near}
 use Rattle.classify.proofs.BallLaws.{Beside, half-beside, ball-beside}
-use Rattle.classify.proofs.FarLaws.{half-rest, ball-rest, no-rest, too-wide, enclosed-is}
+use Rattle.classify.proofs.FarLaws.{half-rest, ball-rest, ball-room, no-rest, too-wide, enclosed-is, enclosed-beyond}
 use Rattle.classify.proofs.middle.encloses.Statement.{statement}
 use Rattle.classify.proofs.middle.encloses.Tie as tie
 
@@ -39,43 +39,55 @@ behind c = sym (and-no-left _ (sym (c .before .before .pre .1 .ahead) ∙ not-tr
 in-front : (c : tie.Else1) (b : Bool) → b ≡ ahead (bOf (c .before .before .args .t)) (c .before .before .args .t) && b
 in-front c b = and-then b (sym (c .before .before .pre .1 .ahead) ∙ not-false _ (c .if1 .left))
 
+-- beyond the room
 returns-2 : tie.Need-returns-2
 returns-2 c =
+    let d = c .before .before .before .before .before .before .before in
     let e = c .before .before .before .before .before .before .before .before .before .before in
     let s = e .before .before in
-    no-rest (s .args .q) (s .pre .1) (not-false _ (e .if1 .left)) (ap (λ x. leZ x (pos 0)) (sym (held (rest e) tt .eq)) ∙ c .if2 .taken) ∙ in-front e _
+    let a = not-false _ (e .if1 .left) in
+    let z = is-sub (held (along d) tt) (is-mul (held (sound-near (s .pre .0)) tt) (held (ball e .size) tt) tt) tt in
+    let l = sym (same-le (held (ball-room (s .pre .1) a) tt) z) ∙ c .if2 .taken in
+    enclosed-beyond (s .pre .0) (s .pre .1) a (le-yes l) (upto-mono (lit≤ tt) (z .size)) (ap (λ x. x -ℤ s .args .q .high *ℤ s .args .m .reach) (d .dot .ensures .0))
+    ∙ in-front e _
 
-mul-if3 : tie.Need-mul-if3
-mul-if3 c =
-    let e = c .before .before .before .before .before .before .before .before .before .before .before .before in
-    fits-mul (is-sub (held (along (c .before .before .before .before .before .before .before .before .before)) tt) (is-mul (held (sound-near (e .before .before .pre .0)) tt) (held (ball e .size) tt) tt) tt) (held (ball e .size) tt) tt
-
--- M·E against S·G, by the numbers themselves
 returns-3 : tie.Need-returns-3
 returns-3 c =
-    let d = c .before .before .before .before .before .before .before .before .before .before .before .before .before .before in
-    let e = c .before .before .before .before .before .before .before .before .before .before .before .before .before .before .before .before .before in
+    let e = c .before .before .before .before .before .before .before .before .before .before .before .before .before in
+    let s = e .before .before in
+    no-rest (s .args .q) (s .pre .1) (not-false _ (e .if1 .left)) (ap (λ x. leZ x (pos 0)) (sym (held (rest e) tt .eq)) ∙ c .if3 .taken) ∙ in-front e _
+
+mul-if4 : tie.Need-mul-if4
+mul-if4 c =
+    let e = c .before .before .before .before .before .before .before .before .before .before .before .before .before .before .before in
+    fits-mul (is-sub (held (along (c .before .before .before .before .before .before .before .before .before .before .before .before)) tt) (is-mul (held (sound-near (e .before .before .pre .0)) tt) (held (ball e .size) tt) tt) tt) (held (ball e .size) tt) tt
+
+-- M·E against S·G, by the numbers themselves
+returns-4 : tie.Need-returns-4
+returns-4 c =
+    let d = c .before .before .before .before .before .before .before .before .before .before .before .before .before .before .before .before .before in
+    let e = c .before .before .before .before .before .before .before .before .before .before .before .before .before .before .before .before .before .before .before .before in
     let s = e .before .before in
     let high = held (sound-near (s .pre .0)) tt in
     let reach = held (ball e .size) tt in
     let z = is-sub (held (along d) tt) (is-mul high reach tt) tt in
     too-wide (s .pre .0) (s .pre .1) (not-false _ (e .if1 .left)) (ap (λ x. x -ℤ s .args .q .high *ℤ s .args .m .reach) (d .dot .ensures .0))
-    (sym (same-lt (is-mul z reach tt) (is-mul (held (rest e) tt) high tt)) ∙ c .if3 .taken)
+    (sym (same-lt (is-mul z reach tt) (is-mul (held (rest e) tt) high tt)) ∙ c .if4 .taken)
     ∙ in-front e _
 
 beyond-requires : tie.Need-beyond-requires
 beyond-requires c κs =
-    let e = c .before .before .before .before .before .before .before .before .before .before .before .before .before .before .before .before .before .before .before in
+    let e = c .before .before .before .before .before .before .before .before .before .before .before .before .before .before .before .before .before .before .before .before .before .before in
     let s = e .before .before in
-    let z = is-sub (held (along (c .before .before .before .before .before .before .before .before .before .before .before .before .before .before .before .before)) tt) (is-mul (held (sound-near (s .pre .0)) tt) (held (ball e .size) tt) tt) tt in
+    let z = is-sub (held (along (c .before .before .before .before .before .before .before .before .before .before .before .before .before .before .before .before .before .before .before)) tt) (is-mul (held (sound-near (s .pre .0)) tt) (held (ball e .size) tt) tt) tt in
     let p = half-rest (s .pre .0) in
     let q = ball-rest (s .pre .1) (not-false _ (e .if1 .left)) in
     (rw (z .eq) (upto-mono (lit≤ tt) (z .size)), (rw (held (p .size) tt .eq) p, rw (held (q .size) tt .eq) q))
 
-returns-4 : tie.Need-returns-4
-returns-4 c =
-    let d = c .before .before .before .before .before .before .before .before .before .before .before .before .before .before .before .before .before in
-    let e = c .before .before .before .before .before .before .before .before .before .before .before .before .before .before .before .before .before .before .before .before in
+returns-5 : tie.Need-returns-5
+returns-5 c =
+    let d = c .before .before .before .before .before .before .before .before .before .before .before .before .before .before .before .before .before .before .before .before in
+    let e = c .before .before .before .before .before .before .before .before .before .before .before .before .before .before .before .before .before .before .before .before .before .before .before in
     let s = e .before .before in
     let high = held (sound-near (s .pre .0)) tt in
     let reach = held (ball e .size) tt in
@@ -85,8 +97,8 @@ returns-4 c =
     c .beyond .ensures
     ∙ (λ i. positive (z .eq i) && ltZ (p .eq i *ℤ q .eq i) (z .eq i *ℤ z .eq i))
     ∙ enclosed-is (s .pre .0) (s .pre .1) (not-false _ (e .if1 .left)) (ap (λ x. x -ℤ s .args .q .high *ℤ s .args .m .reach) (d .dot .ensures .0))
-    (ap (λ x. leZ x (pos 0)) (sym (q .eq)) ∙ c .before .before .before .before .before .before .before .before .before .before .if2 .left)
-    (sym (same-lt (is-mul z reach tt) (is-mul q high tt)) ∙ c .before .before .before .if3 .left)
+    (ap (λ x. leZ x (pos 0)) (sym (q .eq)) ∙ c .before .before .before .before .before .before .before .before .before .before .if3 .left)
+    (sym (same-lt (is-mul z reach tt) (is-mul q high tt)) ∙ c .before .before .before .if4 .left)
     ∙ in-front e _
 
 pub encloses-spec : {M : Type 1} → statement M
@@ -98,8 +110,9 @@ encloses-spec =
     (λ c. let e = c .before .before .before .before .before .before .before in fits-mul (held (sound-near (e .before .before .pre .0)) tt) (held (ball e .size) tt) tt)
     (λ c. let e = c .before .before .before .before .before .before .before in fits-sub (held (along (c .before .before .before .before)) tt) (is-mul (held (sound-near (e .before .before .pre .0)) tt) (held (ball e .size) tt) tt) tt)
     returns-2
-    mul-if3
-    (λ c. let e = c .before .before .before .before .before .before .before .before .before .before .before .before .before .before .before .before in fits-mul (held (rest e) tt) (held (sound-near (e .before .before .pre .0)) tt) tt)
     returns-3
+    mul-if4
+    (λ c. let e = c .before .before .before .before .before .before .before .before .before .before .before .before .before .before .before .before .before .before .before in fits-mul (held (rest e) tt) (held (sound-near (e .before .before .pre .0)) tt) tt)
+    returns-4
     beyond-requires
-    returns-4)
+    returns-5)

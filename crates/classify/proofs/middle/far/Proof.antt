@@ -1,17 +1,20 @@
 -- `classify::middle::far` is the test: D·E − c stays below 2⁶³. Assumes nothing.
+use Prim.Native.Nat.{_+_, _*_}
 use mathlib.Core.Path.{ap, subst, sym, _∙_}
 use mathlib.Core.Bool.{_&&_}
 use lib.Dec.{lit≤}
 use lib.IntN.{_-ℤ_, _*ℤ_}
 use lib.Signed.{ltZ}
+use Rattle.algebra.specs.Sizes.{Upto}
 use borrow.Author.Tests.{not-true, not-false}
-use Rattle.algebra.proofs.Tests.{and-then, and-no-left}
-use Rattle.algebra.proofs.Sized.{held, upto-mono, is-mul, is-sub, fits-mul, fits-sub}
-use Rattle.vector.proofs.SizeLaws.{at-most-mono}
+use Rattle.algebra.proofs.Tests.{and-then, and-no-left, le-yes}
+use Rattle.algebra.proofs.Sized.{held, upto-mono, is-mul, is-sub, fits-mul, fits-sub, same-le}
+use Rattle.vector.specs.Numbers.{Kℕ}
+use Rattle.vector.proofs.SizeLaws.{at-most-mono, dot-upto}
 use Rattle.classify.specs.Shape.{positive}
 use Rattle.classify.specs.Measures.{Rest}
 use Rattle.classify.proofs.BallLaws.{Beside, half-beside, ball-beside}
-use Rattle.classify.proofs.FarLaws.{half-rest, ball-rest, far-is}
+use Rattle.classify.proofs.FarLaws.{half-rest, ball-rest, ball-room, far-is, far-beyond}
 use Rattle.classify.proofs.middle.far.Statement.{statement}
 use Rattle.classify.proofs.middle.far.Tie as tie
 
@@ -21,20 +24,36 @@ half c = half-beside (c .pre .0)
 ball : (c : tie.Else1) → Beside (c .before .before .args .m .b) (c .before .before .args .m .reach) (c .before .before .args .m .rest)
 ball c = ball-beside (c .before .before .pre .1) (not-false _ (c .if1 .left))
 
-beyond-requires : tie.Need-beyond-requires
-beyond-requires c κs =
-    let e = c .before .before .before .before .before .before .before .before .before in
-    let s = c .before .before .before .before .before .before .before .before .before .before .before in
-    let z = is-sub (is-mul (held (half s .size) tt) (held (ball e .size) tt) tt) (held (c .before .before .dot .ensures .1) tt) tt in
-    let p = half-rest (s .pre .0) in
-    let q = ball-rest (s .pre .1) (not-false _ (e .if1 .left)) in
-    (rw (z .eq) (upto-mono (lit≤ tt) (z .size)), (rw (held (p .size) tt .eq) p, rw (held (q .size) tt .eq) q))
+-- c
+along : (c : tie.After-dot) → Upto (Kℕ * Kℕ + Kℕ * Kℕ + Kℕ * Kℕ) (c .dot .result)
+along c = subst (Upto (Kℕ * Kℕ + Kℕ * Kℕ + Kℕ * Kℕ)) (sym (c .dot .ensures .0)) (dot-upto (half (c .before .before .before .before .before .before .before .before .before) .small) (ball (c .before .before .before .before .before .before .before) .small))
 
+-- beyond the room
 returns-2 : tie.Need-returns-2
 returns-2 c =
     let d = c .before .before .before in
     let e = c .before .before .before .before .before .before .before .before .before .before in
     let s = c .before .before .before .before .before .before .before .before .before .before .before .before in
+    let a = not-false _ (e .if1 .left) in
+    let z = is-sub (is-mul (held (half s .size) tt) (held (ball e .size) tt) tt) (held (along d) tt) tt in
+    let l = sym (same-le (held (ball-room (s .pre .1) a) tt) z) ∙ c .if2 .taken in
+    far-beyond (s .pre .0) (s .pre .1) a (le-yes l) (upto-mono (lit≤ tt) (z .size)) (ap (λ x. s .args .q .low *ℤ s .args .m .reach -ℤ x) (d .dot .ensures .0))
+    ∙ and-then _ (sym (s .pre .1 .ahead) ∙ a)
+
+beyond-requires : tie.Need-beyond-requires
+beyond-requires c κs =
+    let e = c .before .before .before .before .before .before .before .before .before .before .before .before in
+    let s = c .before .before .before .before .before .before .before .before .before .before .before .before .before .before in
+    let z = is-sub (is-mul (held (half s .size) tt) (held (ball e .size) tt) tt) (held (c .before .before .before .before .before .dot .ensures .1) tt) tt in
+    let p = half-rest (s .pre .0) in
+    let q = ball-rest (s .pre .1) (not-false _ (e .if1 .left)) in
+    (rw (z .eq) (upto-mono (lit≤ tt) (z .size)), (rw (held (p .size) tt .eq) p, rw (held (q .size) tt .eq) q))
+
+returns-3 : tie.Need-returns-3
+returns-3 c =
+    let d = c .before .before .before .before .before .before in
+    let e = c .before .before .before .before .before .before .before .before .before .before .before .before .before in
+    let s = c .before .before .before .before .before .before .before .before .before .before .before .before .before .before .before in
     let a = not-false _ (e .if1 .left) in
     let z = is-sub (is-mul (held (half s .size) tt) (held (ball e .size) tt) tt) (held (d .dot .ensures .1) tt) tt in
     let p = held (half-rest (s .pre .0) .size) tt in
@@ -52,5 +71,6 @@ far-spec =
     (λ c. let e = c .before .before .before .before .before .before in fits-mul (held (half (c .before .before .before .before .before .before .before .before) .size) tt) (held (ball e .size) tt) tt)
     (λ c κs. (half (c .before .before .before .before .before .before .before .before) .small, at-most-mono (lit≤ tt) (ball (c .before .before .before .before .before .before) .small)))
     (λ c. fits-sub (is-mul (held (half (c .before .before .before .before .before .before .before .before .before) .size) tt) (held (ball (c .before .before .before .before .before .before .before) .size) tt) tt) (held (c .dot .ensures .1) tt) tt)
+    returns-2
     beyond-requires
-    returns-2)
+    returns-3)
