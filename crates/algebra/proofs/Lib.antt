@@ -11,3 +11,4 @@ pub mod Sized
 pub mod Tests
 pub mod Reciprocal
 pub mod Filters
+pub mod Moved

@@ -48,7 +48,7 @@ pub record Beside (v : Vec3) (e rest : ℤ) : Type 0 where
 less-taken : (a b : ℤ) → pos 0 ≤ℤ b → (a -ℤ b) ≤ℤ a
 less-taken = prove 2 (λ a b. record { given = (`0 :≤ b) ∷ []; goal = a :- b :≤ a; cert = hyp 0 }) refl
 
-unsigned-upto : (z : ℤ) {n : ℕ} → T (nonNeg z) → z ≤ℤ pos n → Upto n z
+pub unsigned-upto : (z : ℤ) {n : ℕ} → T (nonNeg z) → z ≤ℤ pos n → Upto n z
 unsigned-upto (pos m) {n} t h = record { le = leb→le m n (h .le) }
 unsigned-upto (negsuc m) t h = absurd t
 
@@ -101,6 +101,9 @@ E-beside t a = record {
   sign = yes-nonNeg
       (gap-nn (reach-at-most (v3 (bOf t)) (v3 (ray0 t)) (EOf t) (lt-yes (and-left (positive (dot (bOf t) (ray0 t))) _ a)) (le-yes (and-left (reachesRay (bOf t) (EOf t) (ray0 t)) _ (E-reaches t)))));
 }
+
+pub ball-small : {t : Trixel} {m : Ball} → Balled t m → Small (m .b)
+ball-small {t} h = subst Small (sym (h .b)) (b-small t)
 
 pub ball-beside : {t : Trixel} {m : Ball} → Balled t m → m .ahead ≡ true → Beside (m .b) (m .reach) (m .rest)
 ball-beside {t} {m} h a = rw (h .b, h .reach a, h .rest a) (E-beside t (rw (h .ahead) at a))

@@ -1,9 +1,10 @@
 -- The tests `far` and `enclosed` by what was prepared: the numbers that a program multiplies are those of the rules. Assumes nothing.
-use Prim.Native.Nat.{_^_}
+use Prim.Native.Nat.{ℕ, _^_}
 use mathlib.Core.Path.{_≡_, refl, sym, ap, subst, _∙_}
 use mathlib.Core.Bool.{Bool, true, false, not, _&&_}
+use lib.Dec.{T}
 use lib.IntN.{ℤ, pos, natAbs, _-ℤ_, _*ℤ_}
-use lib.Signed.{leZ, ltZ, _≤ℤ_}
+use lib.Signed.{nonNeg, leZ, ltZ, _≤ℤ_}
 use Rattle.algebra.specs.Sizes.{Upto}
 use Rattle.algebra.proofs.Tests.{and-both, and-then, and-no-left, and-no-right, le-yes, yes-lt, no-lt, no-le, not-le, le-not-lt}
 use Rattle.vector.specs.Vectors.{dot}
@@ -14,8 +15,8 @@ use Rattle.classify.specs.Shape.{square, positive, bOf, EOf, far}
 use Rattle.classify.specs.Measures.{SoundHalf, Rest, Balled}
 use Rattle.classify.specs.Rays.{enclosed}
 use Rattle.classify.proofs.HalfLaws.{sound-high}
-use Rattle.classify.proofs.RoomLaws.{Beyond, beyond-room, room-upto}
-use Rattle.classify.proofs.BallLaws.{Beside, half-beside, ball-beside, beside-size}
+use Rattle.classify.proofs.RoomLaws.{Beyond, beyond-room, room-upto, room-sign}
+use Rattle.classify.proofs.BallLaws.{Beside, unsigned-upto, half-beside, ball-beside, beside-size}
 
 -- ---- what is left of a square length
 
@@ -30,6 +31,9 @@ module _ {t : Trixel} {m : Ball} (k : Balled t m) (a : m .ahead ≡ true) where
 module _ {t : Trixel} {m : Ball} (k : Balled t m) (a : m .ahead ≡ true) where
   pub ball-room : Upto (2 ^ 62) (m .room)
   ball-room = subst (Upto (2 ^ 62)) (sym (k .room a)) (room-upto (m .rest) (natAbs (m .reach)))
+
+  pub room-below : {n : ℕ} → leZ (m .room) (pos n) ≡ true → Upto n (m .room)
+  room-below e = unsigned-upto (m .room) (subst (λ z. T (nonNeg z)) (sym (k .room a)) (room-sign (m .rest) (natAbs (m .reach)))) (le-yes e)
 
 E-pos : (t : Trixel) → pos (natAbs (EOf t)) ≡ EOf t
 unfolding EOf

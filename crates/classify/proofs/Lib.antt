@@ -13,3 +13,4 @@ pub mod ReachLaws
 pub mod RoomLaws
 pub mod BallLaws
 pub mod FarLaws
+pub mod NearLaws

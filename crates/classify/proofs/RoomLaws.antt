@@ -51,6 +51,10 @@ room-upto S e =
     split (leZ S (pos 0)) (λ a. rw a (record { le = omega arith }))
     (λ a. rw a (split (ltb e (rootAbove (natAbs S))) (λ b. rw b (record { le = omega arith })) (λ b. rw b (record { le = omega arith }))))
 
+pub room-sign : (S : ℤ) (e : ℕ) → T (nonNeg (roomOf S e))
+unfolding roomOf
+room-sign S e = split (leZ S (pos 0)) (λ a. rw a tt) (λ a. rw a (split (ltb e (rootAbove (natAbs S))) (λ b. rw b tt) (λ b. rw b tt)))
+
 -- ---- of numbers
 
 beyond-square : (M S r p : ℤ) → (pos 2097152 *ℤ r) ≤ℤ M → S ≤ℤ (r *ℤ r) → p ≤ℤ pos 3298534883328 → pos 0 <ℤ S → pos 0 ≤ℤ r → (p *ℤ S) <ℤ (M *ℤ M)

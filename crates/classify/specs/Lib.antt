@@ -2,3 +2,4 @@ pub mod Shape
 pub mod Classes
 pub mod Measures
 pub mod Rays
+pub mod Near

@@ -23,7 +23,7 @@ pub fn class_within(d: i64) -> Class
 }
 
 // The class where apart holds.
-fn class_apart(d: i64) -> Class
+pub fn class_apart(d: i64) -> Class
     ensures { λ r. ⌜ r ≡ classApart d ⌝ }
 {
     if d < 0 {

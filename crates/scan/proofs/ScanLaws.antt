@@ -25,7 +25,7 @@ use Rattle.classify.proofs.JudgedLaws.{judged-is}
 
 -- ---- classes put together
 
-meet-assoc : (a b c : Class) → meet (meet a b) c ≡ meet a (meet b c)
+pub meet-assoc : (a b c : Class) → meet (meet a b) c ≡ meet a (meet b c)
 meet-assoc Outside b c = refl
 meet-assoc Partial Outside c = refl
 meet-assoc Partial Partial Outside = refl
@@ -34,7 +34,7 @@ meet-assoc Partial Partial Full = refl
 meet-assoc Partial Full c = refl
 meet-assoc Full b c = refl
 
-join-assoc : (a b c : Class) → join (join a b) c ≡ join a (join b c)
+pub join-assoc : (a b c : Class) → join (join a b) c ≡ join a (join b c)
 join-assoc Full b c = refl
 join-assoc Partial Full c = refl
 join-assoc Partial Partial Outside = refl
@@ -43,12 +43,12 @@ join-assoc Partial Partial Full = refl
 join-assoc Partial Outside c = refl
 join-assoc Outside b c = refl
 
-meet-full : (a : Class) → meet a Full ≡ a
+pub meet-full : (a : Class) → meet a Full ≡ a
 meet-full Outside = refl
 meet-full Partial = refl
 meet-full Full = refl
 
-join-outside : (a : Class) → join a Outside ≡ a
+pub join-outside : (a : Class) → join a Outside ≡ a
 join-outside Outside = refl
 join-outside Partial = refl
 join-outside Full = refl
@@ -72,17 +72,17 @@ join-cons Partial false true = refl
 join-cons Partial false false = refl
 join-cons Outside f o = refl
 
-convex-cons : (h : Halfspace) (hs : Convex) (t : Trixel) → convexClass (h ∷ hs) t ≡ meet (halfspaceClass h t) (convexClass hs t)
+pub convex-cons : (h : Halfspace) (hs : Convex) (t : Trixel) → convexClass (h ∷ hs) t ≡ meet (halfspaceClass h t) (convexClass hs t)
 unfolding convexClass some every
 convex-cons h hs t = meet-cons (halfspaceClass h t) (some (λ x. isOutside (halfspaceClass x t)) hs) (every (λ x. isFull (halfspaceClass x t)) hs)
 
-region-cons : (c : Convex) (cs : Region) (t : Trixel) → regionClass (c ∷ cs) t ≡ join (convexClass c t) (regionClass cs t)
+pub region-cons : (c : Convex) (cs : Region) (t : Trixel) → regionClass (c ∷ cs) t ≡ join (convexClass c t) (regionClass cs t)
 unfolding regionClass some every
 region-cons c cs t = join-cons (convexClass c t) (some (λ x. isFull (convexClass x t)) cs) (every (λ x. isOutside (convexClass x t)) cs)
 
 -- ---- lists
 
-next : {A : Type 0} (k : ℕ) (l : List A) → drop (suc k) l ≡ drop 1 (drop k l)
+pub next : {A : Type 0} (k : ℕ) (l : List A) → drop (suc k) l ≡ drop 1 (drop k l)
 next k l = let e : suc k ≡ k + 1 = omega arith in ap (λ m. drop m l) e ∙ sym (drop-drop 1 k l)
 
 pub length-sevens : (c : Convex) → length (convexSevens c) ≡ 7 * length c
@@ -90,15 +90,15 @@ unfolding convexSevens
 length-sevens [] = refl
 length-sevens (h ∷ hs) = omega (arith, length-sevens hs)
 
-convex-numbers : (h : Halfspace) (hs : Convex) (l : List ℤ) → convexSevens (h ∷ hs) ++ l ≡ seven (prepared h) ++ (convexSevens hs ++ l)
+pub convex-numbers : (h : Halfspace) (hs : Convex) (l : List ℤ) → convexSevens (h ∷ hs) ++ l ≡ seven (prepared h) ++ (convexSevens hs ++ l)
 unfolding convexSevens
 convex-numbers h hs l = refl
 
-region-numbers : (c : Convex) (cs : Region) (l : List ℤ) → sevens (c ∷ cs) ++ l ≡ convexSevens c ++ (sevens cs ++ l)
+pub region-numbers : (c : Convex) (cs : Region) (l : List ℤ) → sevens (c ∷ cs) ++ l ≡ convexSevens c ++ (sevens cs ++ l)
 unfolding sevens
 region-numbers c cs l = append-assoc (convexSevens c) (sevens cs) l
 
-region-ends : (n : ℕ) (c : Convex) (cs : Region) (l : List ℕ) → endsFrom n (c ∷ cs) ++ l ≡ (n + length c) ∷ (endsFrom (n + length c) cs ++ l)
+pub region-ends : (n : ℕ) (c : Convex) (cs : Region) (l : List ℕ) → endsFrom n (c ∷ cs) ++ l ≡ (n + length c) ∷ (endsFrom (n + length c) cs ++ l)
 unfolding endsFrom
 region-ends n c cs l = refl
 
@@ -110,12 +110,12 @@ pub convex-good : (h : Halfspace) (hs : Convex) → goodConvex (h ∷ hs) ≡ tr
 unfolding goodConvex every
 convex-good h hs e = (and-left (goodHalfspace h) (every goodHalfspace hs) e, and-right (goodHalfspace h) (every goodHalfspace hs) e)
 
-no-convex : (hs : Convex) (t : Trixel) → length hs ≡ 0 → convexClass hs t ≡ Full
+pub no-convex : (hs : Convex) (t : Trixel) → length hs ≡ 0 → convexClass hs t ≡ Full
 unfolding convexClass some every
 no-convex [] t e = refl
 no-convex (h ∷ hs) t e = absurd (omega arith)
 
-no-total : total [] ≡ 0
+pub no-total : total [] ≡ 0
 unfolding total
 no-total = refl
 
@@ -123,13 +123,13 @@ pub total-cons : (c : Convex) (cs : Region) → total (c ∷ cs) ≡ length c + 
 unfolding total
 total-cons c cs = refl
 
-no-region : (cs : Region) (t : Trixel) → Filled cs → total cs ≡ 0 → regionClass cs t ≡ Outside
+pub no-region : (cs : Region) (t : Trixel) → Filled cs → total cs ≡ 0 → regionClass cs t ≡ Outside
 unfolding regionClass some every
 no-region [] t l e = refl
 no-region (c ∷ cs) t l e = absurd (omega (arith, total-cons c cs, l .0))
 
 -- the numbers at a place where a seven begins
-half-at : (xs : List ℤ) (k : ℕ) (q : Half) (rest : List ℤ) → drop k xs ≡ seven q ++ rest → halfIn xs k ≡ q
+pub half-at : (xs : List ℤ) (k : ℕ) (q : Half) (rest : List ℤ) → drop k xs ≡ seven q ++ rest → halfIn xs k ≡ q
 half-at xs k q rest e =
     let at : (m : ℕ) → getD xs (k + m) (pos 0) ≡ getD (seven q ++ rest) m (pos 0) = λ m. sym (getD-drop k xs m (pos 0)) ∙ ap (λ l. getD l m (pos 0)) e in
     let zero : k ≡ k + 0 = omega arith in
@@ -141,7 +141,7 @@ half-at xs k q rest e =
       rest = at 6 i;
     }
 
-half-room : (xs : List ℤ) (k : ℕ) (q : Half) (rest : List ℤ) → drop k xs ≡ seven q ++ rest → k + 7 ≤ length xs
+pub half-room : (xs : List ℤ) (k : ℕ) (q : Half) (rest : List ℤ) → drop k xs ≡ seven q ++ rest → k + 7 ≤ length xs
 half-room xs k q rest e = omega (arith, length-drop k xs, ap length e)
 
 module _ (t : Trixel) (xs : List ℤ) (es : List ℕ) (n : ℕ) where

@@ -20,7 +20,7 @@ ghost use Rattle.scan.specs.Halves as halves;
 ghost use Rattle.scan.specs.Halves.{halfIn, Ready, Classed};
 
 // The prepared halfspace whose numbers begin at number k.
-fn half_at(xs: &[i64], k: usize) -> Half
+pub fn half_at(xs: &[i64], k: usize) -> Half
     requires { ⌜ k + 7 ≤ length (now xs) ⌝ }
     ensures { λ r. ⌜ r ≡ halfIn (now (xs .entry)) k ⌝ }
 {
@@ -67,7 +67,7 @@ fn join(a: Class, b: Class) -> Class
     }
 }
 
-fn is_outside(c: Class) -> bool
+pub fn is_outside(c: Class) -> bool
     ensures { λ t. ⌜ t ≡ isOutside c ⌝ }
 {
     match c {
@@ -89,7 +89,7 @@ fn is_full(c: Class) -> bool
 
 // The class of a trixel for the region whose n halfspaces were prepared to `xs`, with the ends of its convexes in `ends`. The scan of a convex ends at its
 // first halfspace that leaves the trixel outside, that of the region at its first full convex.
-fn scanned(t: Trixel, s: Shape, m: Ball, xs: &[i64], ends: &[u64], n: usize) -> Class
+pub fn scanned(t: Trixel, s: Shape, m: Ball, xs: &[i64], ends: &[u64], n: usize) -> Class
     requires { ⌜ Shaped t s × Balled t m ⌝ }
     requires { ⌜ Ready (now xs) (now ends) n ⌝ }
     ensures { λ r. ⌜ Classed t (now (xs .entry)) (now (ends .entry)) n r ⌝ }
@@ -119,7 +119,7 @@ fn scanned(t: Trixel, s: Shape, m: Ball, xs: &[i64], ends: &[u64], n: usize) -> 
 }
 
 // The same for a region of one halfspace: the rays come first, for where one of them passes and where all do b and E are not needed.
-fn alone(t: Trixel, s: Shape, xs: &[i64], ends: &[u64], n: usize) -> Class
+pub fn alone(t: Trixel, s: Shape, xs: &[i64], ends: &[u64], n: usize) -> Class
     requires { ⌜ SmallTrixel t × Shaped t s ⌝ }
     requires { ⌜ Ready (now xs) (now ends) n × (n ≡ 1) ⌝ }
     ensures { λ r. ⌜ Classed t (now (xs .entry)) (now (ends .entry)) n r ⌝ }

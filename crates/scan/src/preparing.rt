@@ -35,7 +35,7 @@ fn convex_of(rows: &[i32], k: usize) -> usize
 }
 
 // Stores the seven numbers of a prepared halfspace from number k on.
-fn store(xs: &mut [i64], k: usize, q: Half)
+pub fn store(xs: &mut [i64], k: usize, q: Half)
     requires { ⌜ k + 7 ≤ length (now xs) ⌝ }
     ensures { λ _. ⌜ now (xs .exit) ≡ put k (seven q) (now (xs .entry)) ⌝ }
 {

@@ -1,0 +1,84 @@
+-- A halfspace that is settled beside a place is settled so for every trixel that is close to it: from the place to the trixel's middle D·E − f·b and
+-- f·b − G·E move by at most K for each step, since f is within ±K, D at most K and G at most 2K, so that what is beyond the margin is beyond the room.
+-- Assumes nothing.
+use Prim.Native.Nat.{_+_, _*_}
+use native.Mathlib.Omega.{arith}
+use mathlib.Core.Path.{_≡_, refl, sym, ap, _∙_}
+use mathlib.Core.Bool.{true, false≢true}
+use lib.Dec.{lit≤}
+use lib.IntN.{pos, natAbs, _+ℤ_, _-ℤ_, _*ℤ_}
+use lib.Signed.{leZ, _≤ℤ_}
+use Rattle.algebra.proofs.Sized.{upto-mono, upto-sub, upto-mul}
+use Rattle.algebra.proofs.Moved.{Moved, moved-mono, moved-mul, moved-add, moved-sub, still-beyond}
+use Rattle.algebra.proofs.Tests.{split, and-left, and-right, and-both, le-yes}
+use Rattle.vector.specs.declared.Vec3.{Vec3}
+use Rattle.vector.specs.Numbers.{Kℕ}
+use Rattle.vector.specs.Vectors.{dot, Small}
+use Rattle.vector.proofs.SizeLaws.{dot-upto}
+use Rattle.mesh.specs.declared.Trixel.{Trixel}
+use Rattle.classify.specs.declared.Class.{Class}
+use Rattle.classify.specs.declared.Class.the-variants.{Outside, Partial, Full}
+use Rattle.classify.specs.declared.Half.{Half}
+use Rattle.classify.specs.declared.Ball.{Ball}
+use Rattle.classify.specs.declared.Near.{Near}
+use Rattle.classify.specs.Classes.{isOutside, isFull}
+use Rattle.classify.specs.Measures.{SoundHalf, judged}
+use Rattle.classify.specs.Rays.{classWithin, classApart}
+use Rattle.classify.specs.Near.{Placed, stepsTo, closeTo, settledBy, Close}
+use Rattle.classify.proofs.HalfLaws.{sound-high}
+use Rattle.classify.proofs.BallLaws.{Beside, half-beside, ball-beside}
+use Rattle.classify.proofs.FarLaws.{far-beyond, enclosed-beyond}
+use Rattle.classify.proofs.JudgedLaws.{when-far, when-enclosed}
+
+-- ---- from the place to a middle
+
+dot-moved : {f : Vec3} → Small f → (a b : Vec3) → Moved (Kℕ * natAbs (b .x -ℤ a .x) + Kℕ * natAbs (b .y -ℤ a .y) + Kℕ * natAbs (b .z -ℤ a .z)) (dot f a) (dot f b)
+dot-moved s a b = moved-add (moved-add (moved-mul (s .x) (a .x) (b .x)) (moved-mul (s .y) (a .y) (b .y))) (moved-mul (s .z) (a .z) (b .z))
+
+module _ {q : Half} (r : Near) (m : Ball) (h : SoundHalf q) where
+  past-moved : Moved (Kℕ * stepsTo r m) (q .low *ℤ r .reach -ℤ dot (q .f) (r .b)) (q .low *ℤ m .reach -ℤ dot (q .f) (m .b))
+  past-moved = moved-mono (omega arith) (moved-sub (moved-mul (half-beside h .size) (r .reach) (m .reach)) (dot-moved (half-beside h .small) (r .b) (m .b)))
+
+  inward-moved : Moved (Kℕ * stepsTo r m) (dot (q .f) (r .b) -ℤ q .high *ℤ r .reach) (dot (q .f) (m .b) -ℤ q .high *ℤ m .reach)
+  inward-moved = moved-mono (omega arith) (moved-sub (dot-moved (half-beside h .small) (r .b) (m .b)) (moved-mul (sound-high h) (r .reach) (m .reach)))
+
+-- ---- close
+
+module _ {q : Half} {r : Near} {t : Trixel} (h : SoundHalf q) (k : Close r t) where
+  front : k .ball .ahead ≡ true
+  unfolding closeTo
+  front = and-left (k .ball .ahead) _ (k .close)
+
+  left : (k .ball .room +ℤ pos (Kℕ * stepsTo r (k .ball))) ≤ℤ r .margin
+  unfolding closeTo
+  left = le-yes (and-right (k .ball .ahead) _ (k .close))
+
+  ball : Beside (k .ball .b) (k .ball .reach) (k .ball .rest)
+  ball = ball-beside (k .balled) front
+
+  close-far : leZ (r .margin) (q .low *ℤ r .reach -ℤ dot (q .f) (r .b)) ≡ true → judged q t ≡ classApart (q .d)
+  close-far e =
+      let s = half-beside h in
+      let u = upto-mono (lit≤ tt) (upto-sub (upto-mul (s .size) (ball .size)) (dot-upto (s .small) (ball .small))) in
+      when-far q t (k .solid) h (and-both (sym (k .balled .ahead) ∙ front) (sym (far-beyond h (k .balled) front (still-beyond left (le-yes e) (past-moved r (k .ball) h)) u refl)))
+
+  close-enclosed : leZ (r .margin) (dot (q .f) (r .b) -ℤ q .high *ℤ r .reach) ≡ true → judged q t ≡ classWithin (q .d)
+  close-enclosed e =
+      let u = upto-mono (lit≤ tt) (upto-sub (dot-upto (half-beside h .small) (ball .small)) (upto-mul (sound-high h) (ball .size))) in
+      when-enclosed q t (k .solid) h
+      (and-both (sym (k .balled .ahead) ∙ front) (sym (enclosed-beyond h (k .balled) front (still-beyond left (le-yes e) (inward-moved r (k .ball) h)) u refl)))
+
+  -- the class, where it is not left open
+  stays : {c : Class} → (Partial ≡ c → ⊥) → settledBy q r ≡ c → judged q t ≡ c
+  unfolding settledBy
+  stays {c} n e =
+      split (leZ (r .margin) (q .low *ℤ r .reach -ℤ dot (q .f) (r .b))) (λ a. close-far a ∙ (rw a at e))
+      (λ a.
+      split (leZ (r .margin) (dot (q .f) (r .b) -ℤ q .high *ℤ r .reach)) (λ b. close-enclosed b ∙ (rw (a, b) at e)) (λ b. absurd (n (rw (a, b) at e))))
+
+module _ {q : Half} {r : Near} {t : Trixel} (p : Placed r) (h : SoundHalf q) (k : Close r t) where
+  pub stays-outside : settledBy q r ≡ Outside → judged q t ≡ Outside
+  stays-outside = stays h k (λ e. false≢true (ap isOutside e))
+
+  pub stays-full : settledBy q r ≡ Full → judged q t ≡ Full
+  stays-full = stays h k (λ e. false≢true (ap isFull e))

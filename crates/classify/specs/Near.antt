@@ -1,0 +1,46 @@
+-- A halfspace that is settled once, at a trixel's middle, for every trixel whose middle is close to it. Document 01, 'Classifying': D·E − f·b and
+-- f·b − G·E change by at most K for a step of b by one, and by at most 2K for a step of E by one (proofs/NearLaws).
+--   Placed r       how large what r holds is
+--   stepsTo r m    the steps from r to the middle of m: those of b by component, and those of E, counted twice
+--   closeTo r m    b is ahead of its rays, and what is beyond the margin of r is beyond the room of m
+--   settledBy q r  the class beside r for the halfspace that q was prepared from; Partial where it is open
+--   Close r t      t is solid, and its middle is close to r
+use Prim.Native.Nat.{ℕ, _+_, _*_, _^_}
+use mathlib.Core.Path.{_≡_}
+use mathlib.Core.Bool.{Bool, true, cond, _&&_}
+use lib.IntN.{pos, natAbs, _+ℤ_, _-ℤ_, _*ℤ_}
+use lib.Signed.{leZ}
+use Rattle.algebra.specs.Sizes.{Upto}
+use Rattle.vector.specs.Numbers.{Kℕ}
+use Rattle.vector.specs.Vectors.{dot, Small}
+use Rattle.mesh.specs.declared.Trixel.{Trixel}
+use Rattle.classify.specs.declared.Class.{Class}
+use Rattle.classify.specs.declared.Class.the-variants.{Partial}
+use Rattle.classify.specs.declared.Half.{Half}
+use Rattle.classify.specs.declared.Ball.{Ball}
+use Rattle.classify.specs.declared.Near.{Near}
+use Rattle.classify.specs.Shape.{positive, volume}
+use Rattle.classify.specs.Measures.{Balled}
+use Rattle.classify.specs.Rays.{classWithin, classApart}
+
+pub record Placed (r : Near) : Type 0 where
+  pub b : Small (r .b)
+  pub reach : Upto Kℕ (r .reach)
+  pub margin : Upto (2 ^ 44) (r .margin)
+
+abbrev pub stepsTo : Near → Ball → ℕ
+stepsTo r m = natAbs (m .b .x -ℤ r .b .x) + natAbs (m .b .y -ℤ r .b .y) + natAbs (m .b .z -ℤ r .b .z) + 2 * natAbs (m .reach -ℤ r .reach)
+
+unfoldable pub closeTo : Near → Ball → Bool
+closeTo r m = m .ahead && leZ (m .room +ℤ pos (Kℕ * stepsTo r m)) (r .margin)
+
+unfoldable pub settledBy : Half → Near → Class
+settledBy q r =
+    cond (leZ (r .margin) (q .low *ℤ r .reach -ℤ dot (q .f) (r .b))) (classApart (q .d))
+    (cond (leZ (r .margin) (dot (q .f) (r .b) -ℤ q .high *ℤ r .reach)) (classWithin (q .d)) Partial)
+
+pub record Close (r : Near) (t : Trixel) : Type 0 where
+  pub ball : Ball
+  pub balled : Balled t ball
+  pub solid : positive (volume t) ≡ true
+  pub close : closeTo r ball ≡ true

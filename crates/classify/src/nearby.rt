@@ -1,0 +1,101 @@
+// A place at a trixel's middle, beside which a halfspace is settled for every trixel whose middle is close to it. The rules stand in specs/Near.
+use crate::Ball;
+use crate::Class;
+use crate::Half;
+use crate::Near;
+use crate::judging;
+use mesh::Trixel;
+use vector::Vec3;
+ghost use mathlib.Core.Path.{_≡_};
+ghost use Prim.Native.Nat.{_+_, _*_, _^_, _≤_};
+ghost use lib.IntN.{natAbs, _-ℤ_};
+ghost use Rattle.algebra.specs.Sizes.{Upto};
+ghost use Rattle.vector.specs.Numbers.{Kℕ};
+ghost use Rattle.vector.specs.Vectors.{Small};
+ghost use Rattle.classify.specs.Measures.{SoundHalf, Balled};
+ghost use Rattle.classify.specs.Near.{Placed, closeTo, settledBy};
+
+// No halfspace is beyond it.
+const NEVER: i64 = 17592186044416;
+
+// The place at the middle of t. The margin is twice the room, so that one room is left for steps.
+pub fn place_of(t: Trixel, m: Ball, count: usize) -> Near
+    requires { ⌜ Balled t m ⌝ }
+    ensures { λ r. ⌜ Placed r × (r .count ≡ count) ⌝ }
+{
+    let b = m.b;
+    if !m.ahead {
+        return Near {
+            b: b,
+            reach: 0,
+            margin: NEVER,
+            count: count,
+        };
+    }
+    if m.room <= 8796093022208 {
+        return Near {
+            b: b,
+            reach: m.reach,
+            margin: 2 * m.room,
+            count: count,
+        };
+    }
+    Near {
+        b: b,
+        reach: m.reach,
+        margin: NEVER,
+        count: count,
+    }
+}
+
+// The class beside r for the halfspace that q was prepared from; partial where it is open.
+pub fn settled(q: Half, r: Near) -> Class
+    requires { ⌜ SoundHalf q ⌝ }
+    requires { ⌜ Placed r ⌝ }
+    ensures { λ s. ⌜ s ≡ settledBy q r ⌝ }
+{
+    let f = q.f;
+    let b = r.b;
+    let c = vector::dot(f, b);
+    if r.margin <= q.low * r.reach - c {
+        return judging::class_apart(q.d);
+    }
+    if r.margin <= c - q.high * r.reach {
+        return judging::class_within(q.d);
+    }
+    Class::Partial
+}
+
+// |a − b|
+fn step(a: i64, b: i64) -> u64
+    requires { ⌜ Upto Kℕ a × Upto Kℕ b ⌝ }
+    ensures { λ n. ⌜ n ≡ natAbs (a -ℤ b) ⌝ }
+    ensures { λ n. ⌜ n ≤ 2 ^ 21 ⌝ }
+{
+    vector::size(a - b)
+}
+
+// |a − b| by components
+fn steps(a: Vec3, b: Vec3) -> u64
+    requires { ⌜ Small a × Small b ⌝ }
+    ensures { λ n. ⌜ n ≡ natAbs (a .x -ℤ b .x) + natAbs (a .y -ℤ b .y) + natAbs (a .z -ℤ b .z) ⌝ }
+    ensures { λ n. ⌜ n ≤ 3 * 2 ^ 21 ⌝ }
+{
+    step(a.x, b.x) + step(a.y, b.y) + step(a.z, b.z)
+}
+
+// Whether the middle of t is ahead of its rays and close to r: what is beyond the margin of r is beyond the room of m, by K for each step and 2K for each
+// of E.
+pub fn close(r: Near, t: Trixel, m: Ball) -> bool
+    requires { ⌜ Placed r ⌝ }
+    requires { ⌜ Balled t m ⌝ }
+    ensures { λ c. ⌜ c ≡ closeTo r m ⌝ }
+{
+    if !m.ahead {
+        return false;
+    }
+    let b = m.b;
+    let p = r.b;
+    let n = steps(b, p) + 2 * step(m.reach, r.reach);
+    m.room + (1048576 * n) as i64 <= r.margin
+}

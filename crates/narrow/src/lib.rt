@@ -1,0 +1,210 @@
+// The open halfspaces of a region beside a trixel, in two lists of their own, and the class of a trixel by them. The rules stand in specs/.
+use classify::Class;
+use classify::Half;
+use classify::Near;
+use classify::measures;
+use classify::middle;
+use classify::nearby;
+use mesh::Trixel;
+use scan::classes;
+use scan::preparing;
+ghost use mathlib.Core.Path.{_≡_};
+ghost use Prim.Native.Nat.{_+_, _*_, _≤_, _<_};
+ghost use lib.ListN.{length};
+ghost use Rattle.mesh.specs.Corners.{SmallTrixel};
+ghost use Rattle.classify.specs.Near.{Placed};
+ghost use Rattle.scan.specs.Halves.{Ready, Classed};
+ghost use Rattle.narrow.specs.Narrow.{Narrowed, Beside, SomeConvex, OpenedConvex, keptCount, keptList, SomeNarrowing, NarrowsOn};
+
+// What was found of a convex: it is outside, or so many halfspaces are stored now, or there are too many.
+pub enum Opened {
+    Outside,
+    Halves(usize),
+    Crowded,
+}
+
+// How far the narrowing came: whether it goes on, and how many halfspaces and convexes are kept.
+pub struct Kept {
+    pub more: bool,
+    pub halves: usize,
+    pub convexes: usize,
+}
+
+// ---- the open halfspaces
+
+// A halfspace of class c is stored as number w where it is open, that is partial.
+fn keep(ys: &mut [i64], w: usize, q: Half, c: Class) -> usize
+    requires { ⌜ 7 * w + 7 ≤ length (now ys) ⌝ }
+    ensures { λ r. ⌜ r ≡ keptCount c w ⌝ }
+    ensures { λ _. ⌜ now (ys .exit) ≡ keptList c w q (now (ys .entry)) ⌝ }
+{
+    match c {
+        Class::Outside => w,
+        Class::Full => w,
+        Class::Partial => {
+            preparing::store(ys, 7 * w, q);
+            w + 1
+        }
+    }
+}
+
+// The open halfspaces of a convex, stored from number w on.
+fn open_convex(r: Near, xs: &[i64], from: usize, end: usize, ys: &mut [i64], w: usize) -> Opened
+    requires { ⌜ Placed r × (w ≤ 32) × (7 * 32 ≤ length (now ys)) ⌝ }
+    requires { ⌜ SomeConvex (now xs) from end ⌝ }
+    ensures { λ o. ⌜ OpenedConvex r (now (xs .entry)) from end w (now (ys .entry)) (now (ys .exit)) o ⌝ }
+{
+    let mut i = from;
+    let mut m = w;
+    while i < end {
+        if 32 <= m {
+            return Opened::Crowded;
+        }
+        let q = classes::half_at(xs, 7 * i);
+        let c = nearby::settled(q, r);
+        if classes::is_outside(c) {
+            return Opened::Outside;
+        }
+        m = keep(ys, m, q, c);
+        i += 1;
+    }
+    Opened::Halves(m)
+}
+
+// Convex number k, whose first halfspace is number i: its open halfspaces and its end are kept, or nothing where it is outside. It goes on unless they
+// are too many, or there are none.
+fn add_convex(
+    r: Near,
+    xs: &[i64],
+    ends: &[u64],
+    n: usize,
+    i: usize,
+    k: usize,
+    ys: &mut [i64],
+    marks: &mut [u64],
+    s: Kept,
+) -> Kept
+    requires { ⌜ Placed r × (i < n) ⌝ }
+    requires { ⌜ SomeNarrowing r (now xs) (now ends) n i k s (now ys) (now marks) ⌝ }
+    ensures { λ z. ⌜ NarrowsOn r (now (xs .entry)) (now (ends .entry)) n i k s (now (ys .entry)) (now (marks .entry)) z (now (ys .exit)) (now (marks .exit)) ⌝ }
+{
+    let w = s.halves;
+    let c = s.convexes;
+    let o = open_convex(r, xs, i, ends[k] as usize, ys, w);
+    match o {
+        Opened::Outside => Kept {
+            more: true,
+            halves: w,
+            convexes: c,
+        },
+        Opened::Crowded => Kept {
+            more: false,
+            halves: 0,
+            convexes: 0,
+        },
+        Opened::Halves(m) => {
+            if m <= w {
+                return Kept {
+                    more: false,
+                    halves: 0,
+                    convexes: 0,
+                };
+            }
+            marks[c] = m as u64;
+            Kept {
+                more: true,
+                halves: m,
+                convexes: c + 1,
+            }
+        }
+    }
+}
+
+// The open halfspaces of a region beside r, and the ends of their convexes; how many there are, or 0 where they are too many to be kept.
+fn open_region(
+    r: Near,
+    xs: &[i64],
+    ends: &[u64],
+    n: usize,
+    ys: &mut [i64],
+    marks: &mut [u64],
+) -> usize
+    requires { ⌜ Placed r × (7 * 32 ≤ length (now ys)) × (32 ≤ length (now marks)) ⌝ }
+    requires { ⌜ Ready (now xs) (now ends) n ⌝ }
+    ensures { λ w. ⌜ (0 < w → Narrowed (now (xs .entry)) (now (ends .entry)) n (now (ys .exit)) (now (marks .exit)) w r) ⌝ }
+{
+    let mut s = Kept {
+        more: true,
+        halves: 0,
+        convexes: 0,
+    };
+    let mut i: usize = 0;
+    let mut k: usize = 0;
+    while i < n {
+        s = add_convex(r, xs, ends, n, i, k, ys, marks, s);
+        if !s.more {
+            return 0;
+        }
+        i = ends[k] as usize;
+        k += 1;
+    }
+    s.halves
+}
+
+// The place at the middle of t, with the open halfspaces beside it in `ys` and `marks`.
+pub fn narrowed(
+    t: Trixel,
+    xs: &[i64],
+    ends: &[u64],
+    n: usize,
+    ys: &mut [i64; 224],
+    marks: &mut [u64; 32],
+) -> Near
+    requires { ⌜ SmallTrixel t ⌝ }
+    requires { ⌜ Ready (now xs) (now ends) n ⌝ }
+    ensures { λ r. ⌜ Beside (now (xs .entry)) (now (ends .entry)) n (now (ys .exit)) (now (marks .exit)) r ⌝ }
+{
+    let s = measures::measured(t);
+    let r = nearby::place_of(t, middle::ball_of(t, s), 0);
+    let w = open_region(r, xs, ends, n, ys, marks);
+    let b = r.b;
+    Near {
+        b: b,
+        reach: r.reach,
+        margin: r.margin,
+        count: w,
+    }
+}
+
+// ---- the class of a trixel
+
+// The class of a trixel for the region that was prepared to `xs` and `ends`: by the open halfspaces beside r where there are some and the trixel is close.
+pub fn class_near(
+    t: Trixel,
+    xs: &[i64],
+    ends: &[u64],
+    n: usize,
+    ys: &[i64],
+    marks: &[u64],
+    r: Near,
+) -> Class
+    requires { ⌜ SmallTrixel t ⌝ }
+    requires { ⌜ Ready (now xs) (now ends) n ⌝ }
+    requires { ⌜ Beside (now xs) (now ends) n (now ys) (now marks) r ⌝ }
+    ensures { λ c. ⌜ Classed t (now (xs .entry)) (now (ends .entry)) n c ⌝ }
+{
+    let s = measures::measured(t);
+    if n == 1 {
+        return classes::alone(t, s, xs, ends, n);
+    }
+    let m = middle::ball_of(t, s);
+    if 0 < r.count && s.solid && nearby::close(r, t, m) {
+        return classes::scanned(t, s, m, ys, marks, r.count);
+    }
+    classes::scanned(t, s, m, xs, ends, n)
+}
+
+// Whether open halfspaces shall be looked for: there are many, and none are known beside r yet.
+pub fn wanted(n: usize, r: Near) -> bool {
+    8 < n && r.count == 0
+}
