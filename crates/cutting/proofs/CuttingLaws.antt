@@ -29,7 +29,7 @@ use Rattle.classify.proofs.ClassLaws.{full-region, outside-region}
 use Rattle.ranges.specs.Ranges.{Range}
 use Rattle.ranges.proofs.Sound.{In, Has, SpacedBy}
 use Rattle.ranges.proofs.ListLaws.{Between, between-widen, between-append, between-spaced, has-left, has-right, has-cases, row, has-row, row-has, between-row, own, row-own}
-use Rattle.cutting.specs.Cover.{Found, descendants, leftOut, takenFull, takenPartial, cutInto, four, visit, visitRoot, cutting, cover, SeenBound}
+use Rattle.cutting.specs.Cover.{Found, descendants, leftOut, takenFull, takenPartial, cutInto, four, parted, visit, visitRoot, cutting, cover, SeenBound}
 
 by-class : (c : Class) {X : Type 0} → (c ≡ Outside → X) → (c ≡ Partial → X) → (c ≡ Full → X) → X
 by-class Outside f g h = f refl
@@ -128,7 +128,7 @@ module _ (g : Region) where
   unfolding visit
   found-last t i e = rw (e, visit)
 
-  pub found-cut : (n : ℕ) (t : Trixel) (i : ℕ) → regionClass g t ≡ Partial → visit (suc n) g t i ≡ cutInto (four (below n t i 0) (below n t i 1) (below n t i 2) (below n t i 3))
+  pub found-cut : (n : ℕ) (t : Trixel) (i : ℕ) → regionClass g t ≡ Partial → visit (suc n) g t i ≡ cutInto (parted (visit n g) t i)
   unfolding visit
   found-cut n t i e = rw (e, visit)
 

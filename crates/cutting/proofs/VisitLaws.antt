@@ -11,6 +11,7 @@ use Rattle.algebra.proofs.Ring.{con, _:+_, _:*_}
 use Rattle.algebra.proofs.Claim.{_:≡_, ring}
 use Rattle.algebra.proofs.Inequalities.{`1}
 use Rattle.mesh.specs.declared.Trixel.{Trixel}
+use Rattle.mesh.specs.declared.Cut.{Cut}
 use Rattle.mesh.specs.Trixels.{rootTrixel, cut, child0, child1, child2, child3, child}
 use Rattle.region.specs.Regions.{Region}
 use Rattle.classify.specs.declared.Class.{Class}
@@ -19,10 +20,10 @@ use Rattle.classify.specs.Classes.{regionClass}
 use Rattle.scan.specs.Halves.{Prepared, Classed}
 use Rattle.ranges.specs.Stored.{range}
 use Rattle.cutting.specs.declared.Tally.{Tally}
-use Rattle.cutting.specs.Cover.{descendants, takenFull, takenPartial, both, four, cutInto, visit}
-use Rattle.cutting.specs.Walk.{Walked, Adds, Visited, Room, Level, oneMore}
-use Rattle.cutting.proofs.CuttingLaws.{full-stretch, power, below, found-outside, found-full, found-last, found-cut}
-use Rattle.cutting.proofs.WalkLaws.{left-out, cut-adds, foundTo}
+use Rattle.cutting.specs.Cover.{descendants, takenFull, takenPartial, both, four, parted, visit}
+use Rattle.cutting.specs.Walk.{Walked, Adds, Visited, Parted, Room, Level, ChildLevel, oneMore}
+use Rattle.cutting.proofs.CuttingLaws.{full-stretch, power, found-outside, found-full, found-last, found-cut}
+use Rattle.cutting.proofs.WalkLaws.{left-out, four-adds, cut-adds, foundTo}
 
 -- ---- the range of a trixel
 
@@ -36,24 +37,6 @@ last-range i =
     let l : i ≡ i * 1 = omega arith in
     let h : i ≡ (i + 1) * 1 - 1 = omega arith in
     λ j. range (l j) (h j)
-
--- ---- the children
-
-pub first-child : (t : Trixel) → child0 t (cut t) ≡ child 0 t
-unfolding child
-first-child t = refl
-
-pub second-child : (t : Trixel) → child1 t (cut t) ≡ child 1 t
-unfolding child
-second-child t = refl
-
-pub third-child : (t : Trixel) → child2 t (cut t) ≡ child 2 t
-unfolding child
-third-child t = refl
-
-pub fourth-child : (t : Trixel) → child3 t (cut t) ≡ child 3 t
-unfolding child
-fourth-child t = refl
 
 -- ---- one trixel
 
@@ -74,28 +57,51 @@ module _ (xs : List ℤ) (es : List ℕ) (n b left : ℕ) (t : Trixel) (i : ℕ)
         subst (λ f. Walked b start (both a f) r out′)
         (ap takenPartial (last-range i) ∙ sym (found-last g t i (class-is e g p)) ∙ ap (λ m. visit m g t i) (sym z)) (h start a w)
 
-  pub visited-cut : (m : ℕ) → c ≡ Partial → left ≡ suc m → {c0 c1 c2 c3 : Trixel} → c0 ≡ child 0 t → c1 ≡ child 1 t → c2 ≡ child 2 t → c3 ≡ child 3 t
-      → {s′ s0 s1 s2 s3 : Tally} {out0 out1 out2 out3 : List ℕ} → s′ ≡ oneMore s
-      → Visited xs es n b m c0 (4 * i) s′ out s0 out0 → Visited xs es n b m c1 (4 * i + 1) s0 out0 s1 out1
-      → Visited xs es n b m c2 (4 * i + 2) s1 out1 s2 out2 → Visited xs es n b m c3 (4 * i + 3) s2 out2 s3 out3
-      → Visited xs es n b left t i s out s3 out3
-  visited-cut m e z {c0} {c1} {c2} {c3} e0 e1 e2 e3 {s′} {s0} {s1} {s2} {s3} {out0} {out1} {out2} {out3} q h0 h1 h2 h3 g p =
-      let zero : 4 * i ≡ 4 * i + 0 = omega arith in
-      let first : visit m g c0 (4 * i) ≡ below g m t i 0 = λ j. visit m g (e0 j) (zero j) in
-      let second : visit m g c1 (4 * i + 1) ≡ below g m t i 1 = ap (λ u. visit m g u (4 * i + 1)) e1 in
-      let third : visit m g c2 (4 * i + 2) ≡ below g m t i 2 = ap (λ u. visit m g u (4 * i + 2)) e2 in
-      let fourth : visit m g c3 (4 * i + 3) ≡ below g m t i 3 = ap (λ u. visit m g u (4 * i + 3)) e3 in
-      subst (λ f. Adds b f s out s3 out3)
-      ((λ j. cutInto (four (first j) (second j) (third j) (fourth j))) ∙ sym (found-cut g m t i (class-is e g p)) ∙ ap (λ l. visit l g t i) (sym z))
-      (cut-adds b (visit m g c0 (4 * i)) (visit m g c1 (4 * i + 1)) (visit m g c2 (4 * i + 2)) (visit m g c3 (4 * i + 3)) (subst (λ r. Adds b (visit m g c0 (4 * i)) r out s0 out0) q (h0 g p)) (h1 g p) (h2 g p) (h3 g p))
+  pub visited-cut : (m : ℕ) → c ≡ Partial → left ≡ suc m → {r s′ : Tally} {out′ : List ℕ} → r ≡ oneMore s → Parted xs es n b m t i r out s′ out′ → Visited xs es n b left t i s out s′ out′
+  visited-cut m e z {r} {s′} {out′} q h g p =
+      subst (λ f. Adds b f s out s′ out′) (sym (found-cut g m t i (class-is e g p)) ∙ ap (λ l. visit l g t i) (sym z)) (cut-adds b (parted (visit m g) t i) q (h g p))
+
+-- ---- its four children
+
+first-child : (t : Trixel) → child0 t (cut t) ≡ child 0 t
+unfolding child
+first-child t = refl
+
+second-child : (t : Trixel) → child1 t (cut t) ≡ child 1 t
+unfolding child
+second-child t = refl
+
+third-child : (t : Trixel) → child2 t (cut t) ≡ child 2 t
+unfolding child
+third-child t = refl
+
+fourth-child : (t : Trixel) → child3 t (cut t) ≡ child 3 t
+unfolding child
+fourth-child t = refl
+
+pub parted-visits : (xs : List ℤ) (es : List ℕ) (n b left : ℕ) (t : Trixel) (i : ℕ) {k : Cut} → k ≡ cut t
+    → {c0 c1 c2 c3 : Trixel} → c0 ≡ child0 t k → c1 ≡ child1 t k → c2 ≡ child2 t k → c3 ≡ child3 t k
+    → {s s0 s1 s2 s3 : Tally} {out out0 out1 out2 out3 : List ℕ}
+    → Visited xs es n b left c0 (4 * i) s out s0 out0 → Visited xs es n b left c1 (4 * i + 1) s0 out0 s1 out1
+    → Visited xs es n b left c2 (4 * i + 2) s1 out1 s2 out2 → Visited xs es n b left c3 (4 * i + 3) s2 out2 s3 out3
+    → Parted xs es n b left t i s out s3 out3
+parted-visits xs es n b left t i {k} e {c0} {c1} {c2} {c3} e0 e1 e2 e3 {s} {s0} {s1} {s2} {s3} {out} {out0} {out1} {out2} {out3} h0 h1 h2 h3 g p =
+    let zero : 4 * i ≡ 4 * i + 0 = omega arith in
+    let d0 : c0 ≡ child 0 t = e0 ∙ ap (child0 t) e ∙ first-child t in
+    let d1 : c1 ≡ child 1 t = e1 ∙ ap (child1 t) e ∙ second-child t in
+    let d2 : c2 ≡ child 2 t = e2 ∙ ap (child2 t) e ∙ third-child t in
+    let d3 : c3 ≡ child 3 t = e3 ∙ ap (child3 t) e ∙ fourth-child t in
+    subst (λ f. Adds b f s out s3 out3)
+    (λ j. four (visit left g (d0 j) (zero j)) (visit left g (d1 j) (4 * i + 1)) (visit left g (d2 j) (4 * i + 2)) (visit left g (d3 j) (4 * i + 3)))
+    (four-adds b (visit left g c0 (4 * i)) (visit left g c1 (4 * i + 1)) (visit left g c2 (4 * i + 2)) (visit left g c3 (4 * i + 3)) (h0 g p) (h1 g p) (h2 g p) (h3 g p))
 
 -- one more is seen, and the lists stay
 pub room-more : {b : ℕ} {s r : Tally} {out : List ℕ} → Room b s out → r ≡ oneMore s → Room b r out
 room-more {b} {s} {r} {out} h e = subst (λ q. Room b q out) (sym e) (record { budget = h .budget; outer = h .outer; inner = h .inner; list = h .list; hinted = h .hinted; innerHinted = h .innerHinted })
 
--- ---- a level down
+-- ---- how large identifiers and counts get
 
-module _ (i left span seen : ℕ) (l : Level i left span seen) where
+module _ {i left span seen : ℕ} (l : Level i left span seen) where
   pub range-fits : (i * span + (span - 1) < 2 ^ 40) × (1 ≤ span)
   range-fits =
       let e : (i + 1) * span ≡ i * span + span = full-stretch i span in
@@ -111,48 +117,39 @@ module _ (i left span seen : ℕ) (l : Level i left span seen) where
   pub seen-fits : seen < 2 ^ 62
   seen-fits = omega (arith, l .few)
 
-  module _ (m : ℕ) (z : left ≡ suc m) where
-    fourth-part : span ≡ 4 ^ m * 4
-    fourth-part = l .power ∙ ap (λ x. 4 ^ x) z ∙ pow-suc 4 m
+pub levels : {left m : ℕ} → left ≡ suc m → 4 ^ suc left ≡ 4 * 4 ^ suc m
+levels {left} {m} z = ap (λ x. 4 ^ suc x) z ∙ pow-suc 4 (suc m) ∙ omega arith
 
-    pub quarter : span / 4 ≡ 4 ^ m
-    quarter = omega (arith, fourth-part)
+-- a level down, where the trixel itself is seen
+pub down : {i left span seen m now : ℕ} → Level i left span seen → left ≡ suc m → now ≡ seen + 1 → ChildLevel i m (span / 4) now
+down {i} {left} {span} {seen} {m} {now} l z e =
+    let part : span ≡ 4 ^ m * 4 = l .power ∙ ap (λ x. 4 ^ x) z ∙ pow-suc 4 m in
+    let quarter : span / 4 ≡ 4 ^ m = omega (arith, part) in
+    let whole : (4 * i + 3 + 1) * 4 ^ m ≡ (i + 1) * (4 ^ m * 4) =
+    ap natAbs (ring 2 (λ i q. (con (pos 4) :* i :+ con (pos 3) :+ `1) :* q :≡ (i :+ `1) :* (q :* con (pos 4))) refl (pos i) (pos (4 ^ m))) in
+    record {
+      last = record {
+        power = quarter;
+        small = subst (λ x. (4 * i + 3 + 1) * x ≤ 2 ^ 40) (sym quarter) (subst (λ x. x ≤ 2 ^ 40) (sym whole) (subst (λ x. (i + 1) * x ≤ 2 ^ 40) part (l .small)));
+        few = omega (arith, l .few, levels z, power (suc m));
+      };
+    }
 
-    -- a child, where up to it no more was seen than its elder siblings can have
-    room-left : (k now : ℕ) → k < 4 → 3 * now + k + 1 ≤ 3 * seen + 4 + k * 4 ^ suc m → 3 * now + 4 ^ suc m ≤ 2 ^ 60
-    room-left k now h s =
-        let f : 3 * seen + 4 ^ suc m * 4 ≤ 2 ^ 60 = subst (λ q. 3 * seen + q ≤ 2 ^ 60) (ap (λ x. 4 ^ suc x) z ∙ pow-suc 4 (suc m)) (l .few) in
-        go k h s f
-      where
-        go : (k : ℕ) → k < 4 → 3 * now + k + 1 ≤ 3 * seen + 4 + k * 4 ^ suc m → 3 * seen + 4 ^ suc m * 4 ≤ 2 ^ 60 → 3 * now + 4 ^ suc m ≤ 2 ^ 60
-        go zero h s f = omega (arith, power (suc m))
-        go (suc zero) h s f = omega (arith, power (suc m))
-        go (suc (suc zero)) h s f = omega (arith, power (suc m))
-        go (suc (suc (suc zero))) h s f = omega (arith, power (suc m))
-        go (suc (suc (suc (suc k)))) h s f = absurd (omega arith)
+module _ {i left span seen : ℕ} (l : ChildLevel i left span seen) where
+  pub small-ids : 4 * i + 3 < 2 ^ 40
+  small-ids = small-id (l .last)
 
-    pub child-level : (k now : ℕ) → k < 4 → 3 * now + k + 1 ≤ 3 * seen + 4 + k * 4 ^ suc m → Level (4 * i + k) m (span / 4) now
-    child-level k now h s =
-        let q = 4 ^ m in
-        let e : (4 * i + k + 1) * q ≡ 4 * (i * q) + (k + 1) * q =
-        ap natAbs (ring 3 (λ i k q. (con (pos 4) :* i :+ k :+ `1) :* q :≡ con (pos 4) :* (i :* q) :+ (k :+ `1) :* q) refl (pos i) (pos k) (pos q)) in
-        let f : (i + 1) * (q * 4) ≡ 4 * (i * q) + 4 * q =
-        ap natAbs (ring 2 (λ i q. (i :+ `1) :* (q :* con (pos 4)) :≡ con (pos 4) :* (i :* q) :+ con (pos 4) :* q) refl (pos i) (pos q)) in
-        let few : (k + 1) * q ≤ 4 * q = mul-le-mul-right q (omega arith) in
-        let whole : (i + 1) * (q * 4) ≤ 2 ^ 40 = subst (λ x. (i + 1) * x ≤ 2 ^ 40) fourth-part (l .small) in
-        record {
-          power = quarter;
-          small = subst (λ x. (4 * i + k + 1) * x ≤ 2 ^ 40) (sym quarter) (omega arith);
-          few = room-left k now h s;
-        }
+  -- a child, where up to it no more was seen than the children before it can have
+  pub child-level : (k : ℕ) {now : ℕ} → k < 4 → 3 * now ≤ 3 * seen + k * (4 ^ suc left - 1) → Level (4 * i + k) left span now
+  child-level k {now} h s =
+      let id : (4 * i + k + 1) * span ≤ (4 * i + 3 + 1) * span = mul-le-mul-right span (omega arith) in
+      let elder : k * (4 ^ suc left - 1) ≤ 3 * (4 ^ suc left - 1) = mul-le-mul-right (4 ^ suc left - 1) (omega arith) in
+      record { power = l .last .power; small = omega (arith, l .last .small); few = omega (arith, l .last .few) }
 
-    pub first-level : (now : ℕ) → 3 * now + 1 ≤ 3 * seen + 4 → Level (4 * i) m (span / 4) now
-    first-level now h =
-        let e : 4 * i + 0 ≡ 4 * i = omega arith in
-        subst (λ j. Level j m (span / 4) now) e (child-level 0 now (lit< tt) (omega arith))
-
-    pub levels : 4 ^ suc left ≡ 4 ^ suc m * 4
-    levels = ap (λ x. 4 ^ suc x) z ∙ pow-suc 4 (suc m)
+  pub first-level : Level (4 * i) left span seen
+  first-level =
+      let e : 4 * i + 0 ≡ 4 * i = omega arith in
+      subst (λ j. Level j left span seen) e (child-level 0 (lit< tt) (omega arith))
 
 pub at-least-four : (n : ℕ) → 4 ≤ 4 ^ suc n
 at-least-four n = omega (arith, pow-suc 4 n, power n)

@@ -88,10 +88,6 @@ both-nothing a = let n : 0 + a .seen ≡ a .seen = omega arith in λ i. record {
 four-together : (a v0 v1 v2 v3 : Found) → both (both (both (both a v0) v1) v2) v3 ≡ both a (four v0 v1 v2 v3)
 four-together a v0 v1 v2 v3 = both-assoc (both (both a v0) v1) v2 v3 ∙ both-assoc (both a v0) v1 (both v2 v3) ∙ both-assoc a v0 (both v1 (both v2 v3))
 
--- the trixel itself, then its four children
-cut-together : (a v0 v1 v2 v3 : Found) → both (both (both (both (both a leftOut) v0) v1) v2) v3 ≡ both a (cutInto (four v0 v1 v2 v3))
-cut-together a v0 v1 v2 v3 = four-together (both a leftOut) v0 v1 v2 v3 ∙ both-assoc a leftOut (four v0 v1 v2 v3)
-
 -- the first k roots
 unfoldable pub foundTo : ℕ → Region → ℕ → Found
 foundTo n g zero = nothing
@@ -175,12 +171,17 @@ module _ (b : ℕ) (start : List ℕ) (a : Found) (s : Tally) (out : List ℕ) (
 
 -- ---- a trixel that is cut
 
-pub cut-adds : (b : ℕ) (v0 v1 v2 v3 : Found) {s s0 s1 s2 s3 : Tally} {out out0 out1 out2 out3 : List ℕ}
-    → Adds b v0 (oneMore s) out s0 out0 → Adds b v1 s0 out0 s1 out1 → Adds b v2 s1 out1 s2 out2 → Adds b v3 s2 out2 s3 out3
-    → Adds b (cutInto (four v0 v1 v2 v3)) s out s3 out3
-cut-adds b v0 v1 v2 v3 {s} {s0} {s1} {s2} {s3} {out} {out0} {out1} {out2} {out3} h0 h1 h2 h3 start a w =
-    subst (λ f. Walked b start f s3 out3) (cut-together a v0 v1 v2 v3)
-    (h3 start _ (h2 start _ (h1 start _ (h0 start _ (left-out b start a s out w)))))
+-- what its four children find, one after the other
+pub four-adds : (b : ℕ) (v0 v1 v2 v3 : Found) {s s0 s1 s2 s3 : Tally} {out out0 out1 out2 out3 : List ℕ}
+    → Adds b v0 s out s0 out0 → Adds b v1 s0 out0 s1 out1 → Adds b v2 s1 out1 s2 out2 → Adds b v3 s2 out2 s3 out3 → Adds b (four v0 v1 v2 v3) s out s3 out3
+four-adds b v0 v1 v2 v3 {s} {s0} {s1} {s2} {s3} {out} {out0} {out1} {out2} {out3} h0 h1 h2 h3 start a w =
+    subst (λ f. Walked b start f s3 out3) (four-together a v0 v1 v2 v3) (h3 start _ (h2 start _ (h1 start _ (h0 start _ w))))
+
+-- the trixel itself, then what is found in it
+pub cut-adds : (b : ℕ) (f : Found) {s r s′ : Tally} {out out′ : List ℕ} → r ≡ oneMore s → Adds b f r out s′ out′ → Adds b (cutInto f) s out s′ out′
+cut-adds b f {s} {r} {s′} {out} {out′} e h start a w =
+    subst (λ v. Walked b start v s′ out′) (both-assoc a leftOut f)
+    (h start _ (subst (λ q. Walked b start (both a leftOut) q out) (sym e) (left-out b start a s out w)))
 
 -- ---- the beginning and the end
 

@@ -1,5 +1,6 @@
 -- The cutting and the two lists. Document 01, 'The two lists'.
 --   Found           what a cutting finds: accepted ranges, the ranges of full trixels, and `seen`, the trixels classified
+--   parted f t i    what f finds in the four children of t
 --   visit n g t i   the cutting of the trixel t with identifier i, n levels above the depth, for the region g
 --   cutting d g     the cutting of the eight roots to the depth d, in identifier order
 --   Cover           the outer and the inner list, and seen
@@ -54,6 +55,12 @@ four a b c d = both a (both b (both c d))
 abbrev pub cutInto : Found → Found
 cutInto a = record { accepted = a .accepted; full = a .full; seen = 1 + a .seen }
 
+-- the four children of the trixel t with identifier i, each by f
+abbrev pub parted : (Trixel → ℕ → Found) → Trixel → ℕ → Found
+parted f t i = four
+    (f (child 0 t) (4 * i + 0)) (f (child 1 t) (4 * i + 1))
+    (f (child 2 t) (4 * i + 2)) (f (child 3 t) (4 * i + 3))
+
 -- full trixels, and partial ones at the depth, are accepted; partial ones above the depth are cut
 unfoldable pub visit : ℕ → Region → Trixel → ℕ → Found
 visit zero g t i = elim (regionClass g t) [
@@ -63,9 +70,7 @@ visit zero g t i = elim (regionClass g t) [
 ]
 visit (suc n) g t i = elim (regionClass g t) [
   | Outside ↦ leftOut
-  | Partial ↦ cutInto (four
-      (visit n g (child 0 t) (4 * i + 0)) (visit n g (child 1 t) (4 * i + 1))
-      (visit n g (child 2 t) (4 * i + 2)) (visit n g (child 3 t) (4 * i + 3)))
+  | Partial ↦ cutInto (parted (visit n g) t i)
   | Full ↦ takenFull (descendants (suc n) i)
 ]
 

@@ -4,12 +4,14 @@
 --                      elements, the inner list at the front of the rest
 --   Adds b found ..    whatever was found before, `found` is noted after it
 --   Visited ..         so is what the cutting of the trixel t finds, `left` levels above the depth, for every region that was prepared to xs and es
+--   Parted ..          so is what the cuttings of its four children find, each `left` levels above the depth
 --   Behind, BehindEnd  the inner list's writer was lent the list from element 2 × b on: the elements before it stay
 --   Room b s out       the counts are at most the budget b, the list has room for both lists, and what s knows of the gaps of the outer list and of the
 --                      sizes of the inner list's stored ranges is so
 --   Level ..           how large identifiers and counts get: `span` is 4 to the power `left`
+--   ChildLevel ..      the same for the four children of i: the Level of the last, where the three before it have seen as many as they can
 --   RowsOf g n rs      rs begins with the n rows of g, which is as the region of an accepted file is; SomeRows: of some region; CoversRows: their cover
-use Prim.Native.Nat.{ℕ, suc, _+_, _*_, _^_, _≤_}
+use Prim.Native.Nat.{ℕ, suc, _+_, _-_, _*_, _^_, _≤_}
 use mathlib.Core.Path.{_≡_}
 use mathlib.Core.Bool.{true}
 use mathlib.Core.List.{List, [], _++_, foldl}
@@ -27,7 +29,7 @@ use Rattle.ranges.specs.OnePass.{outerPass, Inner, empty, innerPush}
 use Rattle.ranges.specs.Stored.{rangesIn, sizesIn, Writes, Hinted, Keeps}
 use Rattle.cutting.specs.declared.Tally.{Tally}
 use Rattle.cutting.specs.declared.Counts.{Counts}
-use Rattle.cutting.specs.Cover.{Found, both, visit, cutting, listed, countsOf, bothListed}
+use Rattle.cutting.specs.Cover.{Found, both, parted, visit, cutting, listed, countsOf, bothListed}
 
 abbrev pub nothing : Found
 nothing = record { accepted = []; full = []; seen = 0 }
@@ -51,6 +53,9 @@ Adds b found s out s′ out′ = (start : List ℕ) (a : Found) → Walked b sta
 abbrev pub Visited : List ℤ → List ℕ → ℕ → ℕ → ℕ → Trixel → ℕ → Tally → List ℕ → Tally → List ℕ → Type 0
 Visited xs es n b left t i s out s′ out′ = (g : Region) → Prepared g xs es n → Adds b (visit left g t i) s out s′ out′
 
+abbrev pub Parted : List ℤ → List ℕ → ℕ → ℕ → ℕ → Trixel → ℕ → Tally → List ℕ → Tally → List ℕ → Type 0
+Parted xs es n b left t i s out s′ out′ = (g : Region) → Prepared g xs es n → Adds b (parted (visit left g) t i) s out s′ out′
+
 pub record Behind (b : ℕ) (before after : List ℕ) (state : Inner) (p : Pending) : Type 0 where
   pub rest : List ℕ
   pub list : after ≡ take (2 * b) before ++ rest
@@ -73,6 +78,9 @@ pub record Level (i left span seen : ℕ) : Type 0 where
   pub power : span ≡ 4 ^ left
   pub small : (i + 1) * span ≤ 2 ^ 40
   pub few : 3 * seen + 4 ^ suc left ≤ 2 ^ 60
+
+pub record ChildLevel (i left span seen : ℕ) : Type 0 where
+  pub last : Level (4 * i + 3) left span (seen + (4 ^ suc left - 1))
 
 -- one more is classified
 abbrev pub oneMore : Tally → Tally

@@ -13,7 +13,7 @@ ghost use Rattle.scan.specs.Halves.{Ready};
 ghost use Rattle.ranges.specs.OnePass.{innerPush, innerEnd};
 ghost use Rattle.ranges.specs.Stored.{range, sizesIn, Hinted, stateOf};
 ghost use Rattle.cutting.specs.Cover.{takenFull, takenPartial, countsList};
-ghost use Rattle.cutting.specs.Walk.{Adds, Visited, Behind, BehindEnd, Room, Level, Cut, Covers, SomeRows, CoversRows, oneMore};
+ghost use Rattle.cutting.specs.Walk.{Adds, Visited, Parted, Behind, BehindEnd, Room, Level, ChildLevel, Cut, Covers, SomeRows, CoversRows, oneMore};
 
 // What was found so far: how many outer ranges are stored and what is known of their gaps, what stands beside the inner list, and the trixels
 // classified.
@@ -123,60 +123,92 @@ fn visit(
             if left == 0 {
                 return take_partial(out, budget, s, id, id);
             }
-            let c = trixels::cut(t);
-            let i = 4 * id;
-            let q = span / 4;
-            let k = left - 1;
-            let s0 = visit(
-                trixels::child0(t, c),
-                i,
-                k,
-                q,
+            children(
+                t,
+                id,
+                left - 1,
+                span / 4,
                 xs,
                 ends,
                 n,
                 budget,
                 out,
                 seen_more(s),
-            );
-            let s1 = visit(
-                trixels::child1(t, c),
-                i + 1,
-                k,
-                q,
-                xs,
-                ends,
-                n,
-                budget,
-                out,
-                s0,
-            );
-            let s2 = visit(
-                trixels::child2(t, c),
-                i + 2,
-                k,
-                q,
-                xs,
-                ends,
-                n,
-                budget,
-                out,
-                s1,
-            );
-            visit(
-                trixels::child3(t, c),
-                i + 3,
-                k,
-                q,
-                xs,
-                ends,
-                n,
-                budget,
-                out,
-                s2,
             )
         }
     }
+}
+
+// The four children of the trixel t with the identifier id, each `left` levels above the depth, where it has `span` descendants.
+fn children(
+    t: Trixel,
+    id: u64,
+    left: u32,
+    span: u64,
+    xs: &[i64],
+    ends: &[u64],
+    n: usize,
+    budget: usize,
+    out: &mut [u64],
+    s: Tally,
+) -> Tally
+    requires { ⌜ SmallTrixel t ⌝ }
+    requires { ⌜ Ready (now xs) (now ends) n ⌝ }
+    requires { ⌜ Room budget s (now out) ⌝ }
+    requires { ⌜ ChildLevel id left span (s .seen) ⌝ }
+    ensures { λ r. ⌜ Parted (now (xs .entry)) (now (ends .entry)) n budget left t id s (now (out .entry)) r (now (out .exit)) ⌝ }
+    ensures { λ r. ⌜ Room budget r (now (out .exit)) × (3 * r .seen + 4 ≤ 3 * s .seen + 4 * 4 ^ suc left) ⌝ }
+{
+    let c = trixels::cut(t);
+    let i = 4 * id;
+    let s0 = visit(
+        trixels::child0(t, c),
+        i,
+        left,
+        span,
+        xs,
+        ends,
+        n,
+        budget,
+        out,
+        s,
+    );
+    let s1 = visit(
+        trixels::child1(t, c),
+        i + 1,
+        left,
+        span,
+        xs,
+        ends,
+        n,
+        budget,
+        out,
+        s0,
+    );
+    let s2 = visit(
+        trixels::child2(t, c),
+        i + 2,
+        left,
+        span,
+        xs,
+        ends,
+        n,
+        budget,
+        out,
+        s1,
+    );
+    visit(
+        trixels::child3(t, c),
+        i + 3,
+        left,
+        span,
+        xs,
+        ends,
+        n,
+        budget,
+        out,
+        s2,
+    )
 }
 
 // 4 to the power n.
