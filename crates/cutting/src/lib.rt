@@ -1,5 +1,6 @@
 // The cutting of the roots, depth first, with the two lists in the lent list. The rules stand in specs/.
 use classify::Class;
+use classify::Near;
 use mesh::Trixel;
 use mesh::trixels;
 use ranges::Hint;
@@ -10,6 +11,7 @@ ghost use lib.ListN.{length, drop};
 ghost use Rattle.answer.specs.Lent.{put};
 ghost use Rattle.mesh.specs.Corners.{SmallTrixel};
 ghost use Rattle.scan.specs.Halves.{Ready};
+ghost use Rattle.narrow.specs.Narrow.{Beside};
 ghost use Rattle.ranges.specs.OnePass.{innerPush, innerEnd};
 ghost use Rattle.ranges.specs.Stored.{range, sizesIn, Hinted, stateOf};
 ghost use Rattle.cutting.specs.Cover.{takenFull, takenPartial, countsList};
@@ -95,7 +97,8 @@ fn seen_more(s: Tally) -> Tally
 
 // ---- the cutting
 
-// The trixel t with the identifier id, `left` levels above the depth, where it has `span` descendants.
+// The trixel t with the identifier id, `left` levels above the depth, where it has `span` descendants. The open halfspaces beside a place that is near,
+// if there are some, stand in `ys` and `marks`.
 fn visit(
     t: Trixel,
     id: u64,
@@ -104,24 +107,42 @@ fn visit(
     xs: &[i64],
     ends: &[u64],
     n: usize,
+    ys: &[i64],
+    marks: &[u64],
+    near: Near,
     budget: usize,
     out: &mut [u64],
     s: Tally,
 ) -> Tally
     requires { ⌜ SmallTrixel t ⌝ }
     requires { ⌜ Ready (now xs) (now ends) n ⌝ }
+    requires { ⌜ Beside (now xs) (now ends) n (now ys) (now marks) near ⌝ }
     requires { ⌜ Room budget s (now out) ⌝ }
     requires { ⌜ Level id left span (s .seen) ⌝ }
     ensures { λ r. ⌜ Visited (now (xs .entry)) (now (ends .entry)) n budget left t id s (now (out .entry)) r (now (out .exit)) ⌝ }
     ensures { λ r. ⌜ Room budget r (now (out .exit)) × (3 * r .seen + 1 ≤ 3 * s .seen + 4 ^ suc left) ⌝ }
 {
-    let class = scan::classes::class_of(t, xs, ends, n);
+    let class = narrow::class_near(t, xs, ends, n, ys, marks, near);
     match class {
         Class::Outside => seen_more(s),
         Class::Full => take_full(out, budget, s, id * span, id * span + (span - 1)),
         Class::Partial => {
             if left == 0 {
                 return take_partial(out, budget, s, id, id);
+            }
+            if narrow::wanted(n, near) {
+                return open_children(
+                    t,
+                    id,
+                    left - 1,
+                    span / 4,
+                    xs,
+                    ends,
+                    n,
+                    budget,
+                    out,
+                    seen_more(s),
+                );
             }
             children(
                 t,
@@ -131,6 +152,9 @@ fn visit(
                 xs,
                 ends,
                 n,
+                ys,
+                marks,
+                near,
                 budget,
                 out,
                 seen_more(s),
@@ -139,8 +163,8 @@ fn visit(
     }
 }
 
-// The four children of the trixel t with the identifier id, each `left` levels above the depth, where it has `span` descendants.
-fn children(
+// The four children of the trixel t, by the halfspaces that are open beside t.
+fn open_children(
     t: Trixel,
     id: u64,
     left: u32,
@@ -159,6 +183,50 @@ fn children(
     ensures { λ r. ⌜ Parted (now (xs .entry)) (now (ends .entry)) n budget left t id s (now (out .entry)) r (now (out .exit)) ⌝ }
     ensures { λ r. ⌜ Room budget r (now (out .exit)) × (3 * r .seen + 4 ≤ 3 * s .seen + 4 * 4 ^ suc left) ⌝ }
 {
+    let mut ys = [0i64; 224];
+    let mut marks = [0u64; 32];
+    let near = narrow::narrowed(t, xs, ends, n, &mut ys, &mut marks);
+    children(
+        t,
+        id,
+        left,
+        span,
+        xs,
+        ends,
+        n,
+        &ys,
+        &marks,
+        near,
+        budget,
+        out,
+        s,
+    )
+}
+
+// The four children of the trixel t with the identifier id, each `left` levels above the depth, where it has `span` descendants.
+fn children(
+    t: Trixel,
+    id: u64,
+    left: u32,
+    span: u64,
+    xs: &[i64],
+    ends: &[u64],
+    n: usize,
+    ys: &[i64],
+    marks: &[u64],
+    near: Near,
+    budget: usize,
+    out: &mut [u64],
+    s: Tally,
+) -> Tally
+    requires { ⌜ SmallTrixel t ⌝ }
+    requires { ⌜ Ready (now xs) (now ends) n ⌝ }
+    requires { ⌜ Beside (now xs) (now ends) n (now ys) (now marks) near ⌝ }
+    requires { ⌜ Room budget s (now out) ⌝ }
+    requires { ⌜ ChildLevel id left span (s .seen) ⌝ }
+    ensures { λ r. ⌜ Parted (now (xs .entry)) (now (ends .entry)) n budget left t id s (now (out .entry)) r (now (out .exit)) ⌝ }
+    ensures { λ r. ⌜ Room budget r (now (out .exit)) × (3 * r .seen + 4 ≤ 3 * s .seen + 4 * 4 ^ suc left) ⌝ }
+{
     let c = trixels::cut(t);
     let i = 4 * id;
     let s0 = visit(
@@ -169,6 +237,9 @@ fn children(
         xs,
         ends,
         n,
+        ys,
+        marks,
+        near,
         budget,
         out,
         s,
@@ -181,6 +252,9 @@ fn children(
         xs,
         ends,
         n,
+        ys,
+        marks,
+        near,
         budget,
         out,
         s0,
@@ -193,6 +267,9 @@ fn children(
         xs,
         ends,
         n,
+        ys,
+        marks,
+        near,
         budget,
         out,
         s1,
@@ -205,6 +282,9 @@ fn children(
         xs,
         ends,
         n,
+        ys,
+        marks,
+        near,
         budget,
         out,
         s2,
@@ -258,6 +338,9 @@ fn visit_roots(
             xs,
             ends,
             n,
+            xs,
+            ends,
+            narrow::nowhere(),
             budget,
             out,
             s,

@@ -327,3 +327,6 @@ beside {xs} {es} {n} {ys} {ms} {w} {r} p f a b =
           (k .0, k .1, λ t c. k .2 t (record { ball = c .ball; balled = c .balled; solid = c .solid; close = sym (same-place r w (c .ball)) ∙ c .close }));
     } in
     subst₂ (λ e m. Beside xs es n ys ms (record { b = r .b; reach = e; margin = m; count = w })) (sym a) (sym b) at
+
+pub beside-none : {xs : List ℤ} {es : List ℕ} {n : ℕ} {ys : List ℤ} {ms : List ℕ} {r : Near} → Placed r → r .count ≡ 0 → Beside xs es n ys ms r
+beside-none p e = record { placed = p; narrowed = λ h. absurd (omega (arith, e)) }

@@ -8,6 +8,7 @@ use classify::nearby;
 use mesh::Trixel;
 use scan::classes;
 use scan::preparing;
+use vector::Vec3;
 ghost use mathlib.Core.Path.{_≡_};
 ghost use Prim.Native.Nat.{_+_, _*_, _≤_, _<_};
 ghost use lib.ListN.{length};
@@ -163,6 +164,7 @@ pub fn narrowed(
     requires { ⌜ SmallTrixel t ⌝ }
     requires { ⌜ Ready (now xs) (now ends) n ⌝ }
     ensures { λ r. ⌜ Beside (now (xs .entry)) (now (ends .entry)) n (now (ys .exit)) (now (marks .exit)) r ⌝ }
+    ensures { λ _. ⌜ (224 ≡ length (now (ys .exit))) × (32 ≡ length (now (marks .exit))) ⌝ }
 {
     let s = measures::measured(t);
     let r = nearby::place_of(t, middle::ball_of(t, s), 0);
@@ -173,6 +175,18 @@ pub fn narrowed(
         reach: r.reach,
         margin: r.margin,
         count: w,
+    }
+}
+
+// No place: no halfspaces are known to be open beside it.
+pub fn nowhere() -> Near
+    ensures { λ r. ⌜ Placed r × (r .count ≡ 0) ⌝ }
+{
+    Near {
+        b: Vec3 { x: 0, y: 0, z: 0 },
+        reach: 0,
+        margin: 0,
+        count: 0,
     }
 }
 

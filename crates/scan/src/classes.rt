@@ -4,7 +4,6 @@ use classify::Class;
 use classify::Half;
 use classify::Shape;
 use classify::judging;
-use classify::measures;
 use classify::middle;
 use classify::reaching;
 use classify::reaching::Passed;
@@ -135,17 +134,4 @@ pub fn alone(t: Trixel, s: Shape, xs: &[i64], ends: &[u64], n: usize) -> Class
         Passed::Some => Class::Partial,
         Passed::None => scanned(t, s, middle::ball_of(t, s), xs, ends, n),
     }
-}
-
-// The class of a trixel for a region. What belongs to the trixel, its rays and its middle, is found here, at most once.
-pub fn class_of(t: Trixel, xs: &[i64], ends: &[u64], n: usize) -> Class
-    requires { ⌜ SmallTrixel t ⌝ }
-    requires { ⌜ Ready (now xs) (now ends) n ⌝ }
-    ensures { λ r. ⌜ Classed t (now (xs .entry)) (now (ends .entry)) n r ⌝ }
-{
-    let s = measures::measured(t);
-    if n == 1 {
-        return alone(t, s, xs, ends, n);
-    }
-    scanned(t, s, middle::ball_of(t, s), xs, ends, n)
 }

@@ -9,6 +9,7 @@ use Rattle.ranges.proofs.HintLaws.{hinted-any}
 use Rattle.cutting.specs.Walk.{nothing, Walked, Room}
 use Rattle.cutting.proofs.WalkLaws.{foundTo, walk-start, roots-done}
 use Rattle.cutting.proofs.VisitLaws.{root-level, root-seen, root-more}
+use Rattle.narrow.proofs.NarrowLaws.{beside-none}
 use Rattle.cutting.proofs.visit_roots.Statement.{statement}
 use Rattle.cutting.proofs.visit_roots.Tie as tie
 
@@ -55,21 +56,23 @@ visit-roots-spec =
     started
     (λ c κs. omega arith)
     (λ c. omega arith)
+    (λ c κs. tt)
     (λ c κs.
-    let l = c .before .before .before in
-    let s = c .before .before .before .before .before .before .before .before .before in
-    (c .before .root .ensures .1, (s .pre .1 .0, (l .loop .inv .1, root-level (l .loop .k) (s .args .depth - 1) _ _ (omega arith) (omega arith) (c .before .before .before .before .before .before .power .ensures) (l .loop .inv .2)))))
+    let l = c .before .before .before .before in
+    let s = c .before .before .before .before .before .before .before .before .before .before in
+    let none = c .before .nowhere .ensures in
+    (c .before .before .root .ensures .1, (s .pre .1 .0, (beside-none (none .0) (none .1), (l .loop .inv .1, root-level (l .loop .k) (s .args .depth - 1) _ _ (omega arith) (omega arith) (c .before .before .before .before .before .before .before .power .ensures) (l .loop .inv .2))))))
     (λ c. omega arith)
     (λ c. omega arith)
     (λ c.
-    let l = c .before .before .before .before .before .before in
-    let s = c .before .before .before .before .before .before .before .before .before .before .before .before in
+    let l = c .before .before .before .before .before .before .before in
+    let s = c .before .before .before .before .before .before .before .before .before .before .before .before .before in
     let v = c .before .before .visit in (
-      omega (arith, c .before .before .before .before .before .loop-test .taken),
+      omega (arith, c .before .before .before .before .before .before .loop-test .taken),
       v .ensures .1 .0,
       root-seen (s .args .depth - 1) _ _ (l .loop .k) (omega arith) (v .ensures .1 .1) (l .loop .inv .2),
-      v .kept .1 .1 .1 .1 .1 .1 .1 .1 .0 ∙ l .loop .inv .3,
-      λ g p. root-more _ _ _ _ _ (l .loop .k) _ g p (c .before .before .before .before .root .ensures .0) (l .loop .inv .4 g p) (v .ensures .0),
+      v .kept .1 .1 .1 .1 .1 .1 .1 .1 .1 .1 .1 .0 ∙ l .loop .inv .3,
+      λ g p. root-more _ _ _ _ _ (l .loop .k) _ g p (c .before .before .before .before .before .root .ensures .0) (l .loop .inv .4 g p) (v .ensures .0),
     ))
     (λ c. c .before .loop .inv .3)
     (λ c.
