@@ -1,89 +1,158 @@
 -- The calls for a host in C, by their checks in their order. Assumes nothing.
-use Prim.Native.Nat.{ℕ, _*_, _≤_, _<_}
+use Prim.Native.Nat.{ℕ, _-_, _*_, _≤_, _<_}
 use native.Mathlib.Omega.{arith}
-use mathlib.Core.Path.{_≡_, refl, sym, ap, _∙_}
+use mathlib.Core.Path.{_≡_, refl, sym, ap, subst, _∙_}
 use mathlib.Core.Bool.{Bool, true, false}
 use mathlib.Core.List.{List}
 use lib.Dec.{leb}
 use lib.ListN.{length}
+use lib.IntN.{ℤ}
 use borrow.Author.Tests.{le-leb, lt-leb}
-use Rattle.answer.specs.Answer.{Answer, refused, gives, check, then, with-value, Space}
+use Rattle.answer.specs.Answer.{Answer, refused, gives, check, then, with-value, Space, Name, Depth, Budget}
 use Rattle.answer.specs.Lent.{put, stored, room}
-use Rattle.region.specs.Budgets.{budgetOf}
+use Rattle.answer.proofs.AnswerLaws.{check-gives, same-value, then-gives, value-gives}
+use Rattle.vector.specs.Numbers.{isDepth}
+use Rattle.mesh.specs.declared.Corners.{Corners}
+use Rattle.mesh.specs.Identifiers.{depthOf, isIdentifier, trixel, cornersOf, corners}
+use Rattle.mesh.specs.Names.{nameAt, nameOf}
+use Rattle.mesh.specs.Corners.{SmallCorners}
+use Rattle.mesh.specs.Answers.{nameAnswer}
+use Rattle.mesh.proofs.NameLaws.{depth-high, digits-length}
+use Rattle.mesh.proofs.SmallTrixels.{trixel-small}
+use Rattle.region.specs.declared.Header.{Header}
+use Rattle.region.specs.Budgets.{budgetOf, isBudget}
+use Rattle.region.specs.Rows.{rows, regionOf}
 use Rattle.region.specs.Reader.{File, read}
-use Rattle.region.proofs.BudgetLaws.{budget-one}
+use Rattle.region.specs.Writer.{fileOf, write}
+use Rattle.region.specs.Answers.{headerOf, readInto, rowsInto, readAnswer, readAfter, writeAnswer}
+use Rattle.region.proofs.ReadBack.{file-length}
+use Rattle.region.proofs.WriteBack.{region-back}
 use Rattle.cutting.specs.declared.Counts.{Counts}
 use Rattle.cutting.specs.Cover.{cover, countsOf, countsList}
 use Rattle.htm.specs.Answers.{coverInto, coverAnswer, bothLists, coverAfter}
-use Rattle.htm.specs.CalledFromC.{statusOf, refusalOf, coverForC, coverAfterC, countsAfterC}
+use Rattle.htm.specs.CalledFromC.{statusOf, cornersList, cornersForC, cornersAfterC, refusalOf, inBoth, headerList, readForC, rowsAfterC, headerAfterC, coverForC, coverAfterC, countsAfterC}
 
--- a list of one element is too short for every budget
-none-fits : (x : File) (short : List ℕ) → length short ≡ 1 → room (4 * budgetOf (x .budget)) short x ≡ refused Space
-none-fits x short e = ap (λ t. check Space t (gives x)) (lt-leb (4 * budgetOf (x .budget)) (length short) (omega (arith, e, budget-one (x .budget))))
+-- ---- lengths are small: 32 bytes a name, 10508 a file
 
-nowhere : (a : Answer File) (short : List ℕ) → length short ≡ 1 → then a (λ x. room (4 * budgetOf (x .budget)) short x) ≡ then a (λ x. refused Space)
-nowhere (refused n) short e = refl
-nowhere (gives x) short e = none-fits x short e
+-- a list that has room is the list that was to be written
+roomy : (a : Answer (List ℕ)) (before : List ℕ) (n : ℕ) → with-value length (then a (λ s. room (length s) before s)) ≡ gives n → (s : List ℕ) × (a ≡ gives s) × (length s ≡ n)
+roomy a before n e =
+    let v = value-gives length (then a (λ s. room (length s) before s)) n e in
+    let t = then-gives a (λ s. room (length s) before s) (v .0) (v .1) in
+    let same = same-value (t .0) (v .0) (check-gives Space (leb (length (t .0)) (length before)) (gives (t .0)) (v .0) (t .2)) in
+    (t .0, t .1, ap length same ∙ v .2)
 
--- the cover into a list of one element
-one-element : (f short : List ℕ) → length short ≡ 1 → coverAnswer f short ≡ with-value (λ x. countsOf (cover x)) (refusalOf f)
-unfolding coverAnswer
-one-element f short e = ap (with-value (λ x. countsOf (cover x))) (nowhere (read f) short e)
+pub name-short : (i : ℕ) (before : List ℕ) (n : ℕ) → nameAnswer i before ≡ gives n → n ≤ 32
+unfolding nameAnswer nameOf
+name-short i before n e =
+    let t = roomy (nameOf i) before n e in
+    let s = same-value (nameAt (depthOf i) i) (t .0) (check-gives Name (isIdentifier i) (gives (nameAt (depthOf i) i)) (t .0) (t .1)) in
+    omega (arith, t .2, ap length s, digits-length (depthOf i) i, depth-high i)
 
-same-status : {A B : Type 0} (value : A → B) (a : Answer A) → statusOf (with-value value a) ≡ statusOf a
-same-status value (refused n) = refl
-same-status value (gives a) = refl
+pub file-short : (d b : ℕ) (rs : List ℤ) (before : List ℕ) (n : ℕ) → writeAnswer d b rs before ≡ gives n → n ≤ 10508
+unfolding writeAnswer write
+file-short d b rs before n e =
+    let t = roomy (write d b rs) before n e in
+    let r = check-gives Budget (isBudget b) (with-value (fileOf d b) (regionOf rs)) (t .0) (check-gives Depth (isDepth d) (check Budget (isBudget b) (with-value (fileOf d b) (regionOf rs))) (t .0) (t .1)) in
+    let g = value-gives (fileOf d b) (regionOf rs) (t .0) r in
+    let m = region-back rs (g .0) (g .1) .0 in
+    omega (arith, t .2, ap length (g .2), file-length d b (g .0), m .convexes, m .halfspaces)
 
-pub without : (f short : List ℕ) → length short ≡ 1 → {a : Answer Counts} → a ≡ coverAnswer f short → statusOf a ≡ statusOf (refusalOf f)
-without f short e q = ap statusOf (q ∙ one-element f short e) ∙ same-status (λ x. countsOf (cover x)) (refusalOf f)
+-- ---- corners
 
--- ---- too few elements for the counts: a refusal in any case, and nothing is stored
+pub corners-small : (i : ℕ) (c : Corners) → gives c ≡ corners i → SmallCorners c
+unfolding corners
+corners-small i c e =
+    let a = gives (cornersOf (trixel (depthOf i - 1) i)) in
+    let s = same-value (cornersOf (trixel (depthOf i - 1) i)) c (check-gives Name (leb (depthOf i) 12) a c (check-gives Name (isIdentifier i) (check Name (leb (depthOf i) 12) a) c (sym e))) in
+    let t = trixel-small (depthOf i - 1) i in
+    subst SmallCorners s (record { v0 = t .v0; v1 = t .v1; v2 = t .v2 })
 
-always-refused : {X : Type 0} (write : File → List X → List X) (a : Answer File) (before : List X) → before ≡ stored write (then a (λ x. refused Space)) before
-always-refused write (refused n) before = refl
-always-refused write (gives x) before = refl
+module _ (i : ℕ) (out : List ℤ) where
+  cornered : (a : Answer Corners) → cornersForC i out ≡ a → (statusOf a ≡ statusOf (cornersForC i out)) × (stored (λ c before. put 0 (cornersList c) before) a out ≡ cornersAfterC i out)
+  unfolding cornersAfterC
+  cornered a e = (ap statusOf (sym e), ap (λ b. stored (λ c before. put 0 (cornersList c) before) b out) (sym e))
 
-never-counted : (a : Answer File) (counts : List ℕ)
-    → counts ≡ stored (λ c before. put 0 (countsList c) before) (with-value (λ x. countsOf (cover x)) (then a (λ x. refused Space))) counts
-never-counted (refused n) counts = refl
-never-counted (gives x) counts = refl
+  into : (a : Answer Corners) → a ≡ corners i → cornersForC i out ≡ then a (λ c. room 9 out c)
+  unfolding cornersForC
+  into a e = ap (λ b. then b (λ c. room 9 out c)) (sym e)
+
+  pub no-corners : (n : ℕ) → refused n ≡ corners i → (statusOf {A = Corners} (refused n) ≡ statusOf (cornersForC i out)) × (out ≡ cornersAfterC i out)
+  no-corners n e = cornered (refused n) (into (refused n) e)
+
+  module _ (c : Corners) (e : gives c ≡ corners i) where
+    pub no-room : length out < 9 → (statusOf {A = Corners} (refused Space) ≡ statusOf (cornersForC i out)) × (out ≡ cornersAfterC i out)
+    no-room h = cornered (refused Space) (into (gives c) e ∙ ap (λ t. check Space t (gives c)) (lt-leb 9 (length out) h))
+
+    pub corners-put : 9 ≤ length out → (statusOf (gives c) ≡ statusOf (cornersForC i out)) × (put 0 (cornersList c) out ≡ cornersAfterC i out)
+    corners-put h = cornered (gives c) (into (gives c) e ∙ ap (λ t. check Space t (gives c)) (le-leb 9 (length out) h))
+
+-- ---- a file for which a lent list is too short
+
+pub own-or-space : (f : List ℕ) (a : Answer Header) → a ≡ with-value headerOf (read f) → statusOf {A = File} (then a (λ h. refused Space)) ≡ statusOf (refusalOf f)
+own-or-space f a e = ap (λ a. statusOf {A = File} (then a (λ h. refused Space))) e ∙ whichever (read f)
+  where
+    whichever : (a : Answer File) → statusOf {A = File} (then (with-value headerOf a) (λ h. refused Space)) ≡ statusOf {A = File} (then a (λ x. refused Space))
+    whichever (refused n) = refl
+    whichever (gives x) = refl
+
+-- ---- a file and two lent lists: `before`, into which `write` writes, and `three`, which takes the numbers of the value
+
+module _ {X Y : Type 0} (value : File → Y) (write : File → List X → List X) (numbers : Y → List ℕ) (before : List X) (three : List ℕ) where
+  -- what a call answers that has `a` to write, and what the two lists hold then
+  abbrev Leaves : Answer File → ℤ → List X → List ℕ → Type 0
+  Leaves a status xs ns = (status ≡ statusOf (with-value value a)) × ((xs ≡ stored write a before) × (ns ≡ stored (λ v l. put 0 (numbers v) l) (with-value value a) three))
+
+  -- too few elements for the numbers: a refusal in any case, and nothing is stored
+
+  nothing : (a : Answer File) → Leaves (then a (λ x. refused Space)) (statusOf {A = File} (then a (λ x. refused Space))) before three
+  nothing (refused n) = (refl, (refl, refl))
+  nothing (gives x) = (refl, (refl, refl))
+
+  module _ (h : length three < 3) where
+    tested : (x : File) (t : Bool) → refused Space ≡ inBoth (check Space t (gives x)) three
+    tested x true = ap (λ t. check Space t (gives x)) (sym (lt-leb 3 (length three) h))
+    tested x false = refl
+
+    too-few : (t : File → Bool) (a : Answer File) → then a (λ x. refused Space) ≡ inBoth (then a (λ x. check Space (t x) (gives x))) three
+    too-few t (refused n) = refl
+    too-few t (gives x) = tested x (t x)
+
+    short-three : (t : File → Bool) (a : Answer File) → Leaves (inBoth (then a (λ x. check Space (t x) (gives x))) three) (statusOf {A = File} (then a (λ x. refused Space))) before three
+    short-three t a = subst (λ b. Leaves b (statusOf {A = File} (then a (λ x. refused Space))) before three) (too-few t a) (nothing a)
+
+  -- enough
+
+  module _ (h : 3 ≤ length three) where
+    enough : (a : Answer File) → a ≡ inBoth a three
+    enough (refused n) = refl
+    enough (gives x) = ap (λ t. check Space t (gives x)) (sym (le-leb 3 (length three) h))
+
+    with-three : (a : Answer File) (v : Answer Y) (xs : List X) → v ≡ with-value value a → xs ≡ stored write a before
+        → Leaves (inBoth a three) (statusOf v) xs (stored (λ v l. put 0 (numbers v) l) v three)
+    with-three a v xs e g =
+        subst (λ b. Leaves b (statusOf v) xs (stored (λ v l. put 0 (numbers v) l) v three)) (enough a) (ap statusOf e, (g, ap (λ w. stored (λ v l. put 0 (numbers v) l) w three) e))
+
+module _ (f : List ℕ) (rs : List ℤ) (header : List ℕ) where
+  abbrev pub Reads : ℤ → List ℤ → List ℕ → Type 0
+  Reads status xs ns = (status ≡ statusOf (readForC f rs header)) × ((xs ≡ rowsAfterC f rs header) × (ns ≡ headerAfterC f rs header))
+
+  pub short-header : length header < 3 → Reads (statusOf (refusalOf f)) rs header
+  unfolding readForC rowsAfterC headerAfterC
+  short-header h = short-three headerOf rowsInto headerList rs header h (λ x. leb (length (rows (x .region))) (length rs)) (read f)
+
+  pub reads : 3 ≤ length header → (a : Answer Header) (xs : List ℤ) → a ≡ readAnswer f rs → xs ≡ readAfter f rs → Reads (statusOf a) xs (stored (λ v l. put 0 (headerList v) l) a header)
+  unfolding readForC rowsAfterC headerAfterC readAnswer readAfter
+  reads h a xs e g = with-three headerOf rowsInto headerList rs header h (readInto f rs) a xs e g
 
 module _ (f out counts : List ℕ) where
-  tested : (x : File) (t : Bool) → length counts < 3 → then (check Space t (gives x)) (λ x. room 3 counts x) ≡ refused Space
-  tested x true h = ap (λ t. check Space t (gives x)) (lt-leb 3 (length counts) h)
-  tested x false h = refl
+  abbrev pub Covers : ℤ → List ℕ → List ℕ → Type 0
+  Covers status xs ns = (status ≡ statusOf (coverForC f out counts)) × ((xs ≡ coverAfterC f out counts) × (ns ≡ countsAfterC f out counts))
 
-  few-counts : (a : Answer File) → length counts < 3 → then (then a (λ x. room (4 * budgetOf (x .budget)) out x)) (λ x. room 3 counts x) ≡ then a (λ x. refused Space)
-  few-counts (refused n) h = refl
-  few-counts (gives x) h = tested x (leb (4 * budgetOf (x .budget)) (length out)) h
-
-  pub short-counts : length counts < 3 → (statusOf (refusalOf f) ≡ statusOf (coverForC f out counts)) × (out ≡ coverAfterC f out counts) × (counts ≡ countsAfterC f out counts)
+  pub short-counts : length counts < 3 → Covers (statusOf (refusalOf f)) out counts
   unfolding coverForC coverAfterC countsAfterC
-  short-counts h =
-      let e = sym (few-counts (read f) h) in (
-        sym (same-status (λ x. countsOf (cover x)) (refusalOf f)) ∙ ap (λ a. statusOf (with-value (λ x. countsOf (cover x)) a)) e,
-        always-refused bothLists (read f) out ∙ ap (λ a. stored bothLists a out) e,
-        never-counted (read f) counts ∙ ap (λ a. stored (λ c before. put 0 (countsList c) before) (with-value (λ x. countsOf (cover x)) a) counts) e,
-      )
+  short-counts h = short-three (λ x. countsOf (cover x)) bothLists countsList out counts h (λ x. leb (4 * budgetOf (x .budget)) (length out)) (read f)
 
-  -- ---- enough
-
-  module _ (h : 3 ≤ length counts) where
-    enough : (a : Answer File) → a ≡ then a (λ x. room 3 counts x)
-    enough (refused n) = refl
-    enough (gives x) = ap (λ t. check Space t (gives x)) (sym (le-leb 3 (length counts) h))
-
-    pub listed-after : coverAfter f out ≡ coverAfterC f out counts
-    unfolding coverAfter coverAfterC
-    listed-after = ap (λ a. stored bothLists a out) (enough (coverInto f out))
-
-    same-counts : coverAnswer f out ≡ coverForC f out counts
-    unfolding coverAnswer coverForC
-    same-counts = ap (with-value (λ x. countsOf (cover x))) (enough (coverInto f out))
-
-    pub answered : (a : Answer Counts) → a ≡ coverAnswer f out
-        → (statusOf a ≡ statusOf (coverForC f out counts)) × (stored (λ c before. put 0 (countsList c) before) a counts ≡ countsAfterC f out counts)
-    unfolding countsAfterC
-    answered a e =
-        let q = e ∙ same-counts in
-        (ap statusOf q, ap (λ b. stored (λ c before. put 0 (countsList c) before) b counts) q)
+  pub covers : 3 ≤ length counts → (a : Answer Counts) (xs : List ℕ) → a ≡ coverAnswer f out → xs ≡ coverAfter f out → Covers (statusOf a) xs (stored (λ v l. put 0 (countsList v) l) a counts)
+  unfolding coverForC coverAfterC countsAfterC coverAnswer coverAfter
+  covers h a xs e g = with-three (λ x. countsOf (cover x)) bothLists countsList out counts h (coverInto f out) a xs e g

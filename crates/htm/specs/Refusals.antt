@@ -1,18 +1,21 @@
 -- Demand 1, of the rules. Document 01, 'What is sent back': number 10 comes after all other checks, and a refusal changes no lent element.
--- Statements; they are proved in proofs/Refusals. The calls that write into a lent list are the name, the reader, the writer and the cover.
+-- Statements; they are proved in proofs/Refusals. The calls that write into a lent list are the name, the reader, the writer and the cover; for C also
+-- the corners, and the reader and the cover with a second list. (`htm_name` and `htm_write` have the rules of the name and of the writer.)
 --   SpaceLast     what is refused for another reason keeps its number, whatever list is lent
---   LentListsStay where a call refuses, the lent list is as it was
+--   LentListsStay where a call refuses, every lent list is as it was
 use Prim.Native.Nat.{ℕ}
 use mathlib.Core.Path.{_≡_}
 use mathlib.Core.List.{List}
 use lib.IntN.{ℤ}
 use Rattle.answer.specs.Answer.{refused}
+use Rattle.mesh.specs.Identifiers.{corners}
 use Rattle.mesh.specs.Names.{nameOf}
 use Rattle.mesh.specs.Answers.{nameAnswer, nameAfter}
 use Rattle.region.specs.Reader.{read}
 use Rattle.region.specs.Writer.{write}
 use Rattle.region.specs.Answers.{readAnswer, readAfter, writeAnswer, writeAfter}
 use Rattle.htm.specs.Answers.{coverAnswer, coverAfter}
+use Rattle.htm.specs.CalledFromC.{cornersForC, cornersAfterC, readForC, rowsAfterC, headerAfterC, coverForC, coverAfterC, countsAfterC}
 
 abbrev pub SpaceLast : Type 0
 SpaceLast =
@@ -20,6 +23,9 @@ SpaceLast =
     × ((f : List ℕ) (n : ℕ) (before : List ℤ) → read f ≡ refused n → readAnswer f before ≡ refused n)
     × ((d b n : ℕ) (rs : List ℤ) (before : List ℕ) → write d b rs ≡ refused n → writeAnswer d b rs before ≡ refused n)
     × ((f : List ℕ) (n : ℕ) (before : List ℕ) → read f ≡ refused n → coverAnswer f before ≡ refused n)
+    × ((i n : ℕ) (out : List ℤ) → corners i ≡ refused n → cornersForC i out ≡ refused n)
+    × ((f : List ℕ) (n : ℕ) (rows : List ℤ) (header : List ℕ) → read f ≡ refused n → readForC f rows header ≡ refused n)
+    × ((f : List ℕ) (n : ℕ) (out counts : List ℕ) → read f ≡ refused n → coverForC f out counts ≡ refused n)
 
 abbrev pub LentListsStay : Type 0
 LentListsStay =
@@ -27,3 +33,6 @@ LentListsStay =
     × ((f : List ℕ) (n : ℕ) (before : List ℤ) → readAnswer f before ≡ refused n → readAfter f before ≡ before)
     × ((d b n : ℕ) (rs : List ℤ) (before : List ℕ) → writeAnswer d b rs before ≡ refused n → writeAfter d b rs before ≡ before)
     × ((f : List ℕ) (n : ℕ) (before : List ℕ) → coverAnswer f before ≡ refused n → coverAfter f before ≡ before)
+    × ((i n : ℕ) (out : List ℤ) → cornersForC i out ≡ refused n → cornersAfterC i out ≡ out)
+    × ((f : List ℕ) (n : ℕ) (rows : List ℤ) (header : List ℕ) → readForC f rows header ≡ refused n → (rowsAfterC f rows header ≡ rows) × (headerAfterC f rows header ≡ header))
+    × ((f : List ℕ) (n : ℕ) (out counts : List ℕ) → coverForC f out counts ≡ refused n → (coverAfterC f out counts ≡ out) × (countsAfterC f out counts ≡ counts))

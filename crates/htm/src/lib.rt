@@ -1,5 +1,5 @@
-// The public face: every exported call. Each answers by the rule that its contract names, for good and bad input alike, and none has a `requires`.
-// A refusal carries its number only (crate answer), and then every lent element keeps its value.
+// The public face: every exported call; those for a host in C stand in from_c.rt. Each answers by the rule that its contract names, for good and bad
+// input alike, and none has a `requires`. A refusal carries its number only (crate answer), and then every lent element keeps its value.
 use answer::Number;
 use answer::SPACE;
 use cutting::Counts;
@@ -9,8 +9,6 @@ use region::HeldOf;
 use vector::Vec3;
 ghost use mathlib.Core.Path.{_≡_};
 ghost use Prim.Native.Nat.{_^_, _<_};
-ghost use lib.IntN.{pos, negℤ};
-ghost use Rattle.algebra.specs.Sizes.{Upto};
 ghost use Rattle.answer.specs.Calls.{numberOf};
 ghost use Rattle.vector.specs.Vectors.{vec};
 ghost use Rattle.mesh.specs.Lookup as mesh_lookup;
@@ -20,8 +18,9 @@ ghost use Rattle.mesh.specs.Corners.{cornersGiven};
 ghost use Rattle.mesh.specs.Answers.{nameAnswer, nameAfter};
 ghost use Rattle.region.specs.Answers.{headerGiven, readAnswer, readAfter, writeAnswer, writeAfter, heldGiven, pointTest};
 ghost use Rattle.region.specs.Budgets.{budgetOf};
-ghost use Rattle.htm.specs.Answers.{entry, coverGiven, coverAnswer, coverAfter};
-ghost use Rattle.htm.specs.CalledFromC.{heldForC, statusOf, refusalOf, coverForC, coverAfterC, countsAfterC};
+ghost use Rattle.htm.specs.Answers.{coverGiven, coverAnswer, coverAfter};
+
+pub mod from_c;
 
 fn pointing(x: i32, y: i32, z: i32) -> Vec3
     ensures { λ r. ⌜ r ≡ vec x y z ⌝ }
@@ -116,69 +115,5 @@ pub fn cover(file: &[u8], out: &mut [u64]) -> CoverOf
             CoverOf::Gives(cutting::cover(h.depth, &rows, h.count as usize, budget, out))
         }
         HeaderOf::Refused(n) => CoverOf::Refused(n),
-    }
-}
-
-// The lookup for a host in C: the identifier, or 0 for a refusal.
-#[no_mangle]
-pub extern "C" fn lookup(x: i32, y: i32, z: i32, depth: u32) -> u64
-    ensures { λ r. ⌜ r ≡ entry x y z depth ⌝ }
-{
-    let answer = locate(x, y, z, depth);
-    match answer {
-        Number::Gives(id) => id,
-        Number::Refused(_) => 0,
-    }
-}
-
-// A refusal's number for a host in C.
-fn minus(n: u32) -> i64
-    ensures { λ r. ⌜ (r ≡ negℤ (pos n)) × Upto (2 ^ 32) r ⌝ }
-{
-    -(n as i64)
-}
-
-// The point test for a host in C: 1 where the region holds the pointing, 0 where it does not, or minus the number of the refusal.
-#[no_mangle]
-pub extern "C" fn htm_holds(file: &[u8], x: i32, y: i32, z: i32) -> i64
-    ensures { λ r. ⌜ r ≡ heldForC (pointTest (now (file .entry)) (vec x y z)) ⌝ }
-{
-    let answer = holds(file, x, y, z);
-    match answer {
-        HeldOf::Gives(held) => { if held { 1 } else { 0 } }
-        HeldOf::Refused(n) => minus(n),
-    }
-}
-
-// The refusal of a file whose cover has nowhere to go: its own, or 10.
-fn without_room(file: &[u8]) -> i64
-    ensures { λ r. ⌜ (r ≡ statusOf (refusalOf (now (file .entry)))) × Upto (2 ^ 32) r ⌝ }
-{
-    let mut none = [0u64; 1];
-    let answer = cover(file, &mut none);
-    match answer {
-        CoverOf::Gives(_) => 0,
-        CoverOf::Refused(n) => minus(n),
-    }
-}
-
-// The cover for a host in C: 0, with both counts and seen at the beginning of `counts`, or minus the number of the refusal; 10 also where `counts`
-// has fewer than three elements.
-#[no_mangle]
-pub extern "C" fn htm_cover(file: &[u8], out: &mut [u64], counts: &mut [u64]) -> i64
-    ensures { λ r. ⌜ r ≡ statusOf (coverForC (now (file .entry)) (now (out .entry)) (now (counts .entry))) ⌝ }
-    ensures { λ r. ⌜ now (out .exit) ≡ coverAfterC (now (file .entry)) (now (out .entry)) (now (counts .entry)) ⌝ }
-    ensures { λ r. ⌜ now (counts .exit) ≡ countsAfterC (now (file .entry)) (now (out .entry)) (now (counts .entry)) ⌝ }
-{
-    if counts.len() < 3 {
-        return without_room(file);
-    }
-    let answer = cover(file, out);
-    match answer {
-        CoverOf::Gives(c) => {
-            cutting::put_counts(counts, c);
-            0
-        }
-        CoverOf::Refused(n) => minus(n),
     }
 }

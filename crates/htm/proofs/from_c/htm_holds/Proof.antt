@@ -1,4 +1,4 @@
--- `htm::htm_holds` is the point test's answer as a number. Assumes nothing.
+-- `htm::from_c::htm_holds` is the point test's answer as a number. Assumes nothing.
 use mathlib.Core.Path.{_≡_, sym, ap, _∙_}
 use mathlib.Core.Bool.{cond}
 use lib.IntN.{pos}
@@ -8,8 +8,8 @@ use Rattle.algebra.proofs.Sized.{held}
 use Rattle.vector.specs.Vectors.{vec}
 use Rattle.region.specs.Answers.{heldGiven, pointTest}
 use Rattle.htm.specs.CalledFromC.{heldForC}
-use Rattle.htm.proofs.htm_holds.Statement.{statement}
-use Rattle.htm.proofs.htm_holds.Tie as tie
+use Rattle.htm.proofs.from_c.htm_holds.Statement.{statement}
+use Rattle.htm.proofs.from_c.htm_holds.Tie as tie
 
 -- what the point test answered, as the rule has it
 answered : (c : tie.After-holds) → heldForC (heldGiven (c .holds .result)) ≡ heldForC (pointTest (now (c .before .before .args .file)) (vec (c .before .before .args .x) (c .before .before .args .y) (c .before .before .args .z)))

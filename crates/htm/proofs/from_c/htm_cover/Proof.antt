@@ -1,0 +1,41 @@
+-- `htm::from_c::htm_cover` checks that the counts have room, and covers. Assumes nothing.
+use native.Mathlib.Omega.{arith}
+use mathlib.Core.Path.{sym, ap, _∙_}
+use denote.Ref.{now}
+use Rattle.algebra.proofs.Sized.{held}
+use Rattle.htm.specs.Answers.{coverGiven}
+use Rattle.htm.proofs.CLaws.{short-counts, covers}
+use Rattle.htm.proofs.from_c.htm_cover.Statement.{statement}
+use Rattle.htm.proofs.from_c.htm_cover.Tie as tie
+
+pub htm-cover-spec : {M : Type 1} → statement M
+htm-cover-spec =
+    tie.close
+    (tie.spec
+    (λ c κs. tt)
+    (λ c.
+    let s = c .before .before .before .before .before .args in
+    let w = c .without-room .ensures in
+    let k = short-counts (now (s .file)) (now (s .out)) (now (s .counts)) (omega (arith, c .before .if1 .taken)) in
+    (held (w .1) tt .eq ∙ w .0 ∙ k .0, k .1))
+    (λ c κs. tt)
+    (λ c. c .match .keys1)
+    (λ c κs. omega (arith, c .before .before .before .before .before .before .before .before .if1 .left))
+    (λ c. c .match .keys2)
+    (λ c κs. tt)
+    (λ c. c .before .before .before .before .before .before .before .before .before .cover .kept .1 .0)
+    (λ c. c .before .before .put-counts .kept .0)
+    (λ c.
+    let a = c .before .before .before .before .before in
+    let r = a .before .before .before .before in
+    let s = r .before .before .before .before .before .before .args in
+    let k = covers (now (s .file)) (now (s .out)) (now (s .counts)) (omega (arith, r .before .before .if1 .left)) _ _ (sym (ap coverGiven (a .answer .given .1)) ∙ r .cover .ensures .0) (r .cover .ensures .1) in
+    (k .0, (k .1 .0, c .before .before .put-counts .ensures ∙ k .1 .1)))
+    (λ c. c .before .before .before .before .before .before .cover .kept .1 .0)
+    (λ c.
+    let a = c .before .before in
+    let r = a .before .before .before .before in
+    let s = r .before .before .before .before .before .before .args in
+    let m = c .minus .ensures in
+    let k = covers (now (s .file)) (now (s .out)) (now (s .counts)) (omega (arith, r .before .before .if1 .left)) _ _ (sym (ap coverGiven (a .answer2 .given .1)) ∙ r .cover .ensures .0) (r .cover .ensures .1) in
+    (held (m .1) tt .eq ∙ m .0 ∙ k .0, k .1)))
