@@ -2,20 +2,24 @@
  *
  * Units: a pointing is three whole numbers, K = 1048576 times the unit vector. Each component is from -K to K, and the square
  * of its length from (K-2)^2 to (K+2)^2. An identifier is a trixel's number: S is binary 10, N is 11, then two bits a digit.
+ * Depth 1 is one of the eight roots, S0 to N3, which are 8 to 15; identifiers and names go to depth 31, lookups, corners and
+ * region files to depth 12.
  *
- * Boundary: a halfspace of direction n and offset d holds the point p when n.p > d*K, strictly. A point on the plane is not held.
+ * Boundaries: a halfspace of direction n and offset d holds the point p when n.p > d*K, strictly: a point on the plane is not
+ * held. A range of identifiers has both its ends in it. A point on the edge of two trixels is in one of them, that of lookup.
  *
  * Memory: a list is passed as a pointer and its number of elements. The caller owns every list; the library reads or writes it
  * during the call, allocates nothing and keeps nothing. A pointer is not null, and lists that are written do not overlap others.
  * No number of elements, no byte of a file and no value of another argument is forbidden: what breaks a rule is refused.
- * After a refusal every lent element has its old value.
+ * After a refusal every lent element has its old value, and an element that a call is not said to write always keeps its own.
  *
- * Refusals, by number:
+ * Refusals, by number. A call that gives an int64_t gives -N for refusal N, and 10 comes after all other checks of the call:
  *    1 long    file over 10508 bytes             6 budget  over 2048
  *    2 torn    a record does not fit the rest    7 crowd   over 64 convexes, 100 halfspaces in one, 512 in all
  *    3 kind    unknown kind, or not its length   8 vector  a direction or a point that is no pointing
  *    4 order   records out of order, or missing  9 offset  not from -K to K
- *    5 depth   not from 1 to 12                 10 space   a lent list is too short */
+ *    5 depth   not from 1 to 12                 10 space   a lent list is too short
+ *                                               11 name    no name or identifier; corners below depth 12 */
 #ifndef HTM_H
 #define HTM_H
 
@@ -29,6 +33,33 @@ extern "C" {
 /* The identifier of the trixel of the given depth, 1 to 12, in which the pointing (x, y, z) lies.
  * 0 for a refusal: a depth not from 1 to 12, or a pointing that breaks the rule above. No identifier is 0. */
 uint64_t lookup(int32_t x, int32_t y, int32_t z, uint32_t depth);
+
+/* The name of an identifier of depth 1 to 31, from out[0] on: S or N and as many digits 0 to 3 as the depth, in ASCII, with no
+ * zero byte after it. Its length, 2 to 32.
+ * -11 where id is no identifier; then -10 where out has fewer bytes than the name (32 are always enough). */
+int64_t htm_name(uint64_t id, uint8_t *out, size_t bytes);
+
+/* The identifier of a name of so many bytes, 2 to 32: S or N and 1 to 31 digits 0 to 3, in ASCII, with no zero byte.
+ * 0 for a refusal (11: no name). No identifier is 0, and one of depth 31 has bit 63, so the answer has no sign. */
+uint64_t htm_identifier(const uint8_t *name, size_t bytes);
+
+/* The three corners of the trixel of an identifier of depth 1 to 12, nine numbers in out[0] to out[8]: x, y, z of the first, of
+ * the second and of the third. Each is from -K to K; the unit is that of a pointing.
+ * 0; -11 where id is no identifier or deeper than 12; then -10 where out has fewer than 9 elements. */
+int64_t htm_corners(uint64_t id, int32_t *out, size_t elements);
+
+/* The rows of a region file of so many bytes, five numbers a halfspace from rows[0] on: the number of its convex, from 0 on, then
+ * its direction x, y, z and its offset d. header[0] is the count of rows, header[1] the depth and header[2] the budget, as written
+ * (a budget of 0 counts as 64 in a cover, and is 0 here).
+ * 0, or -N for refusal N: that of the file's first failed check, 1 to 9; then -10 where rows has fewer than 5 * count elements
+ * (2560 are always enough) or header fewer than 3. */
+int64_t htm_read(const uint8_t *file, size_t bytes, int32_t *rows, size_t elements, uint64_t *header, size_t n);
+
+/* The region file of rows as htm_read gives them, from out[0] on. elements is how many numbers there are, five a row: the first
+ * row's convex is 0, each next row's is the same or one more. depth is 1 to 12, budget 0 to 2048. The file's length, 36 to 10508.
+ * -N for refusal N: 5, 6, then 4 where there are no rows or no whole fives, then row by row 4, 7, 8, 9; then -10 where out has
+ * fewer bytes than the file (10508 are always enough). */
+int64_t htm_write(uint32_t depth, uint32_t budget, const int32_t *rows, size_t elements, uint8_t *out, size_t bytes);
 
 /* Whether the region of a region file of so many bytes holds the pointing (x, y, z): 1 held, 0 not held.
  * -N for refusal N: that of the file's first failed check, 1 to 9; then -8 where (x, y, z) is no pointing. */
