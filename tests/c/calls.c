@@ -1,0 +1,526 @@
+/* The C calls on the stored cases of program query. Each command line of crates/query/stdin is answered through htm.h, printed as
+ * query prints it, and compared with its line of crates/query/stdout. Every call that writes into lent lists is made on each case
+ * with lists that are longer than needed, shorter by one element and exactly long enough.
+ *
+ *   calls STDIN STDOUT     one line a call; exit status 1 on any difference */
+#include <inttypes.h>
+#include <stdarg.h>
+#include <stdbool.h>
+#include <stdio.h>
+#include <stdlib.h>
+#include <string.h>
+
+#include "htm.h"
+
+#define SPACE (-10)
+#define BEHIND 16 /* elements of a lent list that no answer reaches */
+#define NAME (32 + BEHIND)
+#define CORNERS (9 + BEHIND)
+#define ROWS (2560 + BEHIND)
+#define THREE (3 + BEHIND)
+#define FILE_BYTES (10508 + BEHIND)
+#define LISTS (8192 + BEHIND)
+#define MOST 32768 /* no command line has more bytes of a file, or more numbers */
+
+struct text {
+    const uint8_t *at;
+    size_t n;
+};
+
+struct tally {
+    long equal, refused, differ, shorter, exact;
+};
+
+static struct text line, wanted;         /* the case at hand */
+static struct tally *now;                /* its call's tally */
+static size_t line_number;
+static char printed[1 << 18];            /* the answer through C */
+static size_t printed_n;
+
+static void die(const char *what, const char *of)
+{
+    fprintf(stderr, "calls: %s %s\n", what, of);
+    exit(1);
+}
+
+static void print(const char *format, ...)
+{
+    va_list words;
+    va_start(words, format);
+    printed_n += (size_t)vsnprintf(printed + printed_n, sizeof printed - printed_n, format, words);
+    va_end(words);
+    if (printed_n >= sizeof printed)
+        die("an answer is too long", "");
+}
+
+static void show(const char *label, const void *at, size_t n)
+{
+    printf("  %-6s %.*s%s\n", label, (int)(n < 300 ? n : 300), (const char *)at, n < 300 ? "" : " ..");
+}
+
+static void must(bool is, const char *what)
+{
+    if (is)
+        return;
+    now->differ++;
+    printf("line %zu: it is not so that %s\n", line_number, what);
+    show("line", line.at, line.n);
+}
+
+/* An answer that the lent list cannot hold: nothing after it can be trusted. */
+static void must_fit(bool is, const char *what)
+{
+    must(is, what);
+    if (!is)
+        exit(1);
+}
+
+/* ---- words of a line, as query has accepted them: parted by one blank */
+
+static struct text take_word(struct text *rest)
+{
+    const uint8_t *blank = memchr(rest->at, ' ', rest->n);
+    struct text word = {rest->at, blank ? (size_t)(blank - rest->at) : rest->n};
+    size_t used = word.n + (blank ? 1 : 0);
+    rest->at += used;
+    rest->n -= used;
+    return word;
+}
+
+static uint64_t take_natural(struct text *rest)
+{
+    struct text word = take_word(rest);
+    uint64_t n = 0;
+    for (size_t i = 0; i < word.n; i++)
+        n = n * 10 + (uint64_t)(word.at[i] - '0');
+    return n;
+}
+
+static int32_t take_whole(struct text *rest)
+{
+    bool negative = rest->n > 0 && rest->at[0] == '-';
+    if (negative) {
+        rest->at++;
+        rest->n--;
+    }
+    int64_t n = (int64_t)take_natural(rest);
+    return (int32_t)(negative ? -n : n);
+}
+
+static int digit(uint8_t c)
+{
+    return c <= '9' ? c - '0' : (c | 32) - 'a' + 10;
+}
+
+/* A file in hexadecimal digits; `-` is the one with no bytes. */
+static size_t take_file(struct text *rest, uint8_t file[MOST])
+{
+    struct text word = take_word(rest);
+    size_t n = word.n / 2;
+    if (n > MOST)
+        die("a file is too long", "");
+    for (size_t i = 0; i < n; i++)
+        file[i] = (uint8_t)(digit(word.at[2 * i]) * 16 + digit(word.at[2 * i + 1]));
+    return n;
+}
+
+/* ---- lent lists: painted before a call, so that every element that it writes shows */
+
+static uint8_t colour(size_t i)
+{
+    return (uint8_t)(0xa5 ^ (i * 29));
+}
+
+static void paint(void *list, size_t bytes)
+{
+    for (size_t i = 0; i < bytes; i++)
+        ((uint8_t *)list)[i] = colour(i);
+}
+
+static bool stays(const void *list, size_t from, size_t to)
+{
+    for (size_t i = from; i < to; i++)
+        if (((const uint8_t *)list)[i] != colour(i))
+            return false;
+    return true;
+}
+
+/* A refused call: with no room at all the number is the same, since 10 comes after all other checks, and no element changes. */
+static void must_refuse(int64_t number, int64_t without_room, bool all_stays)
+{
+    must(without_room == number, "a refusal comes before that of lists too short");
+    must(all_stays, "a refusal changes no lent element");
+}
+
+static void must_be_short(int64_t number, bool all_stays)
+{
+    must(number == SPACE, "a list shorter by one element is refused with 10");
+    must(all_stays, "refusal 10 changes no lent element");
+    now->shorter++;
+}
+
+static void must_be_exact(bool same)
+{
+    must(same, "an exact list gets the same answer");
+    now->exact++;
+}
+
+/* ---- each call on lists of the three lengths; the answer is that on long ones */
+
+static int64_t try_name(uint64_t id, uint8_t out[NAME])
+{
+    uint8_t again[NAME];
+    paint(out, NAME);
+    paint(again, NAME);
+    int64_t n = htm_name(id, out, NAME);
+    if (n < 0) {
+        must_refuse(n, htm_name(id, again, 0), stays(out, 0, NAME) && stays(again, 0, NAME));
+        return n;
+    }
+    must_fit(n <= NAME - BEHIND, "a name has at most 32 bytes");
+    must(stays(out, (size_t)n, NAME), "what is behind the name stays");
+    must_be_short(htm_name(id, again, (size_t)n - 1), stays(again, 0, NAME));
+    must_be_exact(htm_name(id, again, (size_t)n) == n && memcmp(again, out, NAME) == 0);
+    return n;
+}
+
+static int64_t try_corners(uint64_t id, int32_t out[CORNERS])
+{
+    const size_t all = CORNERS * sizeof out[0];
+    int32_t again[CORNERS];
+    paint(out, all);
+    paint(again, all);
+    int64_t answer = htm_corners(id, out, CORNERS);
+    if (answer < 0) {
+        must_refuse(answer, htm_corners(id, again, 0), stays(out, 0, all) && stays(again, 0, all));
+        return answer;
+    }
+    must(stays(out, 9 * sizeof out[0], all), "what is behind nine numbers stays");
+    must_be_short(htm_corners(id, again, 8), stays(again, 0, all));
+    must_be_exact(htm_corners(id, again, 9) == 0 && memcmp(again, out, all) == 0);
+    return answer;
+}
+
+static int64_t try_read(const uint8_t *file, size_t bytes, int32_t rows[ROWS], uint64_t header[THREE])
+{
+    const size_t all = ROWS * sizeof rows[0], three = THREE * sizeof header[0];
+    static int32_t again[ROWS];
+    uint64_t head[THREE];
+    paint(rows, all);
+    paint(header, three);
+    paint(again, all);
+    paint(head, three);
+    int64_t answer = htm_read(file, bytes, rows, ROWS, header, THREE);
+    if (answer < 0) {
+        bool kept = stays(rows, 0, all) && stays(header, 0, three);
+        must_refuse(answer, htm_read(file, bytes, again, 0, head, 0), kept && stays(again, 0, all) && stays(head, 0, three));
+        return answer;
+    }
+    must_fit(header[0] <= 512, "a file has at most 512 rows");
+    size_t n = (size_t)header[0] * 5;
+    must(stays(rows, n * sizeof rows[0], all), "what is behind the rows stays");
+    must(stays(header, 3 * sizeof header[0], three), "what is behind count, depth and budget stays");
+    int64_t short_rows = htm_read(file, bytes, again, n - 1, head, THREE);
+    must_be_short(short_rows, stays(again, 0, all) && stays(head, 0, three));
+    int64_t short_head = htm_read(file, bytes, again, ROWS, head, 2);
+    must_be_short(short_head, stays(again, 0, all) && stays(head, 0, three));
+    int64_t exact = htm_read(file, bytes, again, n, head, 3);
+    must_be_exact(exact == 0 && memcmp(again, rows, all) == 0 && memcmp(head, header, three) == 0);
+    return answer;
+}
+
+static int64_t try_write(uint32_t depth, uint32_t budget, const int32_t *rows, size_t elements, uint8_t out[FILE_BYTES])
+{
+    static uint8_t again[FILE_BYTES];
+    paint(out, FILE_BYTES);
+    paint(again, FILE_BYTES);
+    int64_t n = htm_write(depth, budget, rows, elements, out, FILE_BYTES);
+    if (n < 0) {
+        int64_t without_room = htm_write(depth, budget, rows, elements, again, 0);
+        must_refuse(n, without_room, stays(out, 0, FILE_BYTES) && stays(again, 0, FILE_BYTES));
+        return n;
+    }
+    must_fit(n <= FILE_BYTES - BEHIND, "a file has at most 10508 bytes");
+    must(stays(out, (size_t)n, FILE_BYTES), "what is behind the file stays");
+    int64_t shorter = htm_write(depth, budget, rows, elements, again, (size_t)n - 1);
+    must_be_short(shorter, stays(again, 0, FILE_BYTES));
+    int64_t exact = htm_write(depth, budget, rows, elements, again, (size_t)n);
+    must_be_exact(exact == n && memcmp(again, out, FILE_BYTES) == 0);
+    return n;
+}
+
+/* The budget is the file's, 64 where it says 0; it counts only where the file is accepted. */
+static int64_t try_cover(const uint8_t *file, size_t bytes, size_t budget, uint64_t out[LISTS], uint64_t counts[THREE])
+{
+    const size_t all = LISTS * sizeof out[0], three = THREE * sizeof counts[0], pair = 2 * sizeof out[0];
+    static uint64_t again[LISTS];
+    uint64_t tally[THREE];
+    paint(out, all);
+    paint(counts, three);
+    paint(again, all);
+    paint(tally, three);
+    int64_t answer = htm_cover(file, bytes, out, LISTS, counts, THREE);
+    if (answer < 0) {
+        bool kept = stays(out, 0, all) && stays(counts, 0, three);
+        must_refuse(answer, htm_cover(file, bytes, again, 0, tally, 0), kept && stays(again, 0, all) && stays(tally, 0, three));
+        return answer;
+    }
+    must_fit(counts[0] <= budget && counts[1] <= budget, "both lists keep to the budget");
+    must(stays(out, counts[0] * pair, budget * pair), "what is between both lists stays");
+    must(stays(out, (budget + counts[1]) * pair, all), "what is behind the inner list stays");
+    must(stays(counts, 3 * sizeof counts[0], three), "what is behind the counts stays");
+    int64_t short_lists = htm_cover(file, bytes, again, 4 * budget - 1, tally, THREE);
+    must_be_short(short_lists, stays(again, 0, all) && stays(tally, 0, three));
+    int64_t short_counts = htm_cover(file, bytes, again, LISTS, tally, 2);
+    must_be_short(short_counts, stays(again, 0, all) && stays(tally, 0, three));
+    int64_t exact = htm_cover(file, bytes, again, 4 * budget, tally, 3);
+    must_be_exact(exact == 0 && memcmp(again, out, all) == 0 && memcmp(tally, counts, three) == 0);
+    return answer;
+}
+
+/* ---- the answers, printed as query prints them */
+
+static bool print_refusal(int64_t answer)
+{
+    if (answer >= 0)
+        return false;
+    print("refused %" PRId64, -answer);
+    now->refused++;
+    return true;
+}
+
+static void print_name(uint64_t id)
+{
+    uint8_t name[32];
+    int64_t n = htm_name(id, name, sizeof name);
+    if (!print_refusal(n))
+        print("%.*s", (int)n, (const char *)name);
+}
+
+/* lookup X Y Z DEPTH. The call gives 0 for a refusal, whose number is left out of the comparison. */
+static void answer_lookup(struct text rest)
+{
+    int32_t x = take_whole(&rest), y = take_whole(&rest), z = take_whole(&rest);
+    uint64_t id = lookup(x, y, z, (uint32_t)take_natural(&rest));
+    if (id == 0) {
+        print("refused");
+        now->refused++;
+        return;
+    }
+    print("%" PRIu64 " ", id);
+    print_name(id);
+}
+
+/* name ID */
+static void answer_name(struct text rest)
+{
+    uint8_t name[NAME];
+    int64_t n = try_name(take_natural(&rest), name);
+    if (!print_refusal(n))
+        print("%.*s", (int)n, (const char *)name);
+}
+
+/* id NAME. The call gives 0 for refusal 11, the only one. */
+static void answer_id(struct text rest)
+{
+    struct text name = take_word(&rest);
+    uint64_t id = htm_identifier(name.at, name.n);
+    if (!print_refusal(id == 0 ? -11 : 0))
+        print("%" PRIu64, id);
+}
+
+/* corners ID */
+static void answer_corners(struct text rest)
+{
+    int32_t c[CORNERS];
+    if (print_refusal(try_corners(take_natural(&rest), c)))
+        return;
+    for (int i = 0; i < 9; i++)
+        print("%s%" PRId32, i ? " " : "", c[i]);
+}
+
+/* rows HEX */
+static void answer_rows(struct text rest)
+{
+    static uint8_t file[MOST];
+    static int32_t rows[ROWS];
+    uint64_t header[THREE];
+    size_t bytes = take_file(&rest, file);
+    if (print_refusal(try_read(file, bytes, rows, header)))
+        return;
+    print("%" PRIu64 " %" PRIu64 " %" PRIu64, header[1], header[2], header[0]);
+    for (size_t i = 0; i < header[0] * 5; i++)
+        print(" %" PRId32, rows[i]);
+}
+
+/* file DEPTH BUDGET N1 N2 .. */
+static void answer_file(struct text rest)
+{
+    static int32_t rows[MOST];
+    static uint8_t out[FILE_BYTES];
+    uint32_t depth = (uint32_t)take_natural(&rest), budget = (uint32_t)take_natural(&rest);
+    size_t n = 0;
+    while (rest.n > 0 && n < MOST)
+        rows[n++] = take_whole(&rest);
+    int64_t bytes = try_write(depth, budget, rows, n, out);
+    if (print_refusal(bytes))
+        return;
+    for (int64_t i = 0; i < bytes; i++)
+        print("%02x", out[i]);
+}
+
+/* holds HEX X Y Z */
+static void answer_holds(struct text rest)
+{
+    static uint8_t file[MOST];
+    size_t bytes = take_file(&rest, file);
+    int32_t x = take_whole(&rest), y = take_whole(&rest), z = take_whole(&rest);
+    int64_t held = htm_holds(file, bytes, x, y, z);
+    must(held <= 1, "the point test answers 1 or 0");
+    if (!print_refusal(held))
+        print(held ? "yes" : "no");
+}
+
+static void print_ranges(char letter, const uint64_t *pairs, uint64_t count)
+{
+    for (uint64_t i = 0; i < count; i++) {
+        print("|%c ", letter);
+        print_name(pairs[2 * i]);
+        print(" ");
+        print_name(pairs[2 * i + 1]);
+    }
+}
+
+/* cover HEX */
+static void answer_cover(struct text rest)
+{
+    static uint8_t file[MOST];
+    static int32_t rows[ROWS];
+    static uint64_t lists[LISTS];
+    uint64_t header[THREE] = {0}, counts[THREE];
+    size_t bytes = take_file(&rest, file);
+    int64_t accepted = htm_read(file, bytes, rows, ROWS, header, THREE);
+    size_t budget = header[2] ? (size_t)header[2] : 64;
+    int64_t answer = try_cover(file, bytes, budget, lists, counts);
+    must(answer == accepted, "reader and cover refuse alike");
+    if (print_refusal(answer) || accepted < 0)
+        return;
+    print("depth %" PRIu64 " outer %" PRIu64 " inner %" PRIu64 " seen %" PRIu64, header[1], counts[0], counts[1], counts[2]);
+    print_ranges('o', lists, counts[0]);
+    print_ranges('i', lists + 2 * budget, counts[1]);
+}
+
+/* ---- the cases */
+
+static struct command {
+    const char *word, *call;
+    void (*answer)(struct text rest);
+    struct tally tally;
+} commands[] = {
+    {"lookup", "lookup", answer_lookup, {0}},      {"name", "htm_name", answer_name, {0}},
+    {"id", "htm_identifier", answer_id, {0}},      {"corners", "htm_corners", answer_corners, {0}},
+    {"rows", "htm_read", answer_rows, {0}},        {"file", "htm_write", answer_file, {0}},
+    {"holds", "htm_holds", answer_holds, {0}},     {"cover", "htm_cover", answer_cover, {0}},
+};
+#define COMMANDS (sizeof commands / sizeof commands[0])
+
+static bool is(struct text t, const char *word)
+{
+    return t.n == strlen(word) && memcmp(t.at, word, t.n) == 0;
+}
+
+/* Equal, or `refused` alone from the lookup where query has the number too. */
+static bool as_wanted(void)
+{
+    if (printed_n == 7 && memcmp(printed, "refused", 7) == 0)
+        return wanted.n > 8 && memcmp(wanted.at, "refused ", 8) == 0;
+    return printed_n == wanted.n && memcmp(printed, wanted.at, wanted.n) == 0;
+}
+
+static void compare(struct command *c, struct text rest)
+{
+    now = &c->tally;
+    printed_n = 0;
+    c->answer(rest);
+    if (as_wanted()) {
+        now->equal++;
+        return;
+    }
+    now->differ++;
+    printf("line %zu: the answers differ\n", line_number);
+    show("line", line.at, line.n);
+    show("wanted", wanted.at, wanted.n);
+    show("got", printed, printed_n);
+}
+
+static bool take_line(struct text *from, struct text *to)
+{
+    if (from->n == 0)
+        return false;
+    const uint8_t *feed = memchr(from->at, '\n', from->n);
+    to->at = from->at;
+    to->n = feed ? (size_t)(feed - from->at) : from->n;
+    size_t used = to->n + (feed ? 1 : 0);
+    from->at += used;
+    from->n -= used;
+    return true;
+}
+
+static struct text read_all(const char *path)
+{
+    static const size_t most = 1 << 26;
+    uint8_t *bytes = malloc(most);
+    FILE *f = fopen(path, "rb");
+    if (!f || !bytes)
+        die("cannot read", path);
+    size_t n = fread(bytes, 1, most, f);
+    if (ferror(f) || n == most)
+        die("cannot read all of", path);
+    fclose(f);
+    return (struct text){bytes, n};
+}
+
+/* The tallies, a line each. The result is how many differences there are. */
+static long report(long skipped)
+{
+    long differ = 0;
+    for (size_t i = 0; i < COMMANDS; i++) {
+        const struct tally *t = &commands[i].tally;
+        printf("%-15s %4ld cases equal, %3ld refusals; lent lists: %3ld short by one, %3ld exact; %ld differences\n", commands[i].call,
+               t->equal, t->refused, t->shorter, t->exact, t->differ);
+        differ += t->differ;
+        if (t->equal == 0) {
+            printf("%s: no case\n", commands[i].call);
+            differ++;
+        }
+    }
+    printf("%ld lines of another shape skipped, since query answers them with usage\n", skipped);
+    return differ;
+}
+
+int main(int argc, char **argv)
+{
+    if (argc != 3)
+        die("usage: calls", "STDIN STDOUT");
+    struct text lines = read_all(argv[1]), answers = read_all(argv[2]);
+    long skipped = 0;
+    while (take_line(&lines, &line)) {
+        line_number++;
+        if (!take_line(&answers, &wanted))
+            die("fewer answers than lines in", argv[2]);
+        if (is(wanted, "usage")) {
+            skipped++;
+            continue;
+        }
+        struct text rest = line, word = take_word(&rest);
+        size_t i = 0;
+        while (i < COMMANDS && !is(word, commands[i].word))
+            i++;
+        if (i == COMMANDS)
+            die("a command that is not known is answered in", argv[2]);
+        compare(&commands[i], rest);
+    }
+    if (answers.n > 0)
+        die("more answers than lines in", argv[2]);
+    return report(skipped) ? 1 : 0;
+}
