@@ -3,6 +3,7 @@
 #   make host        builds and runs examples/host.c
 #   make test        every C call on the stored cases of program query, and what examples/host.c prints
 #   make sqlite      the SQLite host on 300,000 frames: what it delivers beside a test of every frame
+#   make postgres    the same table in private PostgreSQL servers, beside the SQLite host's answers
 #
 # LIB=FILE takes another archive, which is then not built.
 
@@ -11,7 +12,7 @@ INCLUDE = include
 CFLAGS = -std=c11 -Wall -Wextra -Werror -O2
 COMPILE = $(CC) $(CFLAGS) -I$(INCLUDE)
 
-.PHONY: host test sqlite sqlite-header
+.PHONY: host test sqlite sqlite-header postgres
 
 host: target/c/host
 	target/c/host
@@ -31,6 +32,9 @@ sqlite: sqlite-header target/c/frames
 	target/c/frames export target/c/copy.db | cmp - target/c/frames.csv
 	target/c/frames test target/c/copy.db
 
+postgres: sqlite-header target/c/frames target/c/region
+	examples/postgres/run.sh
+
 sqlite-header:
 	@echo '#include <sqlite3.h>' | $(CC) -E - > /dev/null 2>&1 || \
 	  { echo "sqlite3.h is missing: install SQLite's header (Debian: apt-get install libsqlite3-dev)" >&2; exit 1; }
@@ -48,6 +52,10 @@ FRAMES = examples/sqlite/frames.c examples/sqlite/sky.c examples/sqlite/test.c e
 target/c/frames: $(FRAMES) examples/sqlite/frames.h examples/pieces.h $(LIB) $(INCLUDE)/htm.h
 	@mkdir -p target/c
 	$(COMPILE) -o $@ $(FRAMES) $(LIB) -lsqlite3
+
+target/c/region: examples/postgres/region.c examples/pieces.c examples/pieces.h $(LIB) $(INCLUDE)/htm.h
+	@mkdir -p target/c
+	$(COMPILE) -o $@ examples/postgres/region.c examples/pieces.c $(LIB)
 
 # From nothing the proofs take minutes; what has not changed since is not proved again. What htm depends on comes first, since
 # rt check proves crates beside each other and rt staticlib one after the other.
