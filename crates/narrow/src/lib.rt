@@ -49,16 +49,24 @@ fn keep(ys: &mut [i64], w: usize, q: Half, c: Class) -> usize
     }
 }
 
-// The open halfspaces of a convex, stored from number w on.
-fn open_convex(r: Near, xs: &[i64], from: usize, end: usize, ys: &mut [i64], w: usize) -> Opened
-    requires { ⌜ Placed r × (w ≤ 32) × (7 * 32 ≤ length (now ys)) ⌝ }
+// The open halfspaces of a convex, stored from number w on; `most` are the most that are kept.
+fn open_convex(
+    r: Near,
+    xs: &[i64],
+    from: usize,
+    end: usize,
+    ys: &mut [i64],
+    w: usize,
+    most: usize,
+) -> Opened
+    requires { ⌜ Placed r × (w ≤ 32) × (7 * 32 ≤ length (now ys)) × (most ≤ 32) ⌝ }
     requires { ⌜ SomeConvex (now xs) from end ⌝ }
     ensures { λ o. ⌜ OpenedConvex r (now (xs .entry)) from end w (now (ys .entry)) (now (ys .exit)) o ⌝ }
 {
     let mut i = from;
     let mut m = w;
     while i < end {
-        if 32 <= m {
+        if most <= m {
             return Opened::Crowded;
         }
         let q = classes::half_at(xs, 7 * i);
@@ -84,14 +92,15 @@ fn add_convex(
     ys: &mut [i64],
     marks: &mut [u64],
     s: Kept,
+    most: usize,
 ) -> Kept
-    requires { ⌜ Placed r × (i < n) ⌝ }
+    requires { ⌜ Placed r × (i < n) × (most ≤ 32) ⌝ }
     requires { ⌜ SomeNarrowing r (now xs) (now ends) n i k s (now ys) (now marks) ⌝ }
     ensures { λ z. ⌜ NarrowsOn r (now (xs .entry)) (now (ends .entry)) n i k s (now (ys .entry)) (now (marks .entry)) z (now (ys .exit)) (now (marks .exit)) ⌝ }
 {
     let w = s.halves;
     let c = s.convexes;
-    let o = open_convex(r, xs, i, ends[k] as usize, ys, w);
+    let o = open_convex(r, xs, i, ends[k] as usize, ys, w, most);
     match o {
         Opened::Outside => Kept {
             more: true,
@@ -121,7 +130,7 @@ fn add_convex(
     }
 }
 
-// The open halfspaces of a region beside r, and the ends of their convexes; how many there are, or 0 where they are too many to be kept.
+// The open halfspaces of a region beside r, and the ends of their convexes; how many there are, or 0 where they are more than `most`.
 fn open_region(
     r: Near,
     xs: &[i64],
@@ -129,8 +138,9 @@ fn open_region(
     n: usize,
     ys: &mut [i64],
     marks: &mut [u64],
+    most: usize,
 ) -> usize
-    requires { ⌜ Placed r × (7 * 32 ≤ length (now ys)) × (32 ≤ length (now marks)) ⌝ }
+    requires { ⌜ Placed r × (7 * 32 ≤ length (now ys)) × (32 ≤ length (now marks)) × (most ≤ 32) ⌝ }
     requires { ⌜ Ready (now xs) (now ends) n ⌝ }
     ensures { λ w. ⌜ (0 < w → Narrowed (now (xs .entry)) (now (ends .entry)) n (now (ys .exit)) (now (marks .exit)) w r) ⌝ }
 {
@@ -142,7 +152,7 @@ fn open_region(
     let mut i: usize = 0;
     let mut k: usize = 0;
     while i < n {
-        s = add_convex(r, xs, ends, n, i, k, ys, marks, s);
+        s = add_convex(r, xs, ends, n, i, k, ys, marks, s, most);
         if !s.more {
             return 0;
         }
@@ -150,6 +160,13 @@ fn open_region(
         k += 1;
     }
     s.halves
+}
+
+// How many open halfspaces of n are kept: a third, and at most 32. Where more are open it is better to look again below.
+fn most_of(n: usize) -> usize
+    ensures { λ m. ⌜ m ≤ 32 ⌝ }
+{
+    if n < 96 { n / 3 } else { 32 }
 }
 
 // The place at the middle of t, with the open halfspaces beside it in `ys` and `marks`.
@@ -168,7 +185,7 @@ pub fn narrowed(
 {
     let s = measures::measured(t);
     let r = nearby::place_of(t, middle::ball_of(t, s), 0);
-    let w = open_region(r, xs, ends, n, ys, marks);
+    let w = open_region(r, xs, ends, n, ys, marks, most_of(n));
     let b = r.b;
     Near {
         b: b,

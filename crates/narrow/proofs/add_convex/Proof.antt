@@ -22,7 +22,7 @@ add-convex-spec =
     (tie.spec
     (λ c. let s = c .before .before in let h = end-read _ _ _ _ _ (s .pre .0 .1) (s .pre .1 .1) in omega arith)
     (λ c. let s = c .before .before .before in end-read _ _ _ _ _ (s .pre .0 .1) (s .pre .1 .1))
-    (λ c κs. let s = c .before .before .before .before in let a = s .pre .1 .1 in ((s .pre .0 .0, a .few, a .long), some-convex _ _ _ _ _ (s .pre .0 .1) a))
+    (λ c κs. let s = c .before .before .before .before in let a = s .pre .1 .1 in ((s .pre .0 .0, a .few, a .long, s .pre .0 .2), some-convex _ _ _ _ _ (s .pre .0 .1) a))
     (λ c. search needs)
     (λ c. search needs)
     (λ c. search needs)

@@ -9,9 +9,9 @@ use Rattle.narrow.proofs.narrowed.Tie as tie
 
 returns : tie.Need-returns
 returns c =
-    let p = c .before .before .before .before .before .place-of .ensures .0 in
+    let p = c .before .before .before .before .before .before .place-of .ensures .0 in
     let o = c .before .before .open-region in
-    let a = c .before .before .before .before .before .before .before .before .before .args in
+    let a = c .before .before .before .before .before .before .before .before .before .before .args in
     let long : length (a .ys .now) ≡ 224 = search needs in
     let wide : length (a .marks .now) ≡ 32 = search needs in
     (beside p (o .ensures) (held (p .reach) tt .eq) (held (p .margin) tt .eq), (sym (o .kept .1 .1 .1 .1 .0 ∙ long), sym (o .kept .1 .1 .1 .1 .1 .0 ∙ wide)))
@@ -20,6 +20,7 @@ pub narrowed-spec : {M : Type 1} → statement M
 narrowed-spec =
     tie.close
     (tie.spec
+    (λ c κs. search needs)
     (λ c κs. search needs)
     (λ c κs. search needs)
     (λ c κs. search needs)

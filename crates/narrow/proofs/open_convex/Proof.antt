@@ -12,10 +12,10 @@ use Rattle.narrow.proofs.open_convex.Statement.{statement}
 use Rattle.narrow.proofs.open_convex.Tie as tie
 
 abbrev Inv-loop : tie.InvT-loop
-Inv-loop r xs from end ys₀ w i₀ m₀ ys i m = (length ys ≡ length ys₀) × ((v : Convex) → ConvexAt xs from end v → AtOpen r xs end v w ys₀ i m ys)
+Inv-loop r xs from end ys₀ w most i₀ m₀ ys i m = (length ys ≡ length ys₀) × ((v : Convex) → ConvexAt xs from end v → AtOpen r xs end v w ys₀ i m ys)
 
 abbrev μ-loop : tie.MeasureT-loop
-μ-loop r xs from end ys₀ w i₀ m₀ ys i m = end - i
+μ-loop r xs from end ys₀ w most i₀ m₀ ys i m = end - i
 
 -- the halfspace is sound
 sound : (c : tie.After-half-at Inv-loop μ-loop) → SoundHalf (c .half-at .result)
@@ -41,7 +41,7 @@ loop-again c =
       c .before .keep .kept .0 ∙ l .loop .inv .0,
       λ v a.
           open-more _ _ _ _ _ _ (open-half _ _ _ _ _ _ (l .before .pre .0 .0) _ _ _ (l .loop .inv .1 v a) (omega arith)) (k .before .half-at .ensures) (k .settled .ensures) (o .is-outside .ensures)
-          (c .before .before .before .if2 .left) (omega arith) (l .before .pre .0 .2) (c .before .keep .ensures .0) (c .before .keep .ensures .1),
+          (c .before .before .before .if2 .left) (omega (arith, l .before .pre .0 .3)) (l .before .pre .0 .2) (c .before .keep .ensures .0) (c .before .keep .ensures .1),
     )
 
 pub open-convex-spec : {M : Type 1} → statement M

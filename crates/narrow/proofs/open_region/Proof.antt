@@ -12,11 +12,11 @@ use Rattle.narrow.proofs.open_region.Statement.{statement}
 use Rattle.narrow.proofs.open_region.Tie as tie
 
 abbrev Inv-loop : tie.InvT-loop
-Inv-loop r xs ends n ys₀ marks₀ s₀ i₀ k₀ ys marks s i k =
+Inv-loop r xs ends n ys₀ marks₀ most s₀ i₀ k₀ ys marks s i k =
     (length ys ≡ length ys₀) × (length marks ≡ length marks₀) × ((g : Region) → Prepared g xs ends n → Narrowing r xs ends n g i k (s .halves) (s .convexes) ys marks)
 
 abbrev μ-loop : tie.MeasureT-loop
-μ-loop r xs ends n ys₀ marks₀ s₀ i₀ k₀ ys marks s i k = n - i
+μ-loop r xs ends n ys₀ marks₀ most s₀ i₀ k₀ ys marks s i k = n - i
 
 same-length : tie.Need-same-length Inv-loop μ-loop
 same-length c = c .before .before .before .before .before .add-convex .kept .1 .1 .1 .1 .1 .1 .0 ∙ c .before .before .before .before .before .before .before .before .before .loop .inv .0
@@ -66,7 +66,7 @@ open-region-spec =
     Inv-loop
     μ-loop
     (λ c. (refl, refl, λ g p. narrow-start _ _ _ _ g p _ _ (c .before .before .pre .0 .1) (c .before .before .pre .0 .2)))
-    (λ c κs. let l = c .before .before .before in let s = l .before .before .before in let p = s .pre .1 in ((s .pre .0 .0, omega arith), (p .0, l .loop .inv .2 (p .0) (p .1))))
+    (λ c κs. let l = c .before .before .before in let s = l .before .before .before in let p = s .pre .1 in ((s .pre .0 .0, omega arith, s .pre .0 .3), (p .0, l .loop .inv .2 (p .0) (p .1))))
     same-length
     same-length-2
     returns
