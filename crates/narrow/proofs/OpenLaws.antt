@@ -1,34 +1,32 @@
 -- What is kept of a convex beside a place, halfspace by halfspace: a settled one is outside for every close trixel, and so is its convex, or it is full and
 -- leaves the class of its convex as it is. Assumes nothing.
-use Prim.Native.Nat.{ℕ, zero, suc, _+_, _*_, _≤_, _<_}
+use Prim.Native.Nat.{ℕ, _+_, _*_, _≤_, _<_}
 use native.Mathlib.Omega.{arith}
 use mathlib.Core.Path.{_≡_, refl, sym, ap, subst₂, _∙_}
 use mathlib.Core.Bool.{Bool, true, false, true≢false}
-use mathlib.Core.List.{List, [], _∷_, _++_, append-assoc}
-use lib.ListN.{length, getD, take, drop, set, length-set, length-append, length-drop, take-append-drop}
-use lib.Seq.{getD-drop, drop-drop, drop-append-seam, take-at, take-append-add, length-take-le, take-suc-set, take-add}
-use lib.IntN.{ℤ, pos}
+use mathlib.Core.List.{List, [], _∷_, _++_}
+use lib.ListN.{length, length-append}
+use lib.IntN.{ℤ}
 use Rattle.algebra.specs.Lists.{every}
 use Rattle.algebra.proofs.Tests.{and-left, and-right, and-both}
 use Rattle.answer.specs.Lent.{put}
-use Rattle.answer.proofs.PutLaws.{put-length, put-none, put-next}
-use Rattle.vector.specs.Vectors.{isVector}
+use Rattle.answer.proofs.PutLaws.{put-none, put-next}
 use Rattle.mesh.specs.declared.Trixel.{Trixel}
 use Rattle.region.specs.declared.Halfspace.{Halfspace}
-use Rattle.region.specs.Regions.{Convex, Region}
-use Rattle.region.specs.Building.{total, isOffset, goodHalfspace, goodConvex, good, Filled}
+use Rattle.region.specs.Regions.{Convex}
+use Rattle.region.specs.Building.{goodHalfspace, goodConvex}
 use Rattle.classify.specs.declared.Class.{Class}
 use Rattle.classify.specs.declared.Class.the-variants.{Outside, Partial, Full}
 use Rattle.classify.specs.declared.Half.{Half}
 use Rattle.classify.specs.declared.Near.{Near}
-use Rattle.classify.specs.Classes.{isOutside, halfspaceClass, convexClass, regionClass}
+use Rattle.classify.specs.Classes.{isOutside, halfspaceClass, convexClass}
 use Rattle.classify.specs.Measures.{prepared, judged, SoundHalf}
 use Rattle.classify.specs.Near.{Placed, settledBy, Close}
 use Rattle.classify.proofs.JudgedLaws.{judged-is}
 use Rattle.classify.proofs.NearLaws.{stays-outside, stays-full}
-use Rattle.scan.specs.Halves.{seven, halfIn, convexSevens, sevens, endsFrom, Prepared, meet, join}
-use Rattle.scan.proofs.ScanLaws.{meet-assoc, join-assoc, meet-full, join-outside, convex-cons, region-cons, next, length-sevens, convex-numbers, region-numbers, region-ends, region-good, convex-good, no-convex, no-total, total-cons, no-region, half-at, half-room}
-use Rattle.narrow.specs.Narrow.{Alike, Narrowed, ConvexAt, Stores, OpenedOf, keptCount, keptList, Narrowing}
+use Rattle.scan.specs.Halves.{seven, halfIn, convexSevens, ConvexAt, meet}
+use Rattle.scan.proofs.ScanLaws.{meet-assoc, meet-full, convex-cons, no-convex, length-sevens, HalfAt, half-next, convex-end}
+use Rattle.narrow.specs.Narrow.{Stores, keptCount, keptList}
 
 -- ---- one more at the end of a convex
 
@@ -68,10 +66,7 @@ module _ (r : Near) (xs : List ℤ) (end : ℕ) (v : Convex) (w : ℕ) (ys : Lis
   -- before halfspace number i; m halfspaces are stored
   pub record AtOpen (i m : ℕ) (ys′ : List ℤ) : Type 0 where
     pub left : Convex
-    pub stop : end ≡ i + length left
-    pub sound : goodConvex left ≡ true
-    pub more : List ℤ
-    pub halves : drop (7 * i) xs ≡ convexSevens left ++ more
+    pub at : ConvexAt xs i end left
     pub opened : Convex
     pub stores : Stores w opened ys ys′
     pub count : m ≡ w + length opened
@@ -84,10 +79,7 @@ module _ (r : Near) (xs : List ℤ) (end : ℕ) (v : Convex) (w : ℕ) (ys : Lis
   pub open-start : (i : ℕ) → ConvexAt xs i end v → w ≤ 32 → AtOpen i w ys
   open-start i a h = record {
     left = v;
-    stop = a .stop;
-    sound = a .good;
-    more = a .more;
-    halves = a .halves;
+    at = a;
     opened = [];
     stores = nothing-stored h;
     count = omega arith;
@@ -116,91 +108,56 @@ module _ (r : Near) (xs : List ℤ) (end : ℕ) (v : Convex) (w : ℕ) (ys : Lis
     pub kept : (c : Class) → c ≡ settledBy (halfIn xs (7 * i)) r → isOutside c ≡ false → m < 32 → 7 * 32 ≤ length ys
         → AtOpen (i + 1) (keptCount c m) (keptList c m (halfIn xs (7 * i)) ys′)
 
-  module _ (p : Placed r) (i m : ℕ) (ys′ : List ℤ) (a : AtOpen i m ys′) where
-    -- the first of those that are left
-    module _ (h : Halfspace) (hs : Convex) (e : end ≡ i + length (h ∷ hs)) (f : goodConvex (h ∷ hs) ≡ true) (x : drop (7 * i) xs ≡ convexSevens (h ∷ hs) ++ a .more)
-        (k : (t : Trixel) → Close r t → meet (convexClass (a .opened) t) (convexClass (h ∷ hs) t) ≡ convexClass v t) where
-      both : (goodHalfspace h ≡ true) × (goodConvex hs ≡ true)
-      both = convex-good h hs f
+  module _ (p : Placed r) (i m : ℕ) (ys′ : List ℤ) (a : AtOpen i m ys′) (l : i < end) where
+    here : HalfAt xs i end (a .left)
+    here = half-next xs i end (a .left) (a .at) l
 
-      same : drop (7 * i) xs ≡ seven (prepared h) ++ (convexSevens hs ++ a .more)
-      same = x ∙ convex-numbers h hs (a .more)
+    -- the class of the convex, with that of the halfspace
+    with-first : (t : Trixel) → Close r t → {c : Class} → judged (halfIn xs (7 * i)) t ≡ c → meet (convexClass (a .opened) t) (meet c (convexClass (here .rest) t)) ≡ convexClass v t
+    with-first t c e =
+        ap (λ b. meet (convexClass (a .opened) t) (meet b (convexClass (here .rest) t))) (sym e) ∙ ap (meet (convexClass (a .opened) t)) (sym (here .class t)) ∙ a .class t c
 
-      is : halfIn xs (7 * i) ≡ prepared h
-      is = half-at xs (7 * i) (prepared h) (convexSevens hs ++ a .more) same
+    passed : settledBy (halfIn xs (7 * i)) r ≡ Full → AtOpen (i + 1) m ys′
+    passed s = record {
+      left = here .rest;
+      at = here .after;
+      opened = a .opened;
+      stores = a .stores;
+      count = a .count;
+      class = λ t c. with-first t c (stays-full p (here .sound) c s);
+    }
 
-      sound-half : SoundHalf (halfIn xs (7 * i))
-      sound-half = record {
-        halfspace = h;
-        vector = and-left (isVector (h .n)) (isOffset (h .d)) (both .0);
-        offset = and-right (isVector (h .n)) (isOffset (h .d)) (both .0);
-        is = is;
-      }
+    left-open : m < 32 → 7 * 32 ≤ length ys → AtOpen (i + 1) (m + 1) (put (7 * m) (seven (halfIn xs (7 * i))) ys′)
+    left-open l room = record {
+      left = here .rest;
+      at = here .after;
+      opened = a .opened ++ here .first ∷ [];
+      stores = stored-more (a .opened) (here .first) (a .stores) (here .good) (a .count) l room (here .is);
+      count = omega (arith, a .count, length-snoc (a .opened) (here .first));
+      class = λ t c.
+          ap (λ b. meet b (convexClass (here .rest) t)) (convex-snoc (here .first) (a .opened) t)
+          ∙ meet-assoc (convexClass (a .opened) t) (halfspaceClass (here .first) t) (convexClass (here .rest) t)
+          ∙ with-first t c (ap (λ q. judged q t) (here .is) ∙ judged-is (here .first) t);
+    }
 
-      judged-half : (t : Trixel) {c : Class} → judged (halfIn xs (7 * i)) t ≡ c → halfspaceClass h t ≡ c
-      judged-half t e = sym (judged-is h t) ∙ ap (λ q. judged q t) (sym is) ∙ e
+    kept-by : (c : Class) → c ≡ settledBy (halfIn xs (7 * i)) r → isOutside c ≡ false → m < 32 → 7 * 32 ≤ length ys
+        → AtOpen (i + 1) (keptCount c m) (keptList c m (halfIn xs (7 * i)) ys′)
+    kept-by Outside e o l room = absurd (true≢false o)
+    kept-by Partial e o l room = left-open l room
+    kept-by Full e o l room = passed (sym e)
 
-      -- the class of the convex, with that of the first halfspace
-      with-first : (t : Trixel) → Close r t → {c : Class} → halfspaceClass h t ≡ c → meet (convexClass (a .opened) t) (meet c (convexClass hs t)) ≡ convexClass v t
-      with-first t c e = ap (λ b. meet (convexClass (a .opened) t) (meet b (convexClass hs t))) (sym e) ∙ ap (meet (convexClass (a .opened) t)) (sym (convex-cons h hs t)) ∙ k t c
-
-      after : drop (7 * (i + 1)) xs ≡ convexSevens hs ++ a .more
-      after = let seven : 7 * (i + 1) ≡ 7 * i + 7 = omega arith in ap (λ m. drop m xs) seven ∙ sym (drop-drop 7 (7 * i) xs) ∙ ap (drop 7) same
-
-      passed : settledBy (halfIn xs (7 * i)) r ≡ Full → AtOpen (i + 1) m ys′
-      passed s = record {
-        left = hs;
-        stop = omega arith;
-        sound = both .1;
-        more = a .more;
-        halves = after;
-        opened = a .opened;
-        stores = a .stores;
-        count = a .count;
-        class = λ t c. with-first t c (judged-half t (stays-full p sound-half c s));
-      }
-
-      left-open : m < 32 → 7 * 32 ≤ length ys → AtOpen (i + 1) (m + 1) (put (7 * m) (seven (halfIn xs (7 * i))) ys′)
-      left-open l room = record {
-        left = hs;
-        stop = omega arith;
-        sound = both .1;
-        more = a .more;
-        halves = after;
-        opened = a .opened ++ h ∷ [];
-        stores = stored-more (a .opened) h (a .stores) (both .0) (a .count) l room is;
-        count = omega (arith, a .count, length-snoc (a .opened) h);
-        class = λ t c.
-            ap (λ b. meet b (convexClass hs t)) (convex-snoc h (a .opened) t) ∙ meet-assoc (convexClass (a .opened) t) (halfspaceClass h t) (convexClass hs t)
-            ∙ with-first t c refl;
-      }
-
-      kept-by : (c : Class) → c ≡ settledBy (halfIn xs (7 * i)) r → isOutside c ≡ false → m < 32 → 7 * 32 ≤ length ys
-          → AtOpen (i + 1) (keptCount c m) (keptList c m (halfIn xs (7 * i)) ys′)
-      kept-by Outside e o l room = absurd (true≢false o)
-      kept-by Partial e o l room = left-open l room
-      kept-by Full e o l room = passed (sym e)
-
-      first : OpenHalf i m ys′
-      first = record {
-        room = half-room xs (7 * i) (prepared h) (convexSevens hs ++ a .more) same;
-        sound = sound-half;
-        outside = λ s t c. sym (with-first t c (judged-half t (stays-outside p sound-half c s))) ∙ meet-outside (convexClass (a .opened) t);
-        kept = kept-by;
-      }
-
-    pub open-half : i < end → OpenHalf i m ys′
-    open-half l = go (a .left) (a .stop) (a .sound) (a .halves) (a .class)
-      where
-        go : (left : Convex) → end ≡ i + length left → goodConvex left ≡ true → drop (7 * i) xs ≡ convexSevens left ++ a .more
-            → ((t : Trixel) → Close r t → meet (convexClass (a .opened) t) (convexClass left t) ≡ convexClass v t) → OpenHalf i m ys′
-        go [] e f x k = absurd (omega arith)
-        go (h ∷ hs) e f x k = first h hs e f x k
+    pub open-half : OpenHalf i m ys′
+    open-half = record {
+      room = here .room;
+      sound = here .sound;
+      outside = λ s t c. sym (with-first t c (stays-outside p (here .sound) c s)) ∙ meet-outside (convexClass (a .opened) t);
+      kept = kept-by;
+    }
 
   -- no halfspace is left
   pub open-end : (i m : ℕ) (ys′ : List ℤ) (a : AtOpen i m ys′) → end ≤ i → (t : Trixel) → Close r t → convexClass v t ≡ convexClass (a .opened) t
   open-end i m ys′ a l t c =
-      sym (a .class t c) ∙ ap (meet (convexClass (a .opened) t)) (no-convex (a .left) t (omega (arith, a .stop))) ∙ meet-full (convexClass (a .opened) t)
+      sym (a .class t c) ∙ ap (meet (convexClass (a .opened) t)) (convex-end xs i end (a .left) (a .at) l t) ∙ meet-full (convexClass (a .opened) t)
 
   -- as a program finds it: the halfspace q, its class c, whether that is outside, and what is stored then
   module _ {i m : ℕ} {ys′ : List ℤ} (k : OpenHalf i m ys′) {q : Half} {c : Class} {o : Bool} (is : q ≡ halfIn xs (7 * i)) (settled : c ≡ settledBy q r) (told : o ≡ isOutside c) where

@@ -3,7 +3,6 @@
 --   Alike r g h                the regions g and h have the same class for every trixel that is close to r
 --   Narrowed xs es n ys ms w r   for every region that was prepared to xs and es the lists ys and ms have one of w halfspaces that is alike
 --   Beside xs es n ys ms r     r is a place, and where its count is not 0 the lists ys and ms have what is open beside it
---   ConvexAt xs i end v        the halfspaces of the convex v are those from number i up to number `end`
 --   Stores w u ys ys′          the halfspaces of u were stored from number w on; 32 are the most
 --   OpenedOf r v w ys ys′ o    what was found of a convex: it is outside, or the open halfspaces were stored, or they are too many
 --   SomeConvex, OpenedConvex   of some convex that stands there; of every one
@@ -13,8 +12,8 @@
 use Prim.Native.Nat.{ℕ, _+_, _*_, _≤_, _<_}
 use mathlib.Core.Path.{_≡_}
 use mathlib.Core.Bool.{true}
-use mathlib.Core.List.{List, _++_}
-use lib.ListN.{length, getD, take, drop}
+use mathlib.Core.List.{List}
+use lib.ListN.{length, getD, take}
 use lib.IntN.{ℤ}
 use Rattle.answer.specs.Lent.{put}
 use Rattle.mesh.specs.declared.Trixel.{Trixel}
@@ -28,7 +27,7 @@ use Rattle.classify.specs.Classes.{convexClass, regionClass}
 use Rattle.classify.specs.Near.{Placed, Close}
 use Rattle.narrow.specs.declared.Kept.{Kept}
 use Rattle.narrow.specs.declared.Opened.{Opened}
-use Rattle.scan.specs.Halves.{seven, convexSevens, sevens, endsFrom, Prepared, join}
+use Rattle.scan.specs.Halves.{seven, convexSevens, sevens, endsFrom, Prepared, ConvexAt, RegionAt, join}
 
 -- ---- what is left of a region
 
@@ -44,12 +43,6 @@ pub record Beside (xs : List ℤ) (es : List ℕ) (n : ℕ) (ys : List ℤ) (ms 
   pub narrowed : 0 < r .count → Narrowed xs es n ys ms (r .count) r
 
 -- ---- a convex
-
-pub record ConvexAt (xs : List ℤ) (i end : ℕ) (v : Convex) : Type 0 where
-  pub stop : end ≡ i + length v
-  pub good : goodConvex v ≡ true
-  pub more : List ℤ
-  pub halves : drop (7 * i) xs ≡ convexSevens v ++ more
 
 pub record Stores (w : ℕ) (u : Convex) (ys ys′ : List ℤ) : Type 0 where
   pub good : goodConvex u ≡ true
@@ -81,13 +74,7 @@ keptList Full w q ys = ys
 
 pub record Narrowing (r : Near) (xs : List ℤ) (es : List ℕ) (n : ℕ) (g : Region) (i k w c : ℕ) (ys : List ℤ) (ms : List ℕ) : Type 0 where
   pub left : Region
-  pub count : i + total left ≡ n
-  pub filled : Filled left
-  pub fine : good left ≡ true
-  pub more : List ℤ
-  pub halves : drop (7 * i) xs ≡ sevens left ++ more
-  pub further : List ℕ
-  pub ends : drop k es ≡ endsFrom i left ++ further
+  pub at : RegionAt xs es n i k left
   pub kept : Region
   pub halfspaces : w ≡ total kept
   pub convexes : c ≡ length kept

@@ -20,7 +20,7 @@ use Rattle.classify.specs.declared.Class.the-variants.{Outside, Partial, Full}
 use Rattle.classify.specs.declared.Half.{Half}
 use Rattle.classify.specs.Classes.{isOutside, isFull, halfspaceClass, convexClass, regionClass}
 use Rattle.classify.specs.Measures.{prepared, judged, SoundHalf}
-use Rattle.scan.specs.Halves.{seven, halfIn, convexSevens, sevens, endsFrom, Prepared, meet, join}
+use Rattle.scan.specs.Halves.{seven, halfIn, convexSevens, sevens, endsFrom, Prepared, ConvexAt, RegionAt, meet, join}
 use Rattle.classify.proofs.JudgedLaws.{judged-is}
 
 -- ---- classes put together
@@ -82,7 +82,7 @@ region-cons c cs t = join-cons (convexClass c t) (some (λ x. isFull (convexClas
 
 -- ---- lists
 
-pub next : {A : Type 0} (k : ℕ) (l : List A) → drop (suc k) l ≡ drop 1 (drop k l)
+next : {A : Type 0} (k : ℕ) (l : List A) → drop (suc k) l ≡ drop 1 (drop k l)
 next k l = let e : suc k ≡ k + 1 = omega arith in ap (λ m. drop m l) e ∙ sym (drop-drop 1 k l)
 
 pub length-sevens : (c : Convex) → length (convexSevens c) ≡ 7 * length c
@@ -90,15 +90,15 @@ unfolding convexSevens
 length-sevens [] = refl
 length-sevens (h ∷ hs) = omega (arith, length-sevens hs)
 
-pub convex-numbers : (h : Halfspace) (hs : Convex) (l : List ℤ) → convexSevens (h ∷ hs) ++ l ≡ seven (prepared h) ++ (convexSevens hs ++ l)
+convex-numbers : (h : Halfspace) (hs : Convex) (l : List ℤ) → convexSevens (h ∷ hs) ++ l ≡ seven (prepared h) ++ (convexSevens hs ++ l)
 unfolding convexSevens
 convex-numbers h hs l = refl
 
-pub region-numbers : (c : Convex) (cs : Region) (l : List ℤ) → sevens (c ∷ cs) ++ l ≡ convexSevens c ++ (sevens cs ++ l)
+region-numbers : (c : Convex) (cs : Region) (l : List ℤ) → sevens (c ∷ cs) ++ l ≡ convexSevens c ++ (sevens cs ++ l)
 unfolding sevens
 region-numbers c cs l = append-assoc (convexSevens c) (sevens cs) l
 
-pub region-ends : (n : ℕ) (c : Convex) (cs : Region) (l : List ℕ) → endsFrom n (c ∷ cs) ++ l ≡ (n + length c) ∷ (endsFrom (n + length c) cs ++ l)
+region-ends : (n : ℕ) (c : Convex) (cs : Region) (l : List ℕ) → endsFrom n (c ∷ cs) ++ l ≡ (n + length c) ∷ (endsFrom (n + length c) cs ++ l)
 unfolding endsFrom
 region-ends n c cs l = refl
 
@@ -129,7 +129,7 @@ no-region [] t l e = refl
 no-region (c ∷ cs) t l e = absurd (omega (arith, total-cons c cs, l .0))
 
 -- the numbers at a place where a seven begins
-pub half-at : (xs : List ℤ) (k : ℕ) (q : Half) (rest : List ℤ) → drop k xs ≡ seven q ++ rest → halfIn xs k ≡ q
+half-at : (xs : List ℤ) (k : ℕ) (q : Half) (rest : List ℤ) → drop k xs ≡ seven q ++ rest → halfIn xs k ≡ q
 half-at xs k q rest e =
     let at : (m : ℕ) → getD xs (k + m) (pos 0) ≡ getD (seven q ++ rest) m (pos 0) = λ m. sym (getD-drop k xs m (pos 0)) ∙ ap (λ l. getD l m (pos 0)) e in
     let zero : k ≡ k + 0 = omega arith in
@@ -141,90 +141,161 @@ half-at xs k q rest e =
       rest = at 6 i;
     }
 
-pub half-room : (xs : List ℤ) (k : ℕ) (q : Half) (rest : List ℤ) → drop k xs ≡ seven q ++ rest → k + 7 ≤ length xs
+half-room : (xs : List ℤ) (k : ℕ) (q : Half) (rest : List ℤ) → drop k xs ≡ seven q ++ rest → k + 7 ≤ length xs
 half-room xs k q rest e = omega (arith, length-drop k xs, ap length e)
 
-module _ (t : Trixel) (xs : List ℤ) (es : List ℕ) (n : ℕ) where
-  -- ---- where the scan stands
+-- ---- the next halfspace of a convex
 
+-- the halfspace number i, and the halfspaces of the convex behind it
+pub record HalfAt (xs : List ℤ) (i end : ℕ) (v : Convex) : Type 0 where
+  pub room : 7 * i + 7 ≤ length xs
+  pub sound : SoundHalf (halfIn xs (7 * i))
+  pub first : Halfspace
+  pub good : goodHalfspace first ≡ true
+  pub is : halfIn xs (7 * i) ≡ prepared first
+  pub rest : Convex
+  pub after : ConvexAt xs (i + 1) end rest
+  pub class : (t : Trixel) → convexClass v t ≡ meet (judged (halfIn xs (7 * i)) t) (convexClass rest t)
+
+module _ (xs : List ℤ) (i end : ℕ) where
+  half-first : (h : Halfspace) (hs : Convex) → ConvexAt xs i end (h ∷ hs) → HalfAt xs i end (h ∷ hs)
+  half-first h hs a =
+      let both = convex-good h hs (a .good) in
+      let same : drop (7 * i) xs ≡ seven (prepared h) ++ (convexSevens hs ++ a .more) = a .halves ∙ convex-numbers h hs (a .more) in
+      let is : halfIn xs (7 * i) ≡ prepared h = half-at xs (7 * i) (prepared h) (convexSevens hs ++ a .more) same in
+      let seven : 7 * (i + 1) ≡ 7 * i + 7 = omega arith in
+      record {
+        room = half-room xs (7 * i) (prepared h) (convexSevens hs ++ a .more) same;
+        sound = record {
+          halfspace = h;
+          vector = and-left (isVector (h .n)) (isOffset (h .d)) (both .0);
+          offset = and-right (isVector (h .n)) (isOffset (h .d)) (both .0);
+          is = is;
+        };
+        first = h;
+        good = both .0;
+        is = is;
+        rest = hs;
+        after = record {
+          stop = omega (arith, a .stop);
+          good = both .1;
+          more = a .more;
+          halves = ap (λ m. drop m xs) seven ∙ sym (drop-drop 7 (7 * i) xs) ∙ ap (drop 7) same;
+        };
+        class = λ t. convex-cons h hs t ∙ ap (λ c. meet c (convexClass hs t)) (sym (judged-is h t) ∙ ap (λ q. judged q t) (sym is));
+      }
+
+  pub half-next : (v : Convex) → ConvexAt xs i end v → i < end → HalfAt xs i end v
+  half-next [] a l = absurd (omega (arith, a .stop))
+  half-next (h ∷ hs) a l = half-first h hs a
+
+  -- no halfspace is left
+  pub convex-end : (v : Convex) → ConvexAt xs i end v → end ≤ i → (t : Trixel) → convexClass v t ≡ Full
+  convex-end v a l t = no-convex v t (omega (arith, a .stop))
+
+-- ---- the next convex of a region
+
+module _ (xs : List ℤ) (es : List ℕ) (n : ℕ) where
+  -- convex number k, which ends before halfspace number `end`, and the convexes behind it
+  pub record ConvexNext (i k end : ℕ) (g : Region) : Type 0 where
+    pub convex : Convex
+    pub at : ConvexAt xs i end convex
+    pub before : i < end
+    pub most : end ≤ n
+    pub rest : Region
+    pub after : RegionAt xs es n end (k + 1) rest
+    pub class : (t : Trixel) → regionClass g t ≡ join (convexClass convex t) (regionClass rest t)
+
+  pub region-start : (g : Region) → Prepared g xs es n → RegionAt xs es n 0 0 g
+  region-start g p = record {
+    count = omega (arith, p .count);
+    filled = p .filled;
+    good = p .good;
+    more = p .more;
+    halves = p .halves;
+    further = p .further;
+    ends = p .ends;
+  }
+
+  module _ (i k : ℕ) where
+    convex-first : (v : Convex) (vs : Region) → RegionAt xs es n i k (v ∷ vs) → (k < length es) × ((end : ℕ) → end ≡ getD es k 0 → ConvexNext i k end (v ∷ vs))
+    convex-first v vs a =
+        let same : drop k es ≡ (i + length v) ∷ (endsFrom (i + length v) vs ++ a .further) = a .ends ∙ region-ends i v vs (a .further) in
+        let numbers : drop (7 * i) xs ≡ convexSevens v ++ (sevens vs ++ a .more) = a .halves ∙ region-numbers v vs (a .more) in
+        let zero : k ≡ k + 0 = omega arith in
+        let one : k + 1 ≡ suc k = omega arith in
+        let first : getD es k 0 ≡ i + length v = ap (λ m. getD es m 0) zero ∙ sym (getD-drop k es 0 0) ∙ ap (λ l. getD l 0 0) same in
+        let both = region-good v vs (a .good) in (
+          omega (arith, length-drop k es, ap length same),
+          λ end e.
+              let q : end ≡ i + length v = e ∙ first in
+              let place : 7 * end ≡ 7 * i + length (convexSevens v) = omega (arith, q, length-sevens v) in
+              record {
+                convex = v;
+                at = record { stop = q; good = both .0; more = sevens vs ++ a .more; halves = numbers };
+                before = omega (arith, q, a .filled .0);
+                most = omega (arith, q, a .count, total-cons v vs);
+                rest = vs;
+                after = record {
+                  count = omega (arith, q, a .count, total-cons v vs);
+                  filled = a .filled .1;
+                  good = both .1;
+                  more = a .more;
+                  halves =
+                      ap (λ m. drop m xs) place ∙ sym (drop-drop (length (convexSevens v)) (7 * i) xs)
+                      ∙ ap (drop (length (convexSevens v))) numbers ∙ drop-append-seam (convexSevens v) (sevens vs ++ a .more);
+                  further = a .further;
+                  ends = ap (λ m. drop m es) one ∙ next k es ∙ ap (drop 1) same ∙ ap (λ m. endsFrom m vs ++ a .further) (sym q);
+                };
+                class = region-cons v vs;
+              },
+        )
+
+    -- its end is read
+    pub convex-next : (g : Region) → RegionAt xs es n i k g → i < n → (k < length es) × ((end : ℕ) → end ≡ getD es k 0 → ConvexNext i k end g)
+    convex-next [] a l = absurd (omega (arith, a .count, no-total))
+    convex-next (v ∷ vs) a l = convex-first v vs a
+
+    -- no convex is left
+    pub region-end : (g : Region) → RegionAt xs es n i k g → n ≤ i → (t : Trixel) → regionClass g t ≡ Outside
+    region-end g a l t = no-region g t (a .filled) (omega (arith, a .count))
+
+-- ---- where the scan stands
+
+module _ (t : Trixel) (xs : List ℤ) (es : List ℕ) (n : ℕ) where
   -- before convex number k, whose first halfspace is number i; c is the class of the convexes before it
   pub record AtConvex (g : Region) (i k : ℕ) (c : Class) : Type 0 where
     pub left : Region
-    pub count : i + total left ≡ n
-    pub filled : Filled left
-    pub fine : good left ≡ true
-    pub more : List ℤ
-    pub halves : drop (7 * i) xs ≡ sevens left ++ more
-    pub further : List ℕ
-    pub ends : drop k es ≡ endsFrom i left ++ further
+    pub at : RegionAt xs es n i k left
     pub class : join c (regionClass left t) ≡ regionClass g t
 
   -- before halfspace number i, in convex number k, which ends before halfspace number `end`; a is the class of the convex so far
   pub record AtHalfspace (g : Region) (k end i : ℕ) (c a : Class) : Type 0 where
     pub convex : Convex
+    pub at : ConvexAt xs i end convex
     pub left : Region
-    pub count : end + total left ≡ n
-    pub filled : Filled left
-    pub stop : end ≡ i + length convex
-    pub sound : goodConvex convex ≡ true
-    pub fine : good left ≡ true
-    pub more : List ℤ
-    pub halves : drop (7 * i) xs ≡ convexSevens convex ++ (sevens left ++ more)
-    pub further : List ℕ
-    pub ends : drop (suc k) es ≡ endsFrom end left ++ further
+    pub after : RegionAt xs es n end (k + 1) left
     pub class : join c (join (meet a (convexClass convex t)) (regionClass left t)) ≡ regionClass g t
 
   -- ---- steps
 
   pub start : (g : Region) → Prepared g xs es n → AtConvex g 0 0 Outside
-  start g p = record {
-    left = g;
-    count = omega (arith, p .count);
-    filled = p .filled;
-    fine = p .good;
-    more = p .more;
-    halves = p .halves;
-    further = p .further;
-    ends = p .ends;
-    class = refl;
-  }
+  start g p = record { left = g; at = region-start xs es n g p; class = refl }
 
   module _ (g : Region) (i k : ℕ) (c : Class) where
     -- a convex more: its end is read
     pub opened : AtConvex g i k c → i < n → (k < length es) × ((end : ℕ) → end ≡ getD es k 0 → (i < end) × AtHalfspace g k end i c Full)
-    opened a h = go (a .left) (a .count) (a .filled) (a .fine) (a .halves) (a .ends) (a .class)
-      where
-        go : (left : Region) → i + total left ≡ n → Filled left → good left ≡ true → drop (7 * i) xs ≡ sevens left ++ a .more → drop k es ≡ endsFrom i left ++ a .further
-            → join c (regionClass left t) ≡ regionClass g t → (k < length es) × ((end : ℕ) → end ≡ getD es k 0 → (i < end) × AtHalfspace g k end i c Full)
-        go [] e l f x y z = absurd (omega (arith, no-total))
-        go (v ∷ vs) e l f x y z =
-            let same : drop k es ≡ (i + length v) ∷ (endsFrom (i + length v) vs ++ a .further) = y ∙ region-ends i v vs (a .further) in
-            let zero : k ≡ k + 0 = omega arith in
-            let first : getD es k 0 ≡ i + length v = ap (λ m. getD es m 0) zero ∙ sym (getD-drop k es 0 0) ∙ ap (λ l. getD l 0 0) same in
-            let both = region-good v vs f in (
-              omega (arith, length-drop k es, ap length same),
-              λ end q. (
-                omega (arith, q ∙ first, l .0),
-                record {
-                  convex = v;
-                  left = vs;
-                  count = omega (arith, q ∙ first, total-cons v vs, e);
-                  filled = l .1;
-                  stop = q ∙ first;
-                  sound = both .0;
-                  fine = both .1;
-                  more = a .more;
-                  halves = x ∙ region-numbers v vs (a .more);
-                  further = a .further;
-                  ends = next k es ∙ ap (drop 1) same ∙ ap (λ m. endsFrom m vs ++ a .further) (sym (q ∙ first));
-                  class = ap (join c) (sym (region-cons v vs t)) ∙ z;
-                },
-              ),
-            )
+    opened a h =
+        let v = convex-next xs es n i k (a .left) (a .at) h in (
+          v .0,
+          λ end q.
+              let o = v .1 end q in
+              (o .before, record { convex = o .convex; at = o .at; left = o .rest; after = o .after; class = ap (join c) (sym (o .class t)) ∙ a .class }),
+        )
 
     -- no convex is left
     pub ended : AtConvex g i k c → n ≤ i → c ≡ regionClass g t
-    ended a h = sym (join-outside c) ∙ ap (join c) (sym (no-region (a .left) t (a .filled) (omega (arith, a .count)))) ∙ a .class
+    ended a h = sym (join-outside c) ∙ ap (join c) (sym (region-end xs es n i k (a .left) (a .at) h t)) ∙ a .class
 
   -- the region is full, whatever is left
   pub full : (g : Region) (i k : ℕ) (c : Class) → isFull c ≡ true → AtConvex g i k c → c ≡ regionClass g t
@@ -241,67 +312,33 @@ module _ (t : Trixel) (xs : List ℤ) (es : List ℕ) (n : ℕ) where
 
     -- a halfspace more
     pub stands : AtHalfspace g k end i c a → i < end → Stands
-    stands s h = go (s .convex) (s .stop) (s .sound) (s .halves) (s .class)
-      where
-        go : (convex : Convex) → end ≡ i + length convex → goodConvex convex ≡ true → drop (7 * i) xs ≡ convexSevens convex ++ (sevens (s .left) ++ s .more)
-            → join c (join (meet a (convexClass convex t)) (regionClass (s .left) t)) ≡ regionClass g t → Stands
-        go [] e f x z = absurd (omega arith)
-        go (v ∷ vs) e f x z =
-            let rest = convexSevens vs ++ (sevens (s .left) ++ s .more) in
-            let same : drop (7 * i) xs ≡ seven (prepared v) ++ rest = x ∙ convex-numbers v vs (sevens (s .left) ++ s .more) in
-            let is : halfIn xs (7 * i) ≡ prepared v = half-at xs (7 * i) (prepared v) rest same in
-            let both = convex-good v vs f in
-            let seven : 7 * (i + 1) ≡ 7 * i + 7 = omega arith in
-            record {
-              room = half-room xs (7 * i) (prepared v) rest same;
-              sound = record {
-                halfspace = v;
-                vector = and-left (isVector (v .n)) (isOffset (v .d)) (both .0);
-                offset = and-right (isVector (v .n)) (isOffset (v .d)) (both .0);
-                is = is;
-              };
-              taken = λ b q.
-                  let class : b ≡ halfspaceClass v t = q ∙ ap (λ r. judged r t) is ∙ judged-is v t in
-                  record {
-                    convex = vs;
-                    left = s .left;
-                    count = s .count;
-                    filled = s .filled;
-                    stop = omega arith;
-                    sound = both .1;
-                    fine = s .fine;
-                    more = s .more;
-                    halves = ap (λ m. drop m xs) seven ∙ sym (drop-drop 7 (7 * i) xs) ∙ ap (drop 7) same;
-                    further = s .further;
-                    ends = s .ends;
-                    class =
-                        ap (λ y. join c (join y (regionClass (s .left) t)))
-                        (ap (λ y. meet (meet a y) (convexClass vs t)) class ∙ meet-assoc a (halfspaceClass v t) (convexClass vs t) ∙ ap (meet a) (sym (convex-cons v vs t)))
-                        ∙ z;
-                  };
-            }
+    stands s h =
+        let v = half-next xs i end (s .convex) (s .at) h in
+        record {
+          room = v .room;
+          sound = v .sound;
+          taken = λ b q. record {
+            convex = v .rest;
+            at = v .after;
+            left = s .left;
+            after = s .after;
+            class =
+                ap (λ y. join c (join y (regionClass (s .left) t)))
+                (ap (λ y. meet (meet a y) (convexClass (v .rest) t)) q ∙ meet-assoc a (judged (halfIn xs (7 * i)) t) (convexClass (v .rest) t) ∙ ap (meet a) (sym (v .class t)))
+                ∙ s .class;
+          };
+        }
 
     -- the convex is at its end, or the trixel is outside of it, whatever is left
     closed : (s : AtHalfspace g k end i c a) → meet a (convexClass (s .convex) t) ≡ a → AtConvex g end (k + 1) (join c a)
-    closed s settled =
-        let place : 7 * end ≡ 7 * i + length (convexSevens (s .convex)) = omega (arith, s .stop, length-sevens (s .convex)) in
-        let one : k + 1 ≡ suc k = omega arith in
-        record {
-          left = s .left;
-          count = s .count;
-          filled = s .filled;
-          fine = s .fine;
-          more = s .more;
-          halves =
-              ap (λ m. drop m xs) place ∙ sym (drop-drop (length (convexSevens (s .convex))) (7 * i) xs)
-              ∙ ap (drop (length (convexSevens (s .convex)))) (s .halves) ∙ drop-append-seam (convexSevens (s .convex)) (sevens (s .left) ++ s .more);
-          further = s .further;
-          ends = ap (λ m. drop m es) one ∙ s .ends;
-          class = join-assoc c a (regionClass (s .left) t) ∙ ap (λ y. join c (join y (regionClass (s .left) t))) (sym settled) ∙ s .class;
-        }
+    closed s settled = record {
+      left = s .left;
+      at = s .after;
+      class = join-assoc c a (regionClass (s .left) t) ∙ ap (λ y. join c (join y (regionClass (s .left) t))) (sym settled) ∙ s .class;
+    }
 
     pub exhausted : AtHalfspace g k end i c a → end ≤ i → AtConvex g end (k + 1) (join c a)
-    exhausted s h = closed s (ap (meet a) (no-convex (s .convex) t (omega (arith, s .stop))) ∙ meet-full a)
+    exhausted s h = closed s (ap (meet a) (convex-end xs i end (s .convex) (s .at) h t) ∙ meet-full a)
 
     pub left-out : AtHalfspace g k end i c a → isOutside a ≡ true → AtConvex g end (k + 1) (join c a)
     left-out s o = closed s (outside-stays a (convexClass (s .convex) t) o)
@@ -317,5 +354,5 @@ module _ (t : Trixel) (xs : List ℤ) (es : List ℕ) (n : ℕ) (g : Region) (p 
 
   pub only-class : {c : Class} → c ≡ judged (halfIn xs 0) t → c ≡ regionClass g t
   only-class {c} e = ended t xs es n g _ _ _
-      (exhausted t xs es n g 0 (getD es 0 0) 1 Outside c (only-half .taken c e) (omega (arith, one, only-convex .1 .count)))
+      (exhausted t xs es n g 0 (getD es 0 0) 1 Outside c (only-half .taken c e) (omega (arith, one, only-convex .1 .after .count)))
       (omega (arith, one, only-convex .0))

@@ -3,6 +3,7 @@
 --   sevens g                those of all halfspaces of a region, convex after convex
 --   endsFrom n g            where each convex ends: the number of halfspaces before its end, where n are before the first
 --   Prepared g xs es n      the list xs begins with the sevens of the region g, es with its ends; g has n halfspaces, at least one in each convex, and is good
+--   ConvexAt, RegionAt      a convex that stands in the list from a halfspace on; a region that stands in both lists from a convex on
 --   Ready xs es n           some region was prepared to the two lists
 --   Classed t xs es n c     c is the class of t for every region that was
 --   stored i n rs xs, marked i n rs es   the two lists after n rows more, from row number i on (proofs/PreparingLaws: they are those of the rows' region)
@@ -19,7 +20,7 @@ use Rattle.answer.specs.Lent.{put}
 use Rattle.vector.specs.Vectors.{vec, isVector}
 use Rattle.mesh.specs.declared.Trixel.{Trixel}
 use Rattle.region.specs.Regions.{Convex, Region}
-use Rattle.region.specs.Building.{total, isOffset, good, Filled}
+use Rattle.region.specs.Building.{total, isOffset, goodConvex, good, Filled}
 use Rattle.region.specs.Rows.{halfspaceAt}
 use Rattle.classify.specs.declared.Class.{Class}
 use Rattle.classify.specs.declared.Class.the-variants.{Outside, Partial, Full}
@@ -61,6 +62,23 @@ pub record Prepared (g : Region) (xs : List ℤ) (es : List ℕ) (n : ℕ) : Typ
   pub halves : xs ≡ sevens g ++ more
   pub further : List ℕ
   pub ends : es ≡ endsFrom 0 g ++ further
+
+-- the halfspaces of the convex v are those from number i up to number `end`
+pub record ConvexAt (xs : List ℤ) (i end : ℕ) (v : Convex) : Type 0 where
+  pub stop : end ≡ i + length v
+  pub good : goodConvex v ≡ true
+  pub more : List ℤ
+  pub halves : drop (7 * i) xs ≡ convexSevens v ++ more
+
+-- the convexes of the region g are those from number k on, their halfspaces those from number i up to number n
+pub record RegionAt (xs : List ℤ) (es : List ℕ) (n i k : ℕ) (g : Region) : Type 0 where
+  pub count : i + total g ≡ n
+  pub filled : Filled g
+  pub good : good g ≡ true
+  pub more : List ℤ
+  pub halves : drop (7 * i) xs ≡ sevens g ++ more
+  pub further : List ℕ
+  pub ends : drop k es ≡ endsFrom i g ++ further
 
 -- a region was prepared to the two lists
 abbrev pub Ready : List ℤ → List ℕ → ℕ → Type 0

@@ -1,6 +1,5 @@
 -- `narrow::add_convex` keeps what is open of a convex. Assumes nothing.
 use native.Mathlib.Omega.{arith}
-use mathlib.Core.Path.{sym}
 use mathlib.Core.Bool.{false≢true}
 use borrow.Author.Needs.{needs}
 use Rattle.narrow.proofs.NarrowLaws.{end-read, some-convex, add-outside, add-halves}

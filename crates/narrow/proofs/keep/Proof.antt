@@ -1,6 +1,5 @@
 -- `narrow::keep` stores an open halfspace and no other. Assumes nothing.
 use mathlib.Core.Path.{sym, ap, _∙_}
-use native.Mathlib.Omega.{arith}
 use borrow.Author.Needs.{needs}
 use Rattle.narrow.specs.Narrow.{keptCount, keptList}
 use Rattle.narrow.proofs.keep.Statement.{statement}

@@ -1,12 +1,11 @@
 -- `narrow::open_convex` keeps the open halfspaces, one after the other. Assumes nothing.
 use Prim.Native.Nat.{_-_}
 use native.Mathlib.Omega.{arith}
-use mathlib.Core.Path.{_≡_, refl, sym, ap, subst, _∙_}
+use mathlib.Core.Path.{_≡_, refl, sym, subst, _∙_}
 use lib.ListN.{length}
-use borrow.Author.Tests.{not-true, not-false}
 use Rattle.region.specs.Regions.{Convex}
 use Rattle.classify.specs.Measures.{SoundHalf}
-use Rattle.narrow.specs.Narrow.{ConvexAt}
+use Rattle.scan.specs.Halves.{ConvexAt}
 use Rattle.narrow.proofs.OpenLaws.{AtOpen, open-start, open-half, open-end, open-outside, open-more}
 use Rattle.narrow.proofs.open_convex.Statement.{statement}
 use Rattle.narrow.proofs.open_convex.Tie as tie

@@ -97,7 +97,7 @@ scanned-spec =
     let l = c .before .before in
     let r = l .before .before .pre .1 in
     let o = opened _ _ _ _ (r .0) _ _ _ (l .convexes .inv (r .0) (r .1)) (omega arith) .1 _ refl in
-    (o .0, omega (arith, o .1 .count), λ g p. opened _ _ _ _ g _ _ _ (l .convexes .inv g p) (omega arith) .1 _ refl .1))
+    (o .0, omega (arith, o .1 .after .count), λ g p. opened _ _ _ _ g _ _ _ (l .convexes .inv g p) (omega arith) .1 _ refl .1))
     (λ c. let h = next-half c .room in omega arith)
     (λ c κs. next-half c .room)
     (λ c κs. let p = c .before .before .before .before .before .before .before .pre .0 in (p .0, (p .1, subst SoundHalf (sym (c .half-at .ensures)) (next-half (c .before) .sound))))
