@@ -13,4 +13,3 @@ pub mod ReachLaws
 pub mod RoomLaws
 pub mod BallLaws
 pub mod FarLaws
-pub mod NearLaws

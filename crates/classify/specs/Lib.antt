@@ -2,4 +2,3 @@ pub mod Shape
 pub mod Classes
 pub mod Measures
 pub mod Rays
-pub mod Near

@@ -1,8 +1,8 @@
 // The cutting of the roots, depth first, with the two lists in the lent list. The rules stand in specs/.
 use classify::Class;
-use classify::Near;
 use mesh::Trixel;
 use mesh::trixels;
+use narrow::Near;
 use ranges::Hint;
 use ranges::Pending;
 ghost use mathlib.Core.Path.{_≡_};

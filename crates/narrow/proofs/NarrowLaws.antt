@@ -18,11 +18,11 @@ use Rattle.region.specs.Building.{total, goodConvex, good, Filled}
 use Rattle.classify.specs.declared.Class.{Class}
 use Rattle.classify.specs.declared.Class.the-variants.{Outside}
 use Rattle.classify.specs.declared.Ball.{Ball}
-use Rattle.classify.specs.declared.Near.{Near}
+use Rattle.narrow.specs.declared.Near.{Near}
 use Rattle.classify.specs.Classes.{convexClass, regionClass}
 use Rattle.classify.specs.Shape.{positive, volume}
 use Rattle.classify.specs.Measures.{Balled}
-use Rattle.classify.specs.Near.{Placed, closeTo, Close}
+use Rattle.narrow.specs.Near.{Placed, closeTo, Close}
 use Rattle.scan.specs.Halves.{convexSevens, sevens, endsFrom, Prepared, Classed, join}
 use Rattle.scan.proofs.ScanLaws.{join-assoc, join-outside, region-cons, length-sevens, no-total, no-region, ConvexNext, region-start, convex-next, region-end}
 use Rattle.narrow.specs.declared.Opened.{Opened}

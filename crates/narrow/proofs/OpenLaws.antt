@@ -18,12 +18,12 @@ use Rattle.region.specs.Building.{goodHalfspace, goodConvex}
 use Rattle.classify.specs.declared.Class.{Class}
 use Rattle.classify.specs.declared.Class.the-variants.{Outside, Partial, Full}
 use Rattle.classify.specs.declared.Half.{Half}
-use Rattle.classify.specs.declared.Near.{Near}
+use Rattle.narrow.specs.declared.Near.{Near}
 use Rattle.classify.specs.Classes.{isOutside, halfspaceClass, convexClass}
 use Rattle.classify.specs.Measures.{prepared, judged, SoundHalf}
-use Rattle.classify.specs.Near.{Placed, settledBy, Close}
+use Rattle.narrow.specs.Near.{Placed, settledBy, Close}
 use Rattle.classify.proofs.JudgedLaws.{judged-is}
-use Rattle.classify.proofs.NearLaws.{stays-outside, stays-full}
+use Rattle.narrow.proofs.NearLaws.{stays-outside, stays-full}
 use Rattle.scan.specs.Halves.{seven, halfIn, convexSevens, ConvexAt, meet}
 use Rattle.scan.proofs.ScanLaws.{meet-assoc, meet-full, convex-cons, no-convex, length-sevens, HalfAt, half-next, convex-end}
 use Rattle.narrow.specs.Narrow.{Stores, keptCount, keptList}

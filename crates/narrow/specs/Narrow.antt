@@ -22,9 +22,9 @@ use Rattle.region.specs.Building.{total, goodConvex, good, Filled}
 use Rattle.classify.specs.declared.Class.{Class}
 use Rattle.classify.specs.declared.Class.the-variants.{Outside, Partial, Full}
 use Rattle.classify.specs.declared.Half.{Half}
-use Rattle.classify.specs.declared.Near.{Near}
+use Rattle.narrow.specs.declared.Near.{Near}
 use Rattle.classify.specs.Classes.{convexClass, regionClass}
-use Rattle.classify.specs.Near.{Placed, Close}
+use Rattle.narrow.specs.Near.{Placed, Close}
 use Rattle.narrow.specs.declared.Kept.{Kept}
 use Rattle.narrow.specs.declared.Opened.{Opened}
 use Rattle.scan.specs.Halves.{seven, convexSevens, sevens, endsFrom, Prepared, ConvexAt, RegionAt, join}

@@ -1,10 +1,8 @@
 // The open halfspaces of a region beside a trixel, in two lists of their own, and the class of a trixel by them. The rules stand in specs/.
 use classify::Class;
 use classify::Half;
-use classify::Near;
 use classify::measures;
 use classify::middle;
-use classify::nearby;
 use mesh::Trixel;
 use scan::classes;
 use scan::preparing;
@@ -13,9 +11,20 @@ ghost use mathlib.Core.Path.{_≡_};
 ghost use Prim.Native.Nat.{_+_, _*_, _≤_, _<_};
 ghost use lib.ListN.{length};
 ghost use Rattle.mesh.specs.Corners.{SmallTrixel};
-ghost use Rattle.classify.specs.Near.{Placed};
+ghost use Rattle.narrow.specs.Near.{Placed};
 ghost use Rattle.scan.specs.Halves.{Ready, Classed};
 ghost use Rattle.narrow.specs.Narrow.{Narrowed, Beside, SomeConvex, OpenedConvex, keptCount, keptList, SomeNarrowing, NarrowsOn};
+
+pub mod nearby;
+
+// A place beside which halfspaces are settled: a middle b, E there as `reach`, how far beyond it a halfspace must be, and how many halfspaces are left
+// open.
+pub struct Near {
+    pub b: Vec3,
+    pub reach: i64,
+    pub margin: i64,
+    pub count: usize,
+}
 
 // What was found of a convex: it is outside, or so many halfspaces are stored now, or there are too many.
 pub enum Opened {

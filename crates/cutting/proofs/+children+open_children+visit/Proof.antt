@@ -1,5 +1,5 @@
 -- `cutting::visit` classifies the trixel, and leaves it out, accepts it or hands it to `cutting::children`, which cuts it and visits its four children.
--- The measures: 3 × left for `visit`, and 5 × left + 1 for `children`, whose `left` is that of the four. Assumes nothing.
+-- PLACEHOLDER
 use Prim.Native.Nat.{ℕ, suc, _+_, _-_, _*_, _<_}
 use native.Mathlib.Omega.{arith}
 use mathlib.Core.Path.{_≡_, ap, _∙_}

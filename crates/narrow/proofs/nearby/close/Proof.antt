@@ -1,4 +1,4 @@
--- `classify::nearby::close` is the test: the steps are at most 5·2²¹, so that K times them and the room stay below 2⁶³. Assumes nothing.
+-- `narrow::nearby::close` is the test: the steps are at most 5·2²¹, so that K times them and the room stay below 2⁶³. Assumes nothing.
 use Prim.Native.Nat.{_+_, _*_, _^_, _≤_}
 use native.Mathlib.Omega.{arith}
 use mathlib.Core.Path.{_≡_, refl, _∙_}
@@ -8,11 +8,11 @@ use lib.Signed.{leZ}
 use Rattle.algebra.proofs.Sized.{held, nat, upto-held, is-add, fits-add, same-le}
 use Rattle.algebra.proofs.Tests.{and-then}
 use Rattle.vector.specs.Numbers.{Kℕ}
-use Rattle.classify.specs.Near.{stepsTo, closeTo}
+use Rattle.narrow.specs.Near.{stepsTo, closeTo}
 use Rattle.classify.proofs.BallLaws.{Beside, ball-small, ball-beside}
 use Rattle.classify.proofs.FarLaws.{ball-room}
-use Rattle.classify.proofs.nearby.close.Statement.{statement}
-use Rattle.classify.proofs.nearby.close.Tie as tie
+use Rattle.narrow.proofs.nearby.close.Statement.{statement}
+use Rattle.narrow.proofs.nearby.close.Tie as tie
 
 ball : (c : tie.Else1) → Beside (c .before .before .args .m .b) (c .before .before .args .m .reach) (c .before .before .args .m .rest)
 ball c = ball-beside (c .before .before .pre .1) (not-false _ (c .if1 .left))

@@ -1,10 +1,10 @@
--- `classify::nearby::step` is the absolute value of the difference. Assumes nothing.
+-- `narrow::nearby::step` is the absolute value of the difference. Assumes nothing.
 use mathlib.Core.Path.{ap, _∙_}
 use lib.Dec.{lit≤}
 use lib.IntN.{natAbs}
 use Rattle.algebra.proofs.Sized.{held, is-sub, fits-sub, upto-mono}
-use Rattle.classify.proofs.nearby.step.Statement.{statement}
-use Rattle.classify.proofs.nearby.step.Tie as tie
+use Rattle.narrow.proofs.nearby.step.Statement.{statement}
+use Rattle.narrow.proofs.nearby.step.Tie as tie
 
 pub step-spec : {M : Type 1} → statement M
 step-spec =

@@ -14,14 +14,14 @@ use Rattle.algebra.specs.Sizes.{Upto}
 use Rattle.vector.specs.Numbers.{Kℕ}
 use Rattle.vector.specs.Vectors.{dot, Small}
 use Rattle.mesh.specs.declared.Trixel.{Trixel}
 use Rattle.classify.specs.declared.Class.{Class}
 use Rattle.classify.specs.declared.Class.the-variants.{Partial}
 use Rattle.classify.specs.declared.Half.{Half}
 use Rattle.classify.specs.declared.Ball.{Ball}
-use Rattle.classify.specs.declared.Near.{Near}
+use Rattle.narrow.specs.declared.Near.{Near}
 use Rattle.classify.specs.Shape.{positive, volume}
 use Rattle.classify.specs.Measures.{Balled}
 use Rattle.classify.specs.Rays.{classWithin, classApart}
 
 pub record Placed (r : Near) : Type 0 where
   pub b : Small (r .b)

@@ -16,19 +16,19 @@ use Rattle.vector.specs.Numbers.{Kℕ}
 use Rattle.vector.specs.Vectors.{dot, Small}
 use Rattle.vector.proofs.SizeLaws.{dot-upto}
 use Rattle.mesh.specs.declared.Trixel.{Trixel}
 use Rattle.classify.specs.declared.Class.{Class}
 use Rattle.classify.specs.declared.Class.the-variants.{Outside, Partial, Full}
 use Rattle.classify.specs.declared.Half.{Half}
 use Rattle.classify.specs.declared.Ball.{Ball}
-use Rattle.classify.specs.declared.Near.{Near}
+use Rattle.narrow.specs.declared.Near.{Near}
 use Rattle.classify.specs.Classes.{isOutside, isFull}
 use Rattle.classify.specs.Measures.{SoundHalf, judged}
 use Rattle.classify.specs.Rays.{classWithin, classApart}
-use Rattle.classify.specs.Near.{Placed, stepsTo, closeTo, settledBy, Close}
+use Rattle.narrow.specs.Near.{Placed, stepsTo, closeTo, settledBy, Close}
 use Rattle.classify.proofs.HalfLaws.{sound-high}
 use Rattle.classify.proofs.BallLaws.{Beside, half-beside, ball-beside}
 use Rattle.classify.proofs.FarLaws.{far-beyond, enclosed-beyond}
 use Rattle.classify.proofs.JudgedLaws.{when-far, when-enclosed}
 
 -- ---- from the place to a middle
 

@@ -1,4 +1,4 @@
--- `classify::nearby::place_of` is a place: a room that is at most 2⁴³ is at most 2⁴⁴ when it is doubled. Assumes nothing.
+-- `narrow::nearby::place_of` is a place: a room that is at most 2⁴³ is at most 2⁴⁴ when it is doubled. Assumes nothing.
 use Prim.Native.Nat.{_^_}
 use mathlib.Core.Path.{refl, sym, _∙_}
 use borrow.Author.Tests.{not-false}
@@ -6,10 +6,10 @@ use lib.Dec.{lit≤}
 use Rattle.algebra.specs.Sizes.{Upto}
 use Rattle.algebra.proofs.Sized.{held, lit, upto-held, is-mul, fits-mul, same-le}
 use Rattle.vector.specs.Numbers.{Kℕ}
 use Rattle.classify.proofs.BallLaws.{ball-small, ball-beside}
 use Rattle.classify.proofs.FarLaws.{ball-room, room-below}
-use Rattle.classify.proofs.nearby.place_of.Statement.{statement}
-use Rattle.classify.proofs.nearby.place_of.Tie as tie
+use Rattle.narrow.proofs.nearby.place_of.Statement.{statement}
+use Rattle.narrow.proofs.nearby.place_of.Tie as tie
 
 reach : (c : tie.Else1) → Upto Kℕ (c .before .before .before .args .m .reach)
 reach c = ball-beside (c .before .before .before .pre) (not-false _ (c .if1 .left)) .size

@@ -1,9 +1,9 @@
 // A place at a trixel's middle, beside which a halfspace is settled for every trixel whose middle is close to it. The rules stand in specs/Near.
-use crate::Ball;
-use crate::Class;
-use crate::Half;
 use crate::Near;
-use crate::judging;
+use classify::Ball;
+use classify::Class;
+use classify::Half;
+use classify::judging;
 use mesh::Trixel;
 use vector::Vec3;
 ghost use mathlib.Core.Path.{_≡_};
@@ -12,8 +12,8 @@ ghost use lib.IntN.{natAbs, _-ℤ_};
 ghost use Rattle.algebra.specs.Sizes.{Upto};
 ghost use Rattle.vector.specs.Numbers.{Kℕ};
 ghost use Rattle.vector.specs.Vectors.{Small};
 ghost use Rattle.classify.specs.Measures.{SoundHalf, Balled};
-ghost use Rattle.classify.specs.Near.{Placed, closeTo, settledBy};
+ghost use Rattle.narrow.specs.Near.{Placed, closeTo, settledBy};
 
 // No halfspace is beyond it.
 const NEVER: i64 = 17592186044416;

@@ -1,4 +1,4 @@
--- `classify::nearby::steps` is the sum of the three steps. Assumes nothing.
+-- `narrow::nearby::steps` is the sum of the three steps. Assumes nothing.
 use Prim.Native.Nat.{_+_}
 use native.Mathlib.Omega.{arith}
 use mathlib.Core.Path.{_≡_, _∙_}
@@ -8,8 +8,8 @@ use mir.Val.{toZ, ofZ}
 use Rattle.algebra.specs.Sizes.{Upto}
 use Rattle.algebra.proofs.Sized.{held, upto-held}
 use Rattle.vector.specs.Numbers.{Kℕ}
-use Rattle.classify.proofs.nearby.steps.Statement.{statement}
-use Rattle.classify.proofs.nearby.steps.Tie as tie
+use Rattle.narrow.proofs.nearby.steps.Statement.{statement}
+use Rattle.narrow.proofs.nearby.steps.Tie as tie
 
 -- a step by the bits of its numbers
 same : {a b : ℤ} → Upto Kℕ a → Upto Kℕ b → natAbs (toZ w64 (ofZ w64 a) -ℤ toZ w64 (ofZ w64 b)) ≡ natAbs (a -ℤ b)

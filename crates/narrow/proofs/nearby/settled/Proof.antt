@@ -1,4 +1,4 @@
--- `classify::nearby::settled` is the class of the rule: f·b is at most 3·2⁴⁰, D, G and E are some 2²⁰, so that each product stays below 2⁶³.
+-- `narrow::nearby::settled` is the class of the rule: f·b is at most 3·2⁴⁰, D, G and E are some 2²⁰, so that each product stays below 2⁶³.
 -- Assumes nothing.
 use Prim.Native.Nat.{_+_, _*_}
 use mathlib.Core.Path.{_≡_, refl, sym, ap, subst, _∙_}
@@ -13,12 +13,12 @@ use Rattle.algebra.proofs.Sized.{held, is-mul, is-sub, fits-mul, fits-sub, same
 use Rattle.vector.specs.Numbers.{Kℕ}
 use Rattle.vector.specs.Vectors.{dot}
 use Rattle.vector.proofs.SizeLaws.{at-most-mono, dot-upto}
-use Rattle.classify.specs.Near.{settledBy}
+use Rattle.narrow.specs.Near.{settledBy}
 use Rattle.classify.specs.Rays.{classWithin, classApart}
 use Rattle.classify.proofs.HalfLaws.{sound-offset, sound-near}
 use Rattle.classify.proofs.BallLaws.{Beside, half-beside}
-use Rattle.classify.proofs.nearby.settled.Statement.{statement}
-use Rattle.classify.proofs.nearby.settled.Tie as tie
+use Rattle.narrow.proofs.nearby.settled.Statement.{statement}
+use Rattle.narrow.proofs.nearby.settled.Tie as tie
 
 half : (c : tie.Start) → Beside (c .args .q .f) (c .args .q .low) (c .args .q .rest)
 half c = half-beside (c .pre .0)
