@@ -1,5 +1,6 @@
 -- `cutting::visit` classifies the trixel, and leaves it out, accepts it or hands it to `cutting::children`, which cuts it and visits its four children.
--- PLACEHOLDER
+-- `cutting::open_children` looks for the halfspaces that are open beside it first. The measures: 3 × left for `visit`, 3 × left + 1 for `children` and
+-- 3 × left + 2 for `open_children`, whose `left` is that of the four children. Assumes nothing.
 use Prim.Native.Nat.{ℕ, suc, _+_, _-_, _*_, _<_}
 use native.Mathlib.Omega.{arith}
 use mathlib.Core.Path.{_≡_, ap, _∙_}
