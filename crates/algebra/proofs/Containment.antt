@@ -1,12 +1,12 @@
 -- The containment lemma: where the ball of b and E lies in that of f and G, every direction p that b reaches by E is reached by f and G. With
 -- S = b·b − E² and M = f·b − G E: |S f − M b|² ≤ (M E − S G)², so that S (f·p) ≥ M (b·p) − (M E − S G) |p| ≥ S G |p|. Assumes nothing.
-use mathlib.Core.Path.{_≡_, refl, sym, subst}
+use mathlib.Core.Path.{_≡_, refl, subst}
 use mathlib.Core.List.{[], _∷_}
 use lib.IntN.{ℤ, pos, _+ℤ_, _-ℤ_, _*ℤ_}
 use lib.Signed.{_≤ℤ_, _<ℤ_}
 use Rattle.algebra.proofs.Ring.{Expr, con, _:+_, _:-_, _:*_}
 use Rattle.algebra.proofs.Order.{nn-mul, ≤ℤ-trans}
-use Rattle.algebra.proofs.Claim.{_:≤_, _:<_, _:≡_, nat, hyp, sq, _⊕_, _⊗_, prove}
+use Rattle.algebra.proofs.Claim.{_:≤_, _:<_, _:≡_, hyp, sq, _⊕_, _⊗_, prove}
 use Rattle.algebra.proofs.Inequalities.{`0, <ℤ→≤ℤ, sq-≤ℤ, sq-mono, cancel-≤ℤ, cancel-nn, <ℤ-mul}
 use Rattle.algebra.proofs.Vec.{V3, E3, dot, dotE, ringV, cauchy-schwarz, dot-nn}
 use Rattle.algebra.proofs.Cone.{Far}

@@ -11,4 +11,5 @@ pub mod Sized
 pub mod Tests
 pub mod Reciprocal
 pub mod Filters
+pub mod Beyond
 pub mod Moved

@@ -21,7 +21,7 @@ use Rattle.vector.specs.Vectors.{dot}
 use Rattle.vector.proofs.VectorLaws.{v3}
 use Rattle.mesh.specs.declared.Trixel.{Trixel}
 use Rattle.classify.specs.declared.Half.{Half}
-use Rattle.classify.specs.Shape.{square, positive, ray0, ray1, ray2, eOf, fOf, DOf, GOf, ahead, bOf, EOf}
+use Rattle.classify.specs.Shape.{square, positive, ray0, ray1, ray2, fOf, DOf, GOf, ahead, bOf, EOf}
 use Rattle.classify.specs.Measures.{SoundHalf}
 use Rattle.classify.specs.Rays.{passes, allPass, enclosed}
 use Rattle.classify.proofs.WithinApart.{E-reaches}

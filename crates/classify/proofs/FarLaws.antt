@@ -16,7 +16,7 @@ use Rattle.classify.specs.Measures.{SoundHalf, Rest, Balled}
 use Rattle.classify.specs.Rays.{enclosed}
 use Rattle.classify.proofs.HalfLaws.{sound-high}
 use Rattle.classify.proofs.RoomLaws.{Beyond, beyond-room, room-upto, room-sign}
-use Rattle.classify.proofs.BallLaws.{Beside, unsigned-upto, half-beside, ball-beside, beside-size}
+use Rattle.classify.proofs.BallLaws.{unsigned-upto, half-beside, ball-beside, beside-size}
 
 -- ---- what is left of a square length
 

@@ -1,19 +1,14 @@
 -- The room of a middle: what is beyond it passes the tests of squares and of edges for every halfspace. With r² ≥ S, r ≤ E and M ≥ 2²¹ r:
 -- p S < 2⁴² S ≤ M² for p up to 3·2⁴⁰, and S G ≤ 2²¹ r² ≤ M E for G up to 2²¹. Assumes nothing.
-use Prim.Native.Nat.{ℕ, _+_, _*_, _^_, _≤_, _<_}
+use Prim.Native.Nat.{ℕ, _*_, _^_, _≤_, _<_}
 use native.Mathlib.Omega.{arith}
-use mathlib.Core.Path.{_≡_, refl, sym, ap, subst, _∙_}
-use mathlib.Core.Bool.{Bool, true, false, cond, true≢false}
-use mathlib.Core.List.{[], _∷_}
 use borrow.Author.Tests.{ltb-true, ltb-false}
 use lib.Dec.{T, ltb, leb→le, le→leb, lt→ltb}
 use lib.IntN.{ℤ, pos, negsuc, natAbs, _*ℤ_}
 use lib.Signed.{nonNeg, leZ, _≤ℤ_, _<ℤ_, leZ-yes, ltZ-yes}
 use Rattle.algebra.specs.Sizes.{Upto}
-use Rattle.algebra.proofs.Ring.{con, _:*_}
 use Rattle.algebra.proofs.Order.{nn-pos}
-use Rattle.algebra.proofs.Claim.{_:≤_, _:<_, nat, hyp, _⊕_, _⊗_, prove}
-use Rattle.algebra.proofs.Inequalities.{`0}
+use Rattle.algebra.proofs.Beyond.{beyond-square, beyond-edges, beyond-front}
 use Rattle.algebra.proofs.Sized.{upto-high}
 use Rattle.algebra.proofs.Tests.{split, no-le}
 use Rattle.classify.specs.Measures.{Rest, rootAbove, roomOf}
@@ -55,35 +50,6 @@ pub room-sign : (S : ℤ) (e : ℕ) → T (nonNeg (roomOf S e))
 unfolding roomOf
 room-sign S e = split (leZ S (pos 0)) (λ a. rw a tt) (λ a. rw a (split (ltb e (rootAbove (natAbs S))) (λ b. rw b tt) (λ b. rw b tt)))
 
--- ---- of numbers
-
-beyond-square : (M S r p : ℤ) → (pos 2097152 *ℤ r) ≤ℤ M → S ≤ℤ (r *ℤ r) → p ≤ℤ pos 3298534883328 → pos 0 <ℤ S → pos 0 ≤ℤ r → (p *ℤ S) <ℤ (M *ℤ M)
-beyond-square = prove 4
-    (λ M S r p. record {
-      given = (con (pos 2097152) :* r :≤ M) ∷ (S :≤ r :* r) ∷ (p :≤ con (pos 3298534883328)) ∷ (`0 :< S) ∷ (`0 :≤ r) ∷ [];
-      goal = p :* S :< M :* M;
-      cert = hyp 0 ⊗ (hyp 0 ⊕ nat 4194304 ⊗ hyp 4) ⊕ nat 4398046511104 ⊗ hyp 1 ⊕ hyp 2 ⊗ hyp 3 ⊕ hyp 2 ⊕ nat 1099511627776 ⊗ hyp 3 ⊕ nat 1099511627775;
-    })
-    refl
-
-beyond-edges : (M S r E G : ℤ) → (pos 2097152 *ℤ r) ≤ℤ M → S ≤ℤ (r *ℤ r) → r ≤ℤ E → G ≤ℤ pos 2097152 → pos 0 <ℤ S → pos 0 ≤ℤ r → (S *ℤ G) ≤ℤ (M *ℤ E)
-beyond-edges = prove 5
-    (λ M S r E G. record {
-      given = (con (pos 2097152) :* r :≤ M) ∷ (S :≤ r :* r) ∷ (r :≤ E) ∷ (G :≤ con (pos 2097152)) ∷ (`0 :< S) ∷ (`0 :≤ r) ∷ [];
-      goal = S :* G :≤ M :* E;
-      cert = hyp 0 ⊗ (hyp 2 ⊕ hyp 5) ⊕ nat 2097152 ⊗ hyp 5 ⊗ hyp 2 ⊕ nat 2097152 ⊗ hyp 1 ⊕ (hyp 4 ⊕ nat 1) ⊗ hyp 3;
-    })
-    refl
-
-positive-front : (M S r : ℤ) → (pos 2097152 *ℤ r) ≤ℤ M → S ≤ℤ (r *ℤ r) → pos 0 <ℤ S → pos 0 <ℤ r → pos 0 <ℤ M
-positive-front = prove 3
-    (λ M S r. record {
-      given = (con (pos 2097152) :* r :≤ M) ∷ (S :≤ r :* r) ∷ (`0 :< S) ∷ (`0 :< r) ∷ [];
-      goal = `0 :< M;
-      cert = hyp 0 ⊕ nat 2097152 ⊗ hyp 3 ⊕ nat 2097151;
-    })
-    refl
-
 -- ---- the room
 
 never : (M : ℤ) → pos (2 ^ 62) ≤ℤ M → Upto (2 ^ 43) M → ⊥
@@ -100,7 +66,7 @@ pub record Beyond (S E M : ℤ) : Type 0 where
 by-root : (S M : ℤ) (e r : ℕ) → pos 0 <ℤ S → S ≤ℤ (pos r *ℤ pos r) → 0 < r → r ≤ e → pos (2097152 * r) ≤ℤ M → Beyond S (pos e) M
 by-root S M e r s h n l k = record {
   rest = s;
-  front = positive-front M S (pos r) k h s (ltZ-yes (lt→ltb 0 r n));
+  front = beyond-front M S (pos r) k h s (ltZ-yes (lt→ltb 0 r n));
   square = λ p q. beyond-square M S (pos r) p k h (upto-high (q .size)) s (nn-pos r);
   edges = λ G u. beyond-edges M S (pos r) (pos e) G k h (leZ-yes (le→leb r e l)) (upto-high u) s (nn-pos r);
 }

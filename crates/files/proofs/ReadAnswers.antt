@@ -1,6 +1,6 @@
 -- The file as a whole: its length, its header, its records. And the reader's answer: what the file says where the lent list has room for the rows,
 -- which then stand at the list's beginning. Assumes nothing.
-use Prim.Native.Nat.{ℕ, _+_, _-_, _*_, _≤_, _<_}
+use Prim.Native.Nat.{ℕ, _+_, _*_, _≤_, _<_}
 use native.Mathlib.Omega.{arith}
 use mathlib.Core.Path.{_≡_, refl, sym, ap, _∙_}
 use mathlib.Core.Bool.{Bool, true, false}

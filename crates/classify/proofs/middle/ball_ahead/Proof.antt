@@ -4,7 +4,7 @@ use Prim.Native.Nat.{_^_}
 use mathlib.Core.Path.{sym, ap, subst, _∙_}
 use mathlib.Core.Bool.{true}
 use lib.Dec.{lit≤}
-use lib.IntN.{pos, _-ℤ_, _*ℤ_}
+use lib.IntN.{pos, _-ℤ_}
 use Rattle.algebra.specs.Sizes.{Upto}
 use Rattle.algebra.proofs.Sized.{Is, held, nat, is-mul, is-sub, fits-mul, fits-sub, upto-mono}
 use Rattle.vector.specs.Numbers.{Kℕ}

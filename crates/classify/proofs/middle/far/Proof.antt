@@ -12,7 +12,6 @@ use Rattle.algebra.proofs.Sized.{held, upto-mono, is-mul, is-sub, fits-mul, fit
 use Rattle.vector.specs.Numbers.{Kℕ}
 use Rattle.vector.proofs.SizeLaws.{at-most-mono, dot-upto}
 use Rattle.classify.specs.Shape.{positive}
-use Rattle.classify.specs.Measures.{Rest}
 use Rattle.classify.proofs.BallLaws.{Beside, half-beside, ball-beside}
 use Rattle.classify.proofs.FarLaws.{half-rest, ball-rest, ball-room, far-is, far-beyond}
 use Rattle.classify.proofs.middle.far.Statement.{statement}

@@ -1,5 +1,5 @@
 -- `classify::reaching::count_passed` tests one ray after the other, and goes no further than it must. Assumes nothing.
-use mathlib.Core.Path.{_≡_, sym, ap, _∙_}
+use mathlib.Core.Path.{_≡_, sym}
 use mathlib.Core.Bool.{Bool}
 use borrow.Author.Needs.{needs}
 use Rattle.classify.specs.Rays.{passes, passedOf}

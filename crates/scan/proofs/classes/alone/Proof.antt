@@ -3,7 +3,6 @@ use mathlib.Core.Path.{_≡_, sym, ap, subst, _∙_}
 use mathlib.Core.Bool.{true}
 use borrow.Author.Needs.{needs}
 use borrow.Author.Tests.{not-true, not-false}
-use native.Mathlib.Omega.{arith}
 use Rattle.algebra.proofs.Sized.{held, upto-held}
 use Rattle.classify.specs.Shape.{positive, volume}
 use Rattle.classify.specs.Measures.{SoundHalf, judged}
@@ -12,7 +11,7 @@ use Rattle.classify.proofs.HalfLaws.{sound-small, sound-offset, sound-high}
 use Rattle.classify.proofs.RayLaws.{own-rays, shaped-passed}
 use Rattle.classify.proofs.JudgedLaws.{hollow, when-all, when-some}
 use Rattle.scan.specs.Halves.{halfIn}
-use Rattle.scan.proofs.ScanLaws.{Stands, only-half, only-class}
+use Rattle.scan.proofs.ScanLaws.{only-half, only-class}
 use Rattle.scan.proofs.classes.alone.Statement.{statement}
 use Rattle.scan.proofs.classes.alone.Tie as tie
 
