@@ -1,6 +1,7 @@
 pub mod RingLaws
 pub mod Ring
 pub mod Order
+pub mod Cells
 pub mod Claim
 pub mod Inequalities
 pub mod Vec

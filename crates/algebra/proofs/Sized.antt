@@ -107,6 +107,10 @@ pub record Is (b : ℕ) (z : ℤ) (n : ℕ) : Type 0 where
 pub held : {n : ℕ} {z : ℤ} → Upto n z → T (ltb n (2 ^ 63)) → Is (ofZ w64 z) z n
 held h t = record { eq = toZ-ofZ (sfits w64 h t); size = h }
 
+-- a number that fits, stored by its bits
+pub stored-same : (z : ℤ) → mag z < 2 ^ 63 → toZ w64 (ofZ w64 z) ≡ z
+stored-same z h = toZ-ofZ {w = w64} {z = z} (record { sfits = h })
+
 -- a number that is handed on by its bits
 pub upto-held : {n : ℕ} {z : ℤ} → Upto n z → T (ltb n (2 ^ 63)) → Upto n (toZ w64 (ofZ w64 z))
 upto-held {n} h t = subst (Upto n) (sym (held h t .eq)) h

@@ -144,13 +144,22 @@ module _ (q : Half) (t : Trixel) where
     pub when-enclosed : SoundHalf q → ahead (bOf t) t && enclosed (q .f) (q .low) (q .high) (bOf t) (EOf t) ≡ true → judged q t ≡ classWithin (q .d)
     when-enclosed s w = judged-within q t (within-rays ∙ enclosed-passes q s t (and-left (ahead (bOf t) t) _ w) (and-right (ahead (bOf t) t) _ w))
 
+    pub when-none : raysPassed (q .f) (q .high) t ≡ None → judged q t ≡ apartClass q t
+    when-none e = none-or-some (ap isAll e)
+
+    pub apart-far : ahead (bOf t) t && far (q .f) (q .low) (bOf t) (EOf t) ≡ true → apartClass q t ≡ classApart (q .d)
+    apart-far w = is-apart q t (and-both v w)
+
     pub when-far : SoundHalf q → ahead (bOf t) t && far (q .f) (q .low) (bOf t) (EOf t) ≡ true → judged q t ≡ classApart (q .d)
     when-far s w =
         judged-apart q t
         (split (withinBy (q .f) (q .high) t)
         (λ k. absurd (true≢false (sym (and-both v w) ∙ sound-refutes q s t (one-of-all (passes (q .f) (q .high) (ray0 t)) _ _ (sym within-rays ∙ k)))))
         (λ n. n))
-        ∙ is-apart q t (and-both v w)
+        ∙ apart-far w
+
+  pub apart-near : ahead (bOf t) t && far (q .f) (q .low) (bOf t) (EOf t) ≡ false → apartClass q t ≡ Partial
+  apart-near n = apart-partial q t (and-no-right (positive (volume t)) n)
 
   pub when-near : ahead (bOf t) t && far (q .f) (q .low) (bOf t) (EOf t) ≡ false → judged q t ≡ withinClass q t
   when-near n = not-apart q t (and-no-right (positive (volume t)) n)

@@ -10,7 +10,8 @@ use mesh::Trixel;
 ghost use mathlib.Core.Path.{_≡_};
 ghost use mathlib.Core.Bool.{true};
 ghost use Rattle.classify.specs.Measures.{SoundHalf, judged, Shaped, Balled};
-ghost use Rattle.classify.specs.Rays.{classWithin, classApart, withinClass};
+ghost use Rattle.classify.specs.Shape.{positive, volume};
+ghost use Rattle.classify.specs.Rays.{classWithin, classApart, withinClass, apartClass};
 
 // The class where within holds.
 pub fn class_within(d: i64) -> Class
@@ -42,6 +43,19 @@ fn class_by_rays(t: Trixel, s: Shape, q: Half) -> Class
     let all = reaching::all_pass(f, q.high, s);
     if all {
         return class_within(q.d);
+    }
+    Class::Partial
+}
+
+// The class by the middle, where within does not hold.
+pub fn class_by_middle(t: Trixel, m: Ball, q: Half) -> Class
+    requires { ⌜ positive (volume t) ≡ true ⌝ }
+    requires { ⌜ Balled t m ⌝ }
+    requires { ⌜ SoundHalf q ⌝ }
+    ensures { λ r. ⌜ r ≡ apartClass q t ⌝ }
+{
+    if middle::far(q, t, m) {
+        return class_apart(q.d);
     }
     Class::Partial
 }

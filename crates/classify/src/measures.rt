@@ -14,7 +14,7 @@ ghost use Rattle.vector.specs.Vectors.{isVector, AtMost, Small, cross};
 ghost use Rattle.mesh.specs.Corners.{SmallTrixel};
 ghost use Rattle.region.specs.Regions.{halfspaceFrom};
 ghost use Rattle.region.specs.Building.{isOffset};
-ghost use Rattle.classify.specs.Shape.{fOf, DOf, GOf};
+ghost use Rattle.classify.specs.Shape.{fOf, DOf, GOf, ray0};
 ghost use Rattle.classify.specs.Measures as rule;
 ghost use Rattle.classify.specs.Measures.{upperSquare, heightOf, IsRay, Shaped};
 
@@ -86,31 +86,47 @@ fn height(r: Vec3) -> u64
     (upper_square(r.x) + upper_square(r.y) + upper_square(r.z)) / 4294967296
 }
 
-// The ray a × b, with its height.
-pub fn ray(a: Vec3, b: Vec3) -> Ray
-    requires { ⌜ Small a ⌝ }
-    requires { ⌜ Small b ⌝ }
-    ensures { λ r. ⌜ IsRay (cross a b) r ⌝ }
+// The ray r, with its height.
+pub fn ray_of(r: Vec3) -> Ray
+    requires { ⌜ AtMost (2 ^ 41) r ⌝ }
+    ensures { λ y. ⌜ IsRay r y ⌝ }
 {
-    let r = vector::cross(a, b);
     Ray {
         r: r,
         height: height(r),
     }
 }
 
-// What belongs to a trixel.
-pub fn measured(t: Trixel) -> Shape
+// The ray a × b.
+fn ray(a: Vec3, b: Vec3) -> Ray
+    requires { ⌜ Small a ⌝ }
+    requires { ⌜ Small b ⌝ }
+    ensures { λ r. ⌜ IsRay (cross a b) r ⌝ }
+{
+    ray_of(vector::cross(a, b))
+}
+
+// The first ray of a trixel: P1 × P2.
+pub fn first_ray(t: Trixel) -> Vec3
     requires { ⌜ SmallTrixel t ⌝ }
-    ensures { λ r. ⌜ Shaped t r ⌝ }
+    ensures { λ r. ⌜ r ≡ ray0 t ⌝ }
+{
+    let p1 = t.p1;
+    let p2 = t.p2;
+    vector::cross(p1, p2)
+}
+
+// What belongs to a trixel, whose first ray is r: a child has it from the trixel that was cut.
+pub fn measured(t: Trixel, r: Vec3) -> Shape
+    requires { ⌜ SmallTrixel t ⌝ }
+    requires { ⌜ r ≡ ray0 t ⌝ }
+    ensures { λ s. ⌜ Shaped t s ⌝ }
 {
     let p0 = t.p0;
     let p1 = t.p1;
     let p2 = t.p2;
-    let r0 = ray(p1, p2);
-    let r = r0.r;
     Shape {
-        r0: r0,
+        r0: ray_of(r),
         r1: ray(p2, p0),
         r2: ray(p0, p1),
         solid: 0 < vector::dot(p0, r),

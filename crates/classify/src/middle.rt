@@ -102,7 +102,7 @@ fn greatest_reach(x0: u64, x1: u64, x2: u64, s: Shape) -> u64
 // ---- b
 
 // b = Unit(v0 + v1 + v2)
-fn middle_of(t: Trixel) -> Vec3
+pub fn middle_of(t: Trixel) -> Vec3
     requires { ⌜ SmallTrixel t ⌝ }
     ensures { λ r. ⌜ r ≡ bOf t ⌝ }
     ensures { λ r. ⌜ Small r ⌝ }
@@ -193,13 +193,12 @@ fn ball_ahead(b: Vec3, x0: u64, x1: u64, x2: u64, s: Shape) -> Ball
     }
 }
 
-// b and E of a trixel, and what is left of b·b beside E².
-pub fn ball_of(t: Trixel, s: Shape) -> Ball
-    requires { ⌜ SmallTrixel t ⌝ }
+// The middle b of a trixel with its E, and what is left of b·b beside E².
+pub fn ball_of(t: Trixel, b: Vec3, s: Shape) -> Ball
+    requires { ⌜ (b ≡ bOf t) × Small b ⌝ }
     requires { ⌜ Shaped t s ⌝ }
     ensures { λ r. ⌜ Balled t r ⌝ }
 {
-    let b = middle_of(t);
     let r0 = s.r0;
     let x0 = along(b, r0);
     if x0 <= 0 {

@@ -19,9 +19,8 @@ use Rattle.classify.specs.declared.Class.the-variants.{Outside, Partial, Full}
 use Rattle.classify.specs.Classes.{regionClass}
 use Rattle.scan.specs.Halves.{Prepared, Classed}
 use Rattle.ranges.specs.Stored.{range}
-use Rattle.cutting.specs.declared.Tally.{Tally}
 use Rattle.cutting.specs.Cover.{descendants, takenFull, takenPartial, both, four, parted, visit}
-use Rattle.cutting.specs.Walk.{Walked, Adds, Visited, Parted, Room, Level, ChildLevel, oneMore}
+use Rattle.cutting.specs.Walk.{Tally, Walked, Adds, Visited, Parted, Room, Level, ChildLevel, oneMore}
 use Rattle.cutting.proofs.CuttingLaws.{full-stretch, power, found-outside, found-full, found-last, found-cut}
 use Rattle.cutting.proofs.WalkLaws.{left-out, four-adds, cut-adds, foundTo}
 

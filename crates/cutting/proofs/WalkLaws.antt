@@ -17,9 +17,8 @@ use Rattle.ranges.specs.Stored.{range, rangesIn, sizesIn, written, Writes, Hint
 use Rattle.ranges.proofs.OnePass.{one-pass}
 use Rattle.ranges.proofs.StoredLaws.{length-written, written-put}
 use Rattle.ranges.proofs.Pushes.{writes-none, writes-push, keeps-none, keeps-push, keeps-end}
-use Rattle.cutting.specs.declared.Tally.{Tally}
 use Rattle.cutting.specs.Cover.{Found, leftOut, takenFull, takenPartial, both, four, cutInto, visitRoot, cutting, listed, countsOf, bothListed}
-use Rattle.cutting.specs.Walk.{nothing, innerState, Walked, Adds, Behind, BehindEnd, oneMore}
+use Rattle.cutting.specs.Walk.{Tally, nothing, innerState, Walked, Adds, Behind, BehindEnd, oneMore}
 
 -- ---- the front part of a list, and what is behind it
 

@@ -1,2 +1,3 @@
 pub mod Cover
 pub mod Walk
+pub mod Kept

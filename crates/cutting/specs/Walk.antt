@@ -1,10 +1,14 @@
 -- The cutting as it goes on, with its two lists in one pass in the lent list. Document 01, 'The two lists'.
+--   Tally              what was found so far: how many outer ranges are stored and what is known of their gaps, what stands beside the inner list, and
+--                      the trixels classified
+--   tallyIn xs         the tally of ten numbers; noTally: before the first trixel; withOuter, withInner, oneMore: after a change of one part
 --   nothing            before the first trixel
 --   Walked b start a s out   where a was found so far, s and the list `out` have it: the outer list at the front of what `start` had in its first 2 × b
 --                      elements, the inner list at the front of the rest
 --   Adds b found ..    whatever was found before, `found` is noted after it
 --   Visited ..         so is what the cutting of the trixel t finds, `left` levels above the depth, for every region that was prepared to xs and es
 --   Parted ..          so is what the cuttings of its four children find, each `left` levels above the depth
+--   Outered ..         the range r was pushed onto the outer list
 --   Behind, BehindEnd  the inner list's writer was lent the list from element 2 × b on: the elements before it stay
 --   Room b s out       the counts are at most the budget b, the list has room for both lists, and what s knows of the gaps of the outer list and of the
 --                      sizes of the inner list's stored ranges is so
@@ -15,21 +19,50 @@ use Prim.Native.Nat.{ℕ, suc, _+_, _-_, _*_, _^_, _≤_}
 use mathlib.Core.Path.{_≡_}
 use mathlib.Core.Bool.{true}
 use mathlib.Core.List.{List, [], _++_, foldl}
-use lib.ListN.{length, take, drop}
+use lib.Dec.{ltb}
+use lib.ListN.{length, getD, take, drop}
 use lib.IntN.{ℤ}
 use Rattle.mesh.specs.declared.Trixel.{Trixel}
 use Rattle.region.specs.Regions.{Region}
 use Rattle.region.specs.Building.{total, good, Filled}
 use Rattle.region.specs.Rows.{rows}
 use Rattle.scan.specs.Halves.{Prepared}
+use Rattle.ranges.specs.declared.Hint.{Hint}
+use Rattle.ranges.specs.declared.Pushed.{Pushed}
 use Rattle.ranges.specs.declared.Pending.{Pending}
 use Rattle.ranges.specs.Ranges.{Range}
 use Rattle.ranges.specs.Lists.{gaps}
-use Rattle.ranges.specs.OnePass.{outerPass, Inner, empty, innerPush}
-use Rattle.ranges.specs.Stored.{rangesIn, sizesIn, Writes, Hinted, Keeps}
-use Rattle.cutting.specs.declared.Tally.{Tally}
+use Rattle.ranges.specs.OnePass.{outerPush, outerPass, Inner, empty, innerPush}
+use Rattle.ranges.specs.Stored.{rangesIn, sizesIn, Writes, hintOf, noHint, Hinted, nothingYet, Keeps}
 use Rattle.cutting.specs.declared.Counts.{Counts}
 use Rattle.cutting.specs.Cover.{Found, both, parted, visit, cutting, listed, countsOf, bothListed}
+
+pub record Tally : Type 0 where
+  pub outer : ℕ
+  pub hint : Hint
+  pub inner : Pending
+  pub seen : ℕ
+
+abbrev pub tallyIn : List ℕ → Tally
+tallyIn xs = record {
+  outer = getD xs 0 0;
+  hint = hintOf (getD xs 1 0) (getD xs 2 0);
+  inner = record { n = getD xs 3 0; some = ltb 0 (getD xs 4 0); low = getD xs 5 0; high = getD xs 6 0; hint = hintOf (getD xs 7 0) (getD xs 8 0) };
+  seen = getD xs 9 0;
+}
+
+abbrev pub noTally : Tally
+noTally = record { outer = 0; hint = noHint; inner = nothingYet; seen = 0 }
+
+abbrev pub withOuter : Pushed → Tally → Tally
+withOuter m s = record { outer = m .n; hint = m .hint; inner = s .inner; seen = s .seen }
+
+abbrev pub withInner : Pending → Tally → Tally
+withInner p s = record { outer = s .outer; hint = s .hint; inner = p; seen = s .seen }
+
+-- one more is classified
+abbrev pub oneMore : Tally → Tally
+oneMore s = record { outer = s .outer; hint = s .hint; inner = s .inner; seen = s .seen + 1 }
 
 abbrev pub nothing : Found
 nothing = record { accepted = []; full = []; seen = 0 }
@@ -56,6 +89,13 @@ Visited xs es n b left t i s out s′ out′ = (g : Region) → Prepared g xs es
 abbrev pub Parted : List ℤ → List ℕ → ℕ → ℕ → ℕ → Trixel → ℕ → Tally → List ℕ → Tally → List ℕ → Type 0
 Parted xs es n b left t i s out s′ out′ = (g : Region) → Prepared g xs es n → Adds b (parted (visit left g) t i) s out s′ out′
 
+pub record Outered (b : ℕ) (r : Range) (s : Tally) (out : List ℕ) (s′ : Tally) (out′ : List ℕ) : Type 0 where
+  pub writes : Writes (outerPush b (rangesIn (s .outer) out) r) out out′ (s′ .outer)
+  pub few : s′ .outer ≤ b
+  pub hinted : Hinted (s′ .hint) (gaps (rangesIn (s′ .outer) out′))
+  pub inner : s′ .inner ≡ s .inner
+  pub seen : s′ .seen ≡ s .seen
+
 pub record Behind (b : ℕ) (before after : List ℕ) (state : Inner) (p : Pending) : Type 0 where
   pub rest : List ℕ
   pub list : after ≡ take (2 * b) before ++ rest
@@ -81,10 +121,6 @@ pub record Level (i left span seen : ℕ) : Type 0 where
 
 pub record ChildLevel (i left span seen : ℕ) : Type 0 where
   pub last : Level (4 * i + 3) left span (seen + (4 ^ suc left - 1))
-
--- one more is classified
-abbrev pub oneMore : Tally → Tally
-oneMore s = record { outer = s .outer; hint = s .hint; inner = s .inner; seen = s .seen + 1 }
 
 -- the roots are cut: all that the cutting finds is noted
 abbrev pub Cut : List ℤ → List ℕ → ℕ → ℕ → ℕ → List ℕ → Tally → List ℕ → Type 0

@@ -1,138 +1,70 @@
-// The cutting of the roots, depth first, with the two lists in the lent list. The rules stand in specs/.
+// The cutting of the roots, depth first, with the two lists in the lent list. A trixel, what was found so far and what is open beside a place are lent to
+// the next level as lists of numbers, so that nothing is copied on the way. The rules stand in specs/.
 use classify::Class;
-use mesh::Trixel;
+use classify::measures;
 use mesh::trixels;
-use narrow::Near;
-use ranges::Hint;
-use ranges::Pending;
+use vector::stored;
 ghost use mathlib.Core.Path.{_≡_};
 ghost use Prim.Native.Nat.{suc, _+_, _*_, _^_, _≤_, _<_};
 ghost use lib.ListN.{length, drop};
 ghost use Rattle.answer.specs.Lent.{put};
-ghost use Rattle.mesh.specs.Corners.{SmallTrixel};
 ghost use Rattle.scan.specs.Halves.{Ready};
 ghost use Rattle.narrow.specs.Narrow.{Beside};
-ghost use Rattle.ranges.specs.OnePass.{innerPush, innerEnd};
-ghost use Rattle.ranges.specs.Stored.{range, sizesIn, Hinted, stateOf};
-ghost use Rattle.cutting.specs.Cover.{takenFull, takenPartial, countsList};
-ghost use Rattle.cutting.specs.Walk.{Adds, Visited, Parted, Behind, BehindEnd, Room, Level, ChildLevel, Cut, Covers, SomeRows, CoversRows, oneMore};
+ghost use Rattle.ranges.specs.OnePass.{innerEnd};
+ghost use Rattle.ranges.specs.Stored.{stateOf};
+ghost use Rattle.cutting.specs.Cover.{countsList};
+ghost use Rattle.cutting.specs.Kept.{KeptTrixel, KeptRays, trixelIn};
+ghost use Rattle.cutting.specs.Walk.{tallyIn, noTally, Visited, Parted, BehindEnd, Room, Level, ChildLevel, Cut, Covers, SomeRows, CoversRows};
 
-// What was found so far: how many outer ranges are stored and what is known of their gaps, what stands beside the inner list, and the trixels
-// classified.
-pub struct Tally {
-    pub outer: usize,
-    pub hint: Hint,
-    pub inner: Pending,
-    pub seen: u64,
-}
-
-// ---- ranges that are accepted
-
-// A range of the inner list, which is written from element 2 × budget on.
-fn push_inner(out: &mut [u64], budget: usize, p: Pending, low: u64, high: u64) -> Pending
-    requires { ⌜ (1 ≤ budget) × (p .n ≤ budget) × (4 * budget ≤ length (now out)) ⌝ }
-    requires { ⌜ Hinted (p .hint) (sizesIn (2 * budget) (p .n) (now out)) ⌝ }
-    ensures { λ r. ⌜ Behind budget (now (out .entry)) (now (out .exit)) (innerPush budget (stateOf p (drop (2 * budget) (now (out .entry)))) (range low high)) r ⌝ }
-    ensures { λ r. ⌜ r .n ≤ budget ⌝ }
-    ensures { λ r. ⌜ Hinted (r .hint) (sizesIn (2 * budget) (r .n) (now (out .exit))) ⌝ }
-{
-    ranges::inner_push(&mut out[2 * budget..], p, budget, low, high)
-}
-
-// A partial trixel at the depth is accepted.
-fn take_partial(out: &mut [u64], budget: usize, s: Tally, low: u64, high: u64) -> Tally
-    requires { ⌜ Room budget s (now out) ⌝ }
-    requires { ⌜ s .seen < 2 ^ 62 ⌝ }
-    ensures { λ r. ⌜ Adds budget (takenPartial (range low high)) s (now (out .entry)) r (now (out .exit)) ⌝ }
-    ensures { λ r. ⌜ Room budget r (now (out .exit)) × (r .seen ≡ s .seen + 1) ⌝ }
-{
-    let n = s.outer;
-    let inner = s.inner;
-    let known = s.hint;
-    let m = ranges::outer_push(out, n, budget, low, high, known);
-    let hint = m.hint;
-    Tally {
-        outer: m.n,
-        hint: hint,
-        inner: inner,
-        seen: s.seen + 1,
-    }
-}
-
-// A full trixel is accepted.
-fn take_full(out: &mut [u64], budget: usize, s: Tally, low: u64, high: u64) -> Tally
-    requires { ⌜ Room budget s (now out) ⌝ }
-    requires { ⌜ s .seen < 2 ^ 62 ⌝ }
-    ensures { λ r. ⌜ Adds budget (takenFull (range low high)) s (now (out .entry)) r (now (out .exit)) ⌝ }
-    ensures { λ r. ⌜ Room budget r (now (out .exit)) × (r .seen ≡ s .seen + 1) ⌝ }
-{
-    let n = s.outer;
-    let p = s.inner;
-    let known = s.hint;
-    let m = ranges::outer_push(out, n, budget, low, high, known);
-    let hint = m.hint;
-    let inner = push_inner(out, budget, p, low, high);
-    Tally {
-        outer: m.n,
-        hint: hint,
-        inner: inner,
-        seen: s.seen + 1,
-    }
-}
-
-// One more is classified.
-fn seen_more(s: Tally) -> Tally
-    requires { ⌜ s .seen < 2 ^ 62 ⌝ }
-    ensures { λ r. ⌜ r ≡ oneMore s ⌝ }
-{
-    let hint = s.hint;
-    let inner = s.inner;
-    Tally {
-        outer: s.outer,
-        hint: hint,
-        inner: inner,
-        seen: s.seen + 1,
-    }
-}
+pub mod kept;
+pub mod tally;
 
 // ---- the cutting
 
-// The trixel t with the identifier id, `left` levels above the depth, where it has `span` descendants. The open halfspaces beside a place that is near,
-// if there are some, stand in `ys` and `marks`.
+// The trixel with the identifier id, `left` levels above the depth, where it has `span` descendants. The w open halfspaces beside a place that is near, if
+// there are some, stand in `ys` and `marks`.
 fn visit(
-    t: Trixel,
+    trixel: &[i64; 21],
     id: u64,
     left: u32,
     span: u64,
-    xs: &[i64],
-    ends: &[u64],
+    xs: &[i64; 3584],
+    ends: &[u64; 64],
     n: usize,
-    ys: &[i64],
-    marks: &[u64],
-    near: Near,
+    ys: &[i64; 224],
+    marks: &[u64; 32],
+    w: usize,
+    near: &[i64; 5],
     budget: usize,
     out: &mut [u64],
-    s: Tally,
-) -> Tally
-    requires { ⌜ SmallTrixel t ⌝ }
+    s: &mut [u64; 10],
+)
+    requires { ⌜ KeptTrixel (now trixel) ⌝ }
     requires { ⌜ Ready (now xs) (now ends) n ⌝ }
-    requires { ⌜ Beside (now xs) (now ends) n (now ys) (now marks) near ⌝ }
-    requires { ⌜ Room budget s (now out) ⌝ }
-    requires { ⌜ Level id left span (s .seen) ⌝ }
-    ensures { λ r. ⌜ Visited (now (xs .entry)) (now (ends .entry)) n budget left t id s (now (out .entry)) r (now (out .exit)) ⌝ }
-    ensures { λ r. ⌜ Room budget r (now (out .exit)) × (3 * r .seen + 1 ≤ 3 * s .seen + 4 ^ suc left) ⌝ }
+    requires { ⌜ Beside (now xs) (now ends) n (now ys) (now marks) w (now near) ⌝ }
+    requires { ⌜ Room budget (tallyIn (now s)) (now out) ⌝ }
+    requires { ⌜ Level id left span (tallyIn (now s) .seen) ⌝ }
+    ensures { λ _. ⌜ Visited (now (xs .entry)) (now (ends .entry)) n budget left (trixelIn (now (trixel .entry))) id (tallyIn (now (s .entry))) (now (out .entry)) (tallyIn (now (s .exit))) (now (out .exit)) ⌝ }
+    ensures { λ _. ⌜ Room budget (tallyIn (now (s .exit))) (now (out .exit)) × (3 * tallyIn (now (s .exit)) .seen + 1 ≤ 3 * tallyIn (now (s .entry)) .seen + 4 ^ suc left) ⌝ }
 {
-    let class = narrow::class_near(t, xs, ends, n, ys, marks, near);
+    let t = kept::trixel_in(trixel);
+    let shape = measures::measured(t, stored::vec_in(trixel, 18));
+    let class = narrow::class_near(t, shape, xs, ends, n, ys, marks, w, near);
     match class {
-        Class::Outside => seen_more(s),
-        Class::Full => take_full(out, budget, s, id * span, id * span + (span - 1)),
+        Class::Outside => tally::seen_more(s),
+        Class::Full => tally::take_full(out, budget, s, id * span, id * span + (span - 1)),
         Class::Partial => {
             if left == 0 {
-                return take_partial(out, budget, s, id, id);
+                tally::take_partial(out, budget, s, id, id);
+                return;
             }
-            if narrow::wanted(n, near) {
-                return open_children(
-                    t,
+            tally::seen_more(s);
+            let mut rays = [0i64; 6];
+            kept::keep_rays(&mut rays, shape);
+            if narrow::wanted(n, w) {
+                open_children(
+                    trixel,
+                    &rays,
                     id,
                     left - 1,
                     span / 4,
@@ -141,11 +73,13 @@ fn visit(
                     n,
                     budget,
                     out,
-                    seen_more(s),
+                    s,
                 );
+                return;
             }
             children(
-                t,
+                trixel,
+                &rays,
                 id,
                 left - 1,
                 span / 4,
@@ -154,40 +88,47 @@ fn visit(
                 n,
                 ys,
                 marks,
+                w,
                 near,
                 budget,
                 out,
-                seen_more(s),
-            )
+                s,
+            );
         }
     }
 }
 
-// The four children of the trixel t, by the halfspaces that are open beside t.
+// The four children of a trixel, by the halfspaces that are open beside it.
 fn open_children(
-    t: Trixel,
+    trixel: &[i64; 21],
+    rays: &[i64; 6],
     id: u64,
     left: u32,
     span: u64,
-    xs: &[i64],
-    ends: &[u64],
+    xs: &[i64; 3584],
+    ends: &[u64; 64],
     n: usize,
     budget: usize,
     out: &mut [u64],
-    s: Tally,
-) -> Tally
-    requires { ⌜ SmallTrixel t ⌝ }
+    s: &mut [u64; 10],
+)
+    requires { ⌜ KeptTrixel (now trixel) ⌝ }
+    requires { ⌜ KeptRays (now trixel) (now rays) ⌝ }
     requires { ⌜ Ready (now xs) (now ends) n ⌝ }
-    requires { ⌜ Room budget s (now out) ⌝ }
-    requires { ⌜ ChildLevel id left span (s .seen) ⌝ }
-    ensures { λ r. ⌜ Parted (now (xs .entry)) (now (ends .entry)) n budget left t id s (now (out .entry)) r (now (out .exit)) ⌝ }
-    ensures { λ r. ⌜ Room budget r (now (out .exit)) × (3 * r .seen + 4 ≤ 3 * s .seen + 4 * 4 ^ suc left) ⌝ }
+    requires { ⌜ Room budget (tallyIn (now s)) (now out) ⌝ }
+    requires { ⌜ ChildLevel id left span (tallyIn (now s) .seen) ⌝ }
+    ensures { λ _. ⌜ Parted (now (xs .entry)) (now (ends .entry)) n budget left (trixelIn (now (trixel .entry))) id (tallyIn (now (s .entry))) (now (out .entry)) (tallyIn (now (s .exit))) (now (out .exit)) ⌝ }
+    ensures { λ _. ⌜ Room budget (tallyIn (now (s .exit))) (now (out .exit)) × (3 * tallyIn (now (s .exit)) .seen + 4 ≤ 3 * tallyIn (now (s .entry)) .seen + 4 * 4 ^ suc left) ⌝ }
 {
     let mut ys = [0i64; 224];
     let mut marks = [0u64; 32];
-    let near = narrow::narrowed(t, xs, ends, n, &mut ys, &mut marks);
+    let mut near = [0i64; 5];
+    let t = kept::trixel_in(trixel);
+    let shape = measures::measured(t, stored::vec_in(trixel, 18));
+    let w = narrow::narrowed(t, shape, xs, ends, n, &mut ys, &mut marks, &mut near);
     children(
-        t,
+        trixel,
+        rays,
         id,
         left,
         span,
@@ -196,41 +137,49 @@ fn open_children(
         n,
         &ys,
         &marks,
-        near,
+        w,
+        &near,
         budget,
         out,
         s,
-    )
+    );
 }
 
-// The four children of the trixel t with the identifier id, each `left` levels above the depth, where it has `span` descendants.
+// The four children of a trixel with the identifier id, each `left` levels above the depth, where it has `span` descendants. The first ray of child 0, 1
+// or 2 is the first, second or third ray of the trixel.
 fn children(
-    t: Trixel,
+    trixel: &[i64; 21],
+    rays: &[i64; 6],
     id: u64,
     left: u32,
     span: u64,
-    xs: &[i64],
-    ends: &[u64],
+    xs: &[i64; 3584],
+    ends: &[u64; 64],
     n: usize,
-    ys: &[i64],
-    marks: &[u64],
-    near: Near,
+    ys: &[i64; 224],
+    marks: &[u64; 32],
+    w: usize,
+    near: &[i64; 5],
     budget: usize,
     out: &mut [u64],
-    s: Tally,
-) -> Tally
-    requires { ⌜ SmallTrixel t ⌝ }
+    s: &mut [u64; 10],
+)
+    requires { ⌜ KeptTrixel (now trixel) ⌝ }
+    requires { ⌜ KeptRays (now trixel) (now rays) ⌝ }
     requires { ⌜ Ready (now xs) (now ends) n ⌝ }
-    requires { ⌜ Beside (now xs) (now ends) n (now ys) (now marks) near ⌝ }
-    requires { ⌜ Room budget s (now out) ⌝ }
-    requires { ⌜ ChildLevel id left span (s .seen) ⌝ }
-    ensures { λ r. ⌜ Parted (now (xs .entry)) (now (ends .entry)) n budget left t id s (now (out .entry)) r (now (out .exit)) ⌝ }
-    ensures { λ r. ⌜ Room budget r (now (out .exit)) × (3 * r .seen + 4 ≤ 3 * s .seen + 4 * 4 ^ suc left) ⌝ }
+    requires { ⌜ Beside (now xs) (now ends) n (now ys) (now marks) w (now near) ⌝ }
+    requires { ⌜ Room budget (tallyIn (now s)) (now out) ⌝ }
+    requires { ⌜ ChildLevel id left span (tallyIn (now s) .seen) ⌝ }
+    ensures { λ _. ⌜ Parted (now (xs .entry)) (now (ends .entry)) n budget left (trixelIn (now (trixel .entry))) id (tallyIn (now (s .entry))) (now (out .entry)) (tallyIn (now (s .exit))) (now (out .exit)) ⌝ }
+    ensures { λ _. ⌜ Room budget (tallyIn (now (s .exit))) (now (out .exit)) × (3 * tallyIn (now (s .exit)) .seen + 4 ≤ 3 * tallyIn (now (s .entry)) .seen + 4 * 4 ^ suc left) ⌝ }
 {
+    let t = kept::trixel_in(trixel);
     let c = trixels::cut(t);
     let i = 4 * id;
-    let s0 = visit(
-        trixels::child0(t, c),
+    let mut next = [0i64; 21];
+    kept::keep(&mut next, trixels::child0(t, c), stored::vec_in(trixel, 18));
+    visit(
+        &next,
         i,
         left,
         span,
@@ -239,13 +188,15 @@ fn children(
         n,
         ys,
         marks,
+        w,
         near,
         budget,
         out,
         s,
     );
-    let s1 = visit(
-        trixels::child1(t, c),
+    kept::keep(&mut next, trixels::child1(t, c), stored::vec_in(rays, 0));
+    visit(
+        &next,
         i + 1,
         left,
         span,
@@ -254,13 +205,15 @@ fn children(
         n,
         ys,
         marks,
+        w,
         near,
         budget,
         out,
-        s0,
+        s,
     );
-    let s2 = visit(
-        trixels::child2(t, c),
+    kept::keep(&mut next, trixels::child2(t, c), stored::vec_in(rays, 3));
+    visit(
+        &next,
         i + 2,
         left,
         span,
@@ -269,13 +222,16 @@ fn children(
         n,
         ys,
         marks,
+        w,
         near,
         budget,
         out,
-        s1,
+        s,
     );
+    let last = trixels::child3(t, c);
+    kept::keep(&mut next, last, measures::first_ray(last));
     visit(
-        trixels::child3(t, c),
+        &next,
         i + 3,
         left,
         span,
@@ -284,11 +240,12 @@ fn children(
         n,
         ys,
         marks,
+        w,
         near,
         budget,
         out,
-        s2,
-    )
+        s,
+    );
 }
 
 // 4 to the power n.
@@ -305,58 +262,59 @@ fn power(n: u32) -> u64
     p
 }
 
-// The eight roots, in identifier order.
+// The eight roots, in identifier order. No halfspaces are known to be open.
 fn visit_roots(
     depth: u32,
-    xs: &[i64],
-    ends: &[u64],
+    xs: &[i64; 3584],
+    ends: &[u64; 64],
     n: usize,
     budget: usize,
     out: &mut [u64],
-) -> Tally
+    s: &mut [u64; 10],
+)
     requires { ⌜ (1 ≤ depth) × (depth ≤ 12) ⌝ }
     requires { ⌜ Ready (now xs) (now ends) n ⌝ }
     requires { ⌜ (1 ≤ budget) × (4 * budget ≤ length (now out)) ⌝ }
-    ensures { λ r. ⌜ Cut (now (xs .entry)) (now (ends .entry)) n budget depth (now (out .entry)) r (now (out .exit)) ⌝ }
-    ensures { λ r. ⌜ Room budget r (now (out .exit)) ⌝ }
+    requires { ⌜ tallyIn (now s) ≡ noTally ⌝ }
+    ensures { λ _. ⌜ Cut (now (xs .entry)) (now (ends .entry)) n budget depth (now (out .entry)) (tallyIn (now (s .exit))) (now (out .exit)) ⌝ }
+    ensures { λ _. ⌜ Room budget (tallyIn (now (s .exit))) (now (out .exit)) ⌝ }
 {
     let left = depth - 1;
     let span = power(left);
-    let mut s = Tally {
-        outer: 0,
-        hint: ranges::no_hint(),
-        inner: ranges::nothing_yet(),
-        seen: 0,
-    };
+    let ys = [0i64; 224];
+    let marks = [0u64; 32];
+    let near = [0i64; 5];
+    let mut trixel = [0i64; 21];
     let mut k: u64 = 0;
     while k < 8 {
-        s = visit(
-            trixels::root(k),
+        let root = trixels::root(k);
+        kept::keep(&mut trixel, root, measures::first_ray(root));
+        visit(
+            &trixel,
             8 + k,
             left,
             span,
             xs,
             ends,
             n,
-            xs,
-            ends,
-            narrow::nowhere(),
+            &ys,
+            &marks,
+            0,
+            &near,
             budget,
             out,
             s,
         );
         k += 1;
     }
-    s
 }
 
 // No more ranges of the inner list come.
-fn end_inner(out: &mut [u64], budget: usize, p: Pending) -> usize
-    requires { ⌜ (1 ≤ budget) × (p .n ≤ budget) × (4 * budget ≤ length (now out)) ⌝ }
-    requires { ⌜ Hinted (p .hint) (sizesIn (2 * budget) (p .n) (now out)) ⌝ }
-    ensures { λ n. ⌜ BehindEnd budget (now (out .entry)) (now (out .exit)) (innerEnd budget (stateOf p (drop (2 * budget) (now (out .entry))))) n ⌝ }
+fn end_inner(out: &mut [u64], budget: usize, s: &[u64; 10]) -> usize
+    requires { ⌜ Room budget (tallyIn (now s)) (now out) ⌝ }
+    ensures { λ n. ⌜ BehindEnd budget (now (out .entry)) (now (out .exit)) (innerEnd budget (stateOf (tallyIn (now (s .entry)) .inner) (drop (2 * budget) (now (out .entry))))) n ⌝ }
 {
-    ranges::inner_end(&mut out[2 * budget..], p, budget)
+    ranges::inner_end(&mut out[2 * budget..], tally::pending(s), budget)
 }
 
 // How many ranges the outer and the inner list have, and the trixels classified.
@@ -369,30 +327,6 @@ pub struct Counts {
 // The cover of the region that was prepared to `xs` and `ends`.
 fn cover_prepared(
     depth: u32,
-    xs: &[i64],
-    ends: &[u64],
-    n: usize,
-    budget: usize,
-    out: &mut [u64],
-) -> Counts
-    requires { ⌜ (1 ≤ depth) × (depth ≤ 12) ⌝ }
-    requires { ⌜ Ready (now xs) (now ends) n ⌝ }
-    requires { ⌜ (1 ≤ budget) × (4 * budget ≤ length (now out)) ⌝ }
-    ensures { λ r. ⌜ Covers (now (xs .entry)) (now (ends .entry)) n budget depth (now (out .entry)) r (now (out .exit)) ⌝ }
-{
-    let s = visit_roots(depth, xs, ends, n, budget, out);
-    let p = s.inner;
-    let m = end_inner(out, budget, p);
-    Counts {
-        outer: s.outer as u64,
-        inner: m as u64,
-        seen: s.seen,
-    }
-}
-
-// The same, of two arrays.
-fn cover_arrays(
-    depth: u32,
     xs: &[i64; 3584],
     ends: &[u64; 64],
     n: usize,
@@ -404,7 +338,14 @@ fn cover_arrays(
     requires { ⌜ (1 ≤ budget) × (4 * budget ≤ length (now out)) ⌝ }
     ensures { λ r. ⌜ Covers (now (xs .entry)) (now (ends .entry)) n budget depth (now (out .entry)) r (now (out .exit)) ⌝ }
 {
-    cover_prepared(depth, xs, ends, n, budget, out)
+    let mut s = [0u64; 10];
+    visit_roots(depth, xs, ends, n, budget, out, &mut s);
+    let m = end_inner(out, budget, &s);
+    Counts {
+        outer: s[0],
+        inner: m as u64,
+        seen: s[9],
+    }
 }
 
 // The cover of the region of n rows: the outer list from element 0 of `out`, the inner list from element 2 × budget.
@@ -417,7 +358,7 @@ pub fn cover(depth: u32, rows: &[i32; 2560], n: usize, budget: usize, out: &mut 
     let mut xs = [0i64; 3584];
     let mut ends = [0u64; 64];
     scan::preparing::prepare(rows, n, &mut xs, &mut ends);
-    cover_arrays(depth, &xs, &ends, n, budget, out)
+    cover_prepared(depth, &xs, &ends, n, budget, out)
 }
 
 // The three counts, at the beginning of a list.

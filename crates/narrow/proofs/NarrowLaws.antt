@@ -2,7 +2,7 @@
 -- are kept. Assumes nothing.
 use Prim.Native.Nat.{ℕ, suc, _+_, _*_, _≤_, _<_}
 use native.Mathlib.Omega.{arith}
-use mathlib.Core.Path.{_≡_, refl, sym, ap, subst, subst₂, _∙_}
+use mathlib.Core.Path.{_≡_, refl, sym, ap, subst, _∙_}
 use mathlib.Core.Bool.{true}
 use mathlib.Core.List.{List, [], _∷_, _++_, append-assoc}
 use lib.ListN.{length, getD, take, drop, set, length-set, length-append, take-append-drop}
@@ -22,7 +22,7 @@ use Rattle.narrow.specs.declared.Near.{Near}
 use Rattle.classify.specs.Classes.{convexClass, regionClass}
 use Rattle.classify.specs.Shape.{positive, volume}
 use Rattle.classify.specs.Measures.{Balled}
-use Rattle.narrow.specs.Near.{Placed, closeTo, Close}
+use Rattle.narrow.specs.Near.{Placed, placeIn, closeTo, Close}
 use Rattle.scan.specs.Halves.{convexSevens, sevens, endsFrom, Prepared, Classed, join}
 use Rattle.scan.proofs.ScanLaws.{join-assoc, join-outside, region-cons, length-sevens, no-total, no-region, ConvexNext, region-start, convex-next, region-end}
 use Rattle.narrow.specs.declared.Opened.{Opened}
@@ -230,25 +230,13 @@ pub by-open : {xs : List ℤ} {es : List ℕ} {n : ℕ} {ys : List ℤ} {ms : Li
     → Balled t m → positive (volume t) ≡ true → closeTo r m ≡ true → {c : Class} → Classed t ys ms w c → Classed t xs es n c
 by-open {t = t} {m = m} k b v e f g p = let h = k g p in f (h .0) (h .1) ∙ sym (h .2 t (record { ball = m; balled = b; solid = v; close = e }))
 
--- ---- a place with the count of what is open beside it
+-- ---- what goes with a trixel
 
-abbrev counted : Near → ℕ → Near
-counted r w = record { b = r .b; reach = r .reach; margin = r .margin; count = w }
+module _ {xs : List ℤ} {es : List ℕ} {n : ℕ} {ys : List ℤ} {ms : List ℕ} {ps : List ℤ} where
+  -- a place that was stored, and what was found beside it
+  pub beside : {w : ℕ} {r : Near} → Placed r → placeIn ps ≡ r → (0 < w → Narrowed xs es n ys ms w r) → Beside xs es n ys ms w ps
+  beside {w} p e f = record { placed = subst Placed (sym e) p; narrowed = λ h. subst (Narrowed xs es n ys ms w) (sym e) (f h) }
 
-same-place : (r : Near) (w : ℕ) (m : Ball) → closeTo (counted r w) m ≡ closeTo r m
-unfolding closeTo
-same-place r w m = refl
-
-pub beside : {xs : List ℤ} {es : List ℕ} {n : ℕ} {ys : List ℤ} {ms : List ℕ} {w : ℕ} {r : Near} → Placed r → (0 < w → Narrowed xs es n ys ms w r)
-    → {e m : ℤ} → e ≡ r .reach → m ≡ r .margin → Beside xs es n ys ms (record { b = r .b; reach = e; margin = m; count = w })
-beside {xs} {es} {n} {ys} {ms} {w} {r} p f a b =
-    let at : Beside xs es n ys ms (counted r w) = record {
-      placed = record { b = p .b; reach = p .reach; margin = p .margin };
-      narrowed = λ h g q.
-          let k = f h g q in
-          (k .0, k .1, λ t c. k .2 t (record { ball = c .ball; balled = c .balled; solid = c .solid; close = sym (same-place r w (c .ball)) ∙ c .close }));
-    } in
-    subst₂ (λ e m. Beside xs es n ys ms (record { b = r .b; reach = e; margin = m; count = w })) (sym a) (sym b) at
-
-pub beside-none : {xs : List ℤ} {es : List ℕ} {n : ℕ} {ys : List ℤ} {ms : List ℕ} {r : Near} → Placed r → r .count ≡ 0 → Beside xs es n ys ms r
-beside-none p e = record { placed = p; narrowed = λ h. absurd (omega (arith, e)) }
+  -- nothing is known
+  pub beside-none : Placed (placeIn ps) → Beside xs es n ys ms 0 ps
+  beside-none p = record { placed = p; narrowed = λ h. absurd (omega arith) }

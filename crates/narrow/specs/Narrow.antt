@@ -2,7 +2,7 @@
 -- 'Classifying': a convex is outside if one halfspace is, and a full halfspace leaves it as it is, so both need not be looked at again.
 --   Alike r g h                the regions g and h have the same class for every trixel that is close to r
 --   Narrowed xs es n ys ms w r   for every region that was prepared to xs and es the lists ys and ms have one of w halfspaces that is alike
---   Beside xs es n ys ms r     r is a place, and where its count is not 0 the lists ys and ms have what is open beside it
+--   Beside xs es n ys ms w ps  ps has a place, and where w is not 0 the lists ys and ms have the w halfspaces that are open beside it
 --   Stores w u ys ys′          the halfspaces of u were stored from number w on; 32 are the most
 --   OpenedOf r v w ys ys′ o    what was found of a convex: it is outside, or the open halfspaces were stored, or they are too many
 --   SomeConvex, OpenedConvex   of some convex that stands there; of every one
@@ -24,7 +24,7 @@ use Rattle.classify.specs.declared.Class.the-variants.{Outside, Partial, Full}
 use Rattle.classify.specs.declared.Half.{Half}
 use Rattle.narrow.specs.declared.Near.{Near}
 use Rattle.classify.specs.Classes.{convexClass, regionClass}
-use Rattle.narrow.specs.Near.{Placed, Close}
+use Rattle.narrow.specs.Near.{Placed, placeIn, Close}
 use Rattle.narrow.specs.declared.Kept.{Kept}
 use Rattle.narrow.specs.declared.Opened.{Opened}
 use Rattle.scan.specs.Halves.{seven, convexSevens, sevens, endsFrom, Prepared, ConvexAt, RegionAt, join}
@@ -38,9 +38,9 @@ abbrev pub Narrowed : List ℤ → List ℕ → ℕ → List ℤ → List ℕ �
 Narrowed xs es n ys ms w r = (g : Region) → Prepared g xs es n → (h : Region) × Prepared h ys ms w × Alike r g h
 
 -- what goes with a trixel of the cutting: a place, and the open halfspaces beside it, if any
-pub record Beside (xs : List ℤ) (es : List ℕ) (n : ℕ) (ys : List ℤ) (ms : List ℕ) (r : Near) : Type 0 where
-  pub placed : Placed r
-  pub narrowed : 0 < r .count → Narrowed xs es n ys ms (r .count) r
+pub record Beside (xs : List ℤ) (es : List ℕ) (n : ℕ) (ys : List ℤ) (ms : List ℕ) (w : ℕ) (ps : List ℤ) : Type 0 where
+  pub placed : Placed (placeIn ps)
+  pub narrowed : 0 < w → Narrowed xs es n ys ms w (placeIn ps)
 
 -- ---- a convex
 

@@ -1,6 +1,7 @@
 -- A halfspace that is settled once, at a trixel's middle, for every trixel whose middle is close to it. Document 01, 'Classifying': D·E − f·b and
 -- f·b − G·E change by at most K for a step of b by one, and by at most 2K for a step of E by one (proofs/NearLaws).
 --   Placed r       how large what r holds is
+--   placeIn ps     the place of five numbers: b, E and the margin
 --   stepsTo r m    the steps from r to the middle of m: those of b by component, and those of E, counted twice
 --   closeTo r m    b is ahead of its rays, and what is beyond the margin of r is beyond the room of m
 --   settledBy q r  the class beside r for the halfspace that q was prepared from; Partial where it is open
@@ -8,11 +9,14 @@
 use Prim.Native.Nat.{ℕ, _+_, _*_, _^_}
 use mathlib.Core.Path.{_≡_}
 use mathlib.Core.Bool.{Bool, true, cond, _&&_}
-use lib.IntN.{pos, natAbs, _+ℤ_, _-ℤ_, _*ℤ_}
+use mathlib.Core.List.{List}
+use lib.ListN.{getD}
+use lib.IntN.{ℤ, pos, natAbs, _+ℤ_, _-ℤ_, _*ℤ_}
 use lib.Signed.{leZ}
 use Rattle.algebra.specs.Sizes.{Upto}
 use Rattle.vector.specs.Numbers.{Kℕ}
 use Rattle.vector.specs.Vectors.{dot, Small}
+use Rattle.vector.specs.Stored.{vecIn}
 use Rattle.mesh.specs.declared.Trixel.{Trixel}
 use Rattle.classify.specs.declared.Class.{Class}
 use Rattle.classify.specs.declared.Class.the-variants.{Partial}
@@ -27,6 +31,9 @@ pub record Placed (r : Near) : Type 0 where
   pub b : Small (r .b)
   pub reach : Upto Kℕ (r .reach)
   pub margin : Upto (2 ^ 44) (r .margin)
+
+abbrev pub placeIn : List ℤ → Near
+placeIn ps = record { b = vecIn ps 0; reach = getD ps 3 (pos 0); margin = getD ps 4 (pos 0) }
 
 abbrev pub stepsTo : Near → Ball → ℕ
 stepsTo r m = natAbs (m .b .x -ℤ r .b .x) + natAbs (m .b .y -ℤ r .b .y) + natAbs (m .b .z -ℤ r .b .z) + 2 * natAbs (m .reach -ℤ r .reach)

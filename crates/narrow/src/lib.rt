@@ -1,7 +1,7 @@
 // The open halfspaces of a region beside a trixel, in two lists of their own, and the class of a trixel by them. The rules stand in specs/.
 use classify::Class;
 use classify::Half;
-use classify::measures;
+use classify::Shape;
 use classify::middle;
 use mesh::Trixel;
 use scan::classes;
@@ -11,19 +11,18 @@ ghost use mathlib.Core.Path.{_≡_};
 ghost use Prim.Native.Nat.{_+_, _*_, _≤_, _<_};
 ghost use lib.ListN.{length};
 ghost use Rattle.mesh.specs.Corners.{SmallTrixel};
+ghost use Rattle.classify.specs.Measures.{Shaped};
 ghost use Rattle.narrow.specs.Near.{Placed};
 ghost use Rattle.scan.specs.Halves.{Ready, Classed};
 ghost use Rattle.narrow.specs.Narrow.{Narrowed, Beside, SomeConvex, OpenedConvex, keptCount, keptList, SomeNarrowing, NarrowsOn};
 
 pub mod nearby;
 
-// A place beside which halfspaces are settled: a middle b, E there as `reach`, how far beyond it a halfspace must be, and how many halfspaces are left
-// open.
+// A place beside which halfspaces are settled: a middle b, E there as `reach`, and how far beyond it a halfspace must be.
 pub struct Near {
     pub b: Vec3,
     pub reach: i64,
     pub margin: i64,
-    pub count: usize,
 }
 
 // What was found of a convex: it is outside, or so many halfspaces are stored now, or there are too many.
@@ -178,73 +177,57 @@ fn most_of(n: usize) -> usize
     if n < 96 { n / 3 } else { 32 }
 }
 
-// The place at the middle of t, with the open halfspaces beside it in `ys` and `marks`.
+// The place at the middle of t, in `near`, with the open halfspaces beside it in `ys` and `marks`; how many there are, or 0 where none are known.
 pub fn narrowed(
     t: Trixel,
+    s: Shape,
     xs: &[i64],
     ends: &[u64],
     n: usize,
     ys: &mut [i64; 224],
     marks: &mut [u64; 32],
-) -> Near
-    requires { ⌜ SmallTrixel t ⌝ }
+    near: &mut [i64; 5],
+) -> usize
+    requires { ⌜ SmallTrixel t × Shaped t s ⌝ }
     requires { ⌜ Ready (now xs) (now ends) n ⌝ }
-    ensures { λ r. ⌜ Beside (now (xs .entry)) (now (ends .entry)) n (now (ys .exit)) (now (marks .exit)) r ⌝ }
-    ensures { λ _. ⌜ (224 ≡ length (now (ys .exit))) × (32 ≡ length (now (marks .exit))) ⌝ }
+    ensures { λ w. ⌜ Beside (now (xs .entry)) (now (ends .entry)) n (now (ys .exit)) (now (marks .exit)) w (now (near .exit)) ⌝ }
 {
-    let s = measures::measured(t);
-    let r = nearby::place_of(t, middle::ball_of(t, s), 0);
-    let w = open_region(r, xs, ends, n, ys, marks, most_of(n));
-    let b = r.b;
-    Near {
-        b: b,
-        reach: r.reach,
-        margin: r.margin,
-        count: w,
-    }
-}
-
-// No place: no halfspaces are known to be open beside it.
-pub fn nowhere() -> Near
-    ensures { λ r. ⌜ Placed r × (r .count ≡ 0) ⌝ }
-{
-    Near {
-        b: Vec3 { x: 0, y: 0, z: 0 },
-        reach: 0,
-        margin: 0,
-        count: 0,
-    }
+    let r = nearby::place_of(t, middle::ball_of(t, middle::middle_of(t), s));
+    nearby::keep(near, r);
+    open_region(r, xs, ends, n, ys, marks, most_of(n))
 }
 
 // ---- the class of a trixel
 
-// The class of a trixel for the region that was prepared to `xs` and `ends`: by the open halfspaces beside r where there are some and the trixel is close.
+// The class of a trixel for the region that was prepared to `xs` and `ends`: by the w open halfspaces beside a place where there are some and the trixel
+// is close.
 pub fn class_near(
     t: Trixel,
-    xs: &[i64],
-    ends: &[u64],
+    s: Shape,
+    xs: &[i64; 3584],
+    ends: &[u64; 64],
     n: usize,
-    ys: &[i64],
-    marks: &[u64],
-    r: Near,
+    ys: &[i64; 224],
+    marks: &[u64; 32],
+    w: usize,
+    near: &[i64; 5],
 ) -> Class
-    requires { ⌜ SmallTrixel t ⌝ }
+    requires { ⌜ SmallTrixel t × Shaped t s ⌝ }
     requires { ⌜ Ready (now xs) (now ends) n ⌝ }
-    requires { ⌜ Beside (now xs) (now ends) n (now ys) (now marks) r ⌝ }
+    requires { ⌜ Beside (now xs) (now ends) n (now ys) (now marks) w (now near) ⌝ }
     ensures { λ c. ⌜ Classed t (now (xs .entry)) (now (ends .entry)) n c ⌝ }
 {
-    let s = measures::measured(t);
     if n == 1 {
         return classes::alone(t, s, xs, ends, n);
     }
-    let m = middle::ball_of(t, s);
-    if 0 < r.count && s.solid && nearby::close(r, t, m) {
-        return classes::scanned(t, s, m, ys, marks, r.count);
+    let m = middle::ball_of(t, middle::middle_of(t), s);
+    if 0 < w && s.solid && nearby::close(nearby::place_in(near), t, m) {
+        return classes::scanned(t, s, m, ys, marks, w);
     }
     classes::scanned(t, s, m, xs, ends, n)
 }
 
-// Whether open halfspaces shall be looked for: there are many, and none are known beside r yet.
-pub fn wanted(n: usize, r: Near) -> bool {
-    8 < n && r.count == 0
+// Whether open halfspaces shall be looked for: there are many, and w, those that are known to be open, are none.
+pub fn wanted(n: usize, w: usize) -> bool {
+    8 < n && w == 0
 }

@@ -6,6 +6,7 @@ use classify::Half;
 use classify::judging;
 use mesh::Trixel;
 use vector::Vec3;
+use vector::stored;
 ghost use mathlib.Core.Path.{_≡_};
 ghost use Prim.Native.Nat.{_+_, _*_, _^_, _≤_};
 ghost use lib.IntN.{natAbs, _-ℤ_};
@@ -13,15 +14,15 @@ ghost use Rattle.algebra.specs.Sizes.{Upto};
 ghost use Rattle.vector.specs.Numbers.{Kℕ};
 ghost use Rattle.vector.specs.Vectors.{Small};
 ghost use Rattle.classify.specs.Measures.{SoundHalf, Balled};
-ghost use Rattle.narrow.specs.Near.{Placed, closeTo, settledBy};
+ghost use Rattle.narrow.specs.Near.{Placed, placeIn, closeTo, settledBy};
 
 // No halfspace is beyond it.
 const NEVER: i64 = 17592186044416;
 
 // The place at the middle of t. The margin is twice the room, so that one room is left for steps.
-pub fn place_of(t: Trixel, m: Ball, count: usize) -> Near
+pub fn place_of(t: Trixel, m: Ball) -> Near
     requires { ⌜ Balled t m ⌝ }
-    ensures { λ r. ⌜ Placed r × (r .count ≡ count) ⌝ }
+    ensures { λ r. ⌜ Placed r ⌝ }
 {
     let b = m.b;
     if !m.ahead {
@@ -29,7 +30,6 @@ pub fn place_of(t: Trixel, m: Ball, count: usize) -> Near
             b: b,
             reach: 0,
             margin: NEVER,
-            count: count,
         };
     }
     if m.room <= 8796093022208 {
@@ -37,16 +37,41 @@ pub fn place_of(t: Trixel, m: Ball, count: usize) -> Near
             b: b,
             reach: m.reach,
             margin: 2 * m.room,
-            count: count,
         };
     }
     Near {
         b: b,
         reach: m.reach,
         margin: NEVER,
-        count: count,
     }
 }
+
+// ---- a place as five numbers
+
+// The place of five numbers.
+pub fn place_in(near: &[i64; 5]) -> Near
+    ensures { λ r. ⌜ r ≡ placeIn (now (near .entry)) ⌝ }
+{
+    Near {
+        b: stored::vec_in(near, 0),
+        reach: near[3],
+        margin: near[4],
+    }
+}
+
+// Stores the five numbers of a place.
+pub fn keep(near: &mut [i64; 5], r: Near)
+    ensures { λ _. ⌜ placeIn (now (near .exit)) ≡ r ⌝ }
+{
+    let b = r.b;
+    let reach = r.reach;
+    let margin = r.margin;
+    stored::store(near, 0, b);
+    near[3] = reach;
+    near[4] = margin;
+}
+
+// ---- halfspaces and trixels beside it
 
 // The class beside r for the halfspace that q was prepared from; partial where it is open.
 pub fn settled(q: Half, r: Near) -> Class

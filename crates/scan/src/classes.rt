@@ -132,6 +132,9 @@ pub fn alone(t: Trixel, s: Shape, xs: &[i64], ends: &[u64], n: usize) -> Class
     match passed {
         Passed::All => judging::class_within(q.d),
         Passed::Some => Class::Partial,
-        Passed::None => scanned(t, s, middle::ball_of(t, s), xs, ends, n),
+        Passed::None => {
+            let m = middle::ball_of(t, middle::middle_of(t), s);
+            judging::class_by_middle(t, m, q)
+        }
     }
 }

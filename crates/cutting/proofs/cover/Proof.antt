@@ -14,7 +14,7 @@ cover-spec =
     let r = s .pre .1 .0 in
     let p = c .before .before .before .prepare .ensures in
     (s .pre .0, ((r .0, rows-ready (r .0) _ _ (r .1) _ _ (le-refl _) (le-refl _) (p .0) (p .1)), s .pre .1 .1)))
-    (λ c. c .before .before .cover-arrays .kept .1 .1 .1 .1 .1 .0)
+    (λ c. c .before .before .cover-prepared .kept .1 .1 .1 .1 .1 .0)
     (λ c g r.
     let p = c .before .before .before .before .before .before .prepare .ensures in
-    c .before .before .cover-arrays .ensures g (rows-ready g _ _ r _ _ (le-refl _) (le-refl _) (p .0) (p .1))))
+    c .before .before .cover-prepared .ensures g (rows-ready g _ _ r _ _ (le-refl _) (le-refl _) (p .0) (p .1))))

@@ -1,5 +1,6 @@
 -- `cutting::cover_prepared` cuts the roots and ends the inner list: the lists are those of the rule, by the one pass. Assumes nothing.
-use mathlib.Core.Path.{_∙_}
+use borrow.Author.Needs.{needs}
+use Rattle.cutting.specs.Walk.{tallyIn}
 use Rattle.cutting.proofs.WalkLaws.{walk-end}
 use Rattle.cutting.proofs.cover_prepared.Statement.{statement}
 use Rattle.cutting.proofs.cover_prepared.Tie as tie
@@ -8,11 +9,13 @@ pub cover-prepared-spec : {M : Type 1} → statement M
 cover-prepared-spec =
     tie.close
     (tie.spec
-    (λ c κs. c .before .before .before .pre)
-    (λ c κs. let r = c .before .before .before .before .visit-roots .ensures .1 in ((r .budget, r .inner, r .list), r .innerHinted))
-    (λ c. c .before .before .end-inner .kept .0 ∙ c .before .before .before .before .before .before .before .visit-roots .kept .1 .1 .1 .1 .1 .0)
+    (λ c κs. search needs)
+    (λ c κs. search needs)
+    (λ c. search needs)
+    (λ c. search needs)
+    (λ c. search needs)
     (λ c g p.
-    let s = c .before .before .before .before .before .before .before .before .before .before .before in
-    let v = c .before .before .before .before .before .before .before .visit-roots in
     let e = c .before .before .end-inner in
-    walk-end (s .args .budget) _ (s .pre .1 .1 .1) _ (v .result) _ _ (e .result) (v .ensures .0 g p) (s .pre .1 .1 .0) (v .ensures .1 .outer) (e .ensures)))
+    let v = c .before .before .before .before .before .before .before .visit-roots in
+    let s = c .before .before .before .before .before .before .before .before .before .before .before in
+    walk-end (s .args .budget) _ (s .pre .1 .1 .1) _ (tallyIn (v .last .1 .1 .1 .1 .1 .1 .0)) _ _ (e .result) (v .ensures .0 g p) (s .pre .1 .1 .0) (v .ensures .1 .outer) (e .ensures)))

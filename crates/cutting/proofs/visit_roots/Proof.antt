@@ -2,46 +2,55 @@
 use Prim.Native.Nat.{_-_, _*_, _^_, _≤_}
 use native.Mathlib.Omega.{arith}
 use mathlib.Core.Path.{_≡_, refl, sym, ap, subst, _∙_}
+use lib.Dec.{lit≤}
 use lib.ListN.{length}
+use lib.IntN.{pos}
+use Rattle.vector.specs.Vectors.{vec}
 use Rattle.region.specs.Regions.{Region}
 use Rattle.scan.specs.Halves.{Prepared}
+use Rattle.ranges.specs.Stored.{noHint}
 use Rattle.ranges.proofs.HintLaws.{hinted-any}
-use Rattle.cutting.specs.Walk.{nothing, Walked, Room}
+use Rattle.narrow.specs.declared.Near.{Near}
+use Rattle.narrow.specs.Near.{Placed}
+use Rattle.narrow.proofs.NarrowLaws.{beside-none}
+use Rattle.cutting.specs.Walk.{tallyIn, nothing, Walked, Room}
+use Rattle.cutting.proofs.KeptLaws.{trixel-kept}
 use Rattle.cutting.proofs.WalkLaws.{foundTo, walk-start, roots-done}
 use Rattle.cutting.proofs.VisitLaws.{root-level, root-seen, root-more}
-use Rattle.narrow.proofs.NarrowLaws.{beside-none}
 use Rattle.cutting.proofs.visit_roots.Statement.{statement}
 use Rattle.cutting.proofs.visit_roots.Tie as tie
 
 abbrev Inv-loop : tie.InvT-loop
-Inv-loop depth xs ends n budget out₀ left span s₀ k₀ out s k =
-    (k ≤ 8) × Room budget s out × (3 * s .seen ≤ k * 2 ^ 24) × (length out ≡ length out₀) × ((g : Region) → Prepared g xs ends n → Walked budget out₀ (foundTo (depth - 1) g k) s out)
+Inv-loop depth xs ends n budget out₀ s₀ left span ys marks near trixel₀ k₀ out s trixel k =
+    (k ≤ 8) × Room budget (tallyIn s) out × (3 * tallyIn s .seen ≤ k * 2 ^ 24) × (length out ≡ length out₀)
+    × ((g : Region) → Prepared g xs ends n → Walked budget out₀ (foundTo (depth - 1) g k) (tallyIn s) out)
 
 abbrev μ-loop : tie.MeasureT-loop
-μ-loop depth xs ends n budget out₀ left span s₀ k₀ out s k = 8 - k
+μ-loop depth xs ends n budget out₀ s₀ left span ys marks near trixel₀ k₀ out s trixel k = 8 - k
 
 started : tie.Need-loop-holds Inv-loop μ-loop
 unfolding foundTo
 started c =
-    let s = c .before .before .before .before .before in
+    let s = c .before .before in
     let b = s .args .budget in
     let out = s .args .out .now in
-    let long = s .pre .1 .1 .1 in
-    let h = c .before .no-hint in
-    let n = c .nothing-yet .ensures in (
+    let long = s .pre .1 .1 .0 .1 in
+    let e = s .pre .1 .1 .1 in (
       omega arith,
-      record {
-        budget = s .pre .1 .1 .0;
-        outer = omega arith;
-        inner = subst (λ p. p .n ≤ b) (sym n) (omega arith);
-        list = long;
-        hinted = hinted-any (h .ensures) _;
-        innerHinted = hinted-any (ap (λ p. p .hint) n) _;
-      },
-      omega arith,
+      subst (λ q. Room b q out) (sym e)
+          (record { budget = s .pre .1 .1 .0 .0; outer = omega arith; inner = omega arith; list = long; hinted = hinted-any refl _; innerHinted = hinted-any refl _ }),
+      omega (arith, ap (λ q. q .seen) e),
       refl,
-      λ g p. subst (λ q. Walked b out nothing (record { outer = 0; hint = h .result; inner = q; seen = 0 }) out) (sym n) (walk-start b out long (h .result)),
+      λ g p. subst (λ q. Walked b out nothing q out) (sym e) (walk-start b out long noHint),
     )
+
+-- no place is known yet
+nowhere : Placed (record { b = vec (pos 0) (pos 0) (pos 0); reach = pos 0; margin = pos 0 })
+nowhere = record {
+  b = record { x = record { le = lit≤ tt }; y = record { le = lit≤ tt }; z = record { le = lit≤ tt } };
+  reach = record { le = lit≤ tt };
+  margin = record { le = lit≤ tt };
+}
 
 pub visit-roots-spec : {M : Type 1} → statement M
 visit-roots-spec =
@@ -51,32 +60,32 @@ visit-roots-spec =
     μ-loop
     (λ c. omega arith)
     (λ c κs. omega arith)
-    (λ c κs. tt)
-    (λ c κs. tt)
     started
-    (λ c κs. omega arith)
-    (λ c. omega arith)
+    (λ c κs. omega (arith, c .loop-test .taken))
+    (λ c κs. c .before .root .ensures .1)
     (λ c κs. tt)
+    (λ c. omega (arith, c .before .before .before .before .before .loop-test .taken))
     (λ c κs.
-    let l = c .before .before .before .before in
-    let s = c .before .before .before .before .before .before .before .before .before .before in
-    let none = c .before .nowhere .ensures in
-    (c .before .before .root .ensures .1, (s .pre .1 .0, (beside-none (none .0) (none .1), (l .loop .inv .1, root-level (l .loop .k) (s .args .depth - 1) _ _ (omega arith) (omega arith) (c .before .before .before .before .before .before .before .power .ensures) (l .loop .inv .2))))))
-    (λ c. omega arith)
-    (λ c. omega arith)
+    let r = c .before .before .before .before .before .before .before .before .before in
+    let l = c .before .before .before .before .before .before .before .before .before .before .before in
+    let s = c .before .before .before .before .before .before .before .before .before .before .before .before .before .before in
+    (trixel-kept (r .root .ensures .1) (c .before .before .before .before .before .before .before .first-ray .ensures) (c .before .before .before .before .before .before .keep .ensures), (s .pre .1 .0, (beside-none nowhere, (l .loop .inv .1, root-level (l .loop .k) (s .args .depth - 1) _ _ (omega (arith, r .before .loop-test .taken)) (omega arith) (l .before .power .ensures) (l .loop .inv .2))))))
+    (λ c. omega (arith, c .before .before .before .before .before .before .before .before .before .before .before .before .before .loop-test .taken))
+    (λ c. omega (arith, c .before .before .before .before .before .before .before .before .before .before .before .before .before .loop-test .taken))
     (λ c.
-    let l = c .before .before .before .before .before .before .before in
-    let s = c .before .before .before .before .before .before .before .before .before .before .before .before .before in
-    let v = c .before .before .visit in (
-      omega (arith, c .before .before .before .before .before .before .loop-test .taken),
+    let v = c .before .before .visit in
+    let r = c .before .before .before .before .before .before .before .before .before .before .before .before in
+    let l = c .before .before .before .before .before .before .before .before .before .before .before .before .before .before in
+    let s = c .before .before .before .before .before .before .before .before .before .before .before .before .before .before .before .before .before in (
+      omega (arith, r .before .loop-test .taken),
       v .ensures .1 .0,
       root-seen (s .args .depth - 1) _ _ (l .loop .k) (omega arith) (v .ensures .1 .1) (l .loop .inv .2),
-      v .kept .1 .1 .1 .1 .1 .1 .1 .1 .1 .1 .1 .0 ∙ l .loop .inv .3,
-      λ g p. root-more _ _ _ _ _ (l .loop .k) _ g p (c .before .before .before .before .before .root .ensures .0) (l .loop .inv .4 g p) (v .ensures .0),
+      v .kept .1 .1 .1 .1 .1 .1 .1 .1 .1 .1 .1 .1 .0 ∙ l .loop .inv .3,
+      λ g p. root-more _ _ _ _ _ (l .loop .k) _ g p (c .before .before .before .before .before .before .before .before .before .keep .ensures .0 ∙ r .root .ensures .0) (l .loop .inv .4 g p) (v .ensures .0),
     ))
     (λ c. c .before .loop .inv .3)
     (λ c.
     let l = c .before in
-    let s = c .before .before .before .before .before .before .before in
+    let s = c .before .before .before .before in
     let e : l .loop .k ≡ 8 = omega arith in
     (λ g p. roots-done (s .args .depth) (l .loop .k) g e (l .loop .inv .4 g p), l .loop .inv .1)))

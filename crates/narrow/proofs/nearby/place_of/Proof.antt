@@ -1,6 +1,6 @@
 -- `narrow::nearby::place_of` is a place: a room that is at most 2⁴³ is at most 2⁴⁴ when it is doubled. Assumes nothing.
 use Prim.Native.Nat.{_^_}
-use mathlib.Core.Path.{refl, sym, _∙_}
+use mathlib.Core.Path.{sym, _∙_}
 use borrow.Author.Tests.{not-false}
 use lib.Dec.{lit≤}
 use Rattle.algebra.specs.Sizes.{Upto}
@@ -24,22 +24,20 @@ room c =
 returns-2 : tie.Need-returns-2
 returns-2 c =
     let t = c .before .before .before in
-    let z = is-mul (lit 2 tt) (held (room t) tt) tt in (
-      record {
-        b = ball-small (t .before .before .before .before .before .before .pre);
-        reach = upto-held (reach (t .before .before .before)) tt;
-        margin = rw (z .eq) (z .size);
-      },
-      refl,
-    )
+    let z = is-mul (lit 2 tt) (held (room t) tt) tt in
+    record {
+      b = ball-small (t .before .before .before .before .before .before .pre);
+      reach = upto-held (reach (t .before .before .before)) tt;
+      margin = rw (z .eq) (z .size);
+    }
 
 pub place-of-spec : {M : Type 1} → statement M
 place-of-spec =
     tie.close
     (tie.spec
-    (λ c. (record { b = ball-small (c .before .before .before .pre); reach = record { le = lit≤ tt }; margin = record { le = lit≤ tt } }, refl))
+    (λ c. record { b = ball-small (c .before .before .before .pre); reach = record { le = lit≤ tt }; margin = record { le = lit≤ tt } })
     (λ c. fits-mul (lit 2 tt) (held (room (c .before .before)) tt) tt)
     returns-2
     (λ c.
     let e = c .before .before .before .before in
-    (record { b = ball-small (e .before .before .before .pre); reach = upto-held (reach e) tt; margin = record { le = lit≤ tt } }, refl)))
+    record { b = ball-small (e .before .before .before .pre); reach = upto-held (reach e) tt; margin = record { le = lit≤ tt } }))

@@ -1,4 +1,4 @@
--- `scan::classes::alone` is the class for the only halfspace: by the rays, or by the scan where none passes. Assumes nothing.
+-- `scan::classes::alone` is the class for the only halfspace: by the rays, or by the middle where none passes. Assumes nothing.
 use mathlib.Core.Path.{_≡_, sym, ap, subst, _∙_}
 use mathlib.Core.Bool.{true}
 use borrow.Author.Needs.{needs}
@@ -9,7 +9,7 @@ use Rattle.classify.specs.Measures.{SoundHalf, judged}
 use Rattle.classify.specs.Rays.{raysPassed, classWithin}
 use Rattle.classify.proofs.HalfLaws.{sound-small, sound-offset, sound-high}
 use Rattle.classify.proofs.RayLaws.{own-rays, shaped-passed}
-use Rattle.classify.proofs.JudgedLaws.{hollow, when-all, when-some}
+use Rattle.classify.proofs.JudgedLaws.{hollow, when-all, when-some, when-none}
 use Rattle.scan.specs.Halves.{halfIn}
 use Rattle.scan.proofs.ScanLaws.{only-half, only-class}
 use Rattle.scan.proofs.classes.alone.Statement.{statement}
@@ -44,6 +44,17 @@ returns-3 c g p =
     only-class _ _ _ _ g p (s .pre .1 .1)
     (sym (when-some (h .half-at .result) (s .args .t) (solid (c .before .before .before .before .before .before)) (sound h) (sym (rays a) ∙ c .enum-told2 .given .1)) ∙ ap (λ q. judged q (s .args .t)) (h .half-at .ensures))
 
+by-middle : tie.Need-class-by-middle-requires
+by-middle c κs = (solid (c .before .before .before .before .before .before .before .before), (c .ball-of .ensures, sound (c .before .before .before .before .before .before .before)))
+
+returns-4 : tie.Need-returns-4
+returns-4 c g p =
+    let a = c .before .before .before .before .before in
+    let h = a .before .before .before in
+    let s = h .before .before .before .before in
+    only-class _ _ _ _ g p (s .pre .1 .1)
+    (c .class-by-middle .ensures ∙ sym (when-none (h .half-at .result) (s .args .t) (solid (h .before)) (sym (rays a) ∙ c .before .before .before .enum-told3 .given .1)) ∙ ap (λ q. judged q (s .args .t)) (h .half-at .ensures))
+
 pub alone-spec : {M : Type 1} → statement M
 alone-spec =
     tie.close
@@ -55,8 +66,9 @@ alone-spec =
     (λ c κs. tt)
     (λ c. search needs)
     (λ c. search needs)
-    (λ c κs. c .before .before .before .before .before .before .before .before .before .pre .0)
-    (λ c κs. let p = c .before .before .before .before .before .before .before .before .before .before .pre in ((p .0 .1, c .ball-of .ensures), p .1 .0))
+    (λ c κs. c .before .before .before .before .before .before .before .before .before .pre .0 .0)
+    (λ c κs. (c .middle-of .ensures, c .before .before .before .before .before .before .before .before .before .before .pre .0 .1))
+    by-middle
     returns-2
     returns-3
-    (λ c. c .scanned .ensures))
+    returns-4)

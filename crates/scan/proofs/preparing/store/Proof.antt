@@ -1,33 +1,25 @@
 -- `scan::preparing::store` stores the seven numbers one after the other. Assumes nothing.
-use Prim.Native.Nat.{_+_, _^_, _<_}
+use Prim.Native.Nat.{_+_}
 use native.Mathlib.Omega.{arith}
-use mathlib.Core.Path.{_≡_, _∙_}
+use mathlib.Core.Path.{_∙_}
 use lib.ListN.{set, length-set}
-use lib.IntN.{ℤ}
-use lib.Signed.{mag}
-use mir.Syntax.{w64}
-use mir.Val.{toZ, ofZ}
-use mir.Facts.{toZ-ofZ}
+use Rattle.algebra.proofs.Sized.{stored-same}
 use Rattle.scan.proofs.PreparingLaws.{seven-stored}
 use Rattle.scan.proofs.preparing.store.Statement.{statement}
 use Rattle.scan.proofs.preparing.store.Tie as tie
-
--- a number that is stored by its bits
-same : (z : ℤ) → mag z < 2 ^ 63 → toZ w64 (ofZ w64 z) ≡ z
-same z h = toZ-ofZ {w = w64} {z = z} (record { sfits = h })
 
 returns : tie.Need-returns
 returns c =
     let s = c .before .before .before .before .before .before .before .before in
     let v = s .args in
     let k = v .k in
-    let x = same (v .q .f .x) (c .before .before .before .before .before .before .struct-told .given .0 .1) in
-    let y = same (v .q .f .y) (c .before .before .before .before .before .struct-told2 .given .1 .0 .1) in
-    let z = same (v .q .f .z) (c .before .before .before .before .struct-told3 .given .1 .1 .0 .1) in
-    let d = same (v .q .d) (c .before .before .before .struct-told4 .given .1 .0 .1) in
-    let low = same (v .q .low) (c .before .before .struct-told5 .given .1 .1 .0 .1) in
-    let high = same (v .q .high) (c .before .struct-told6 .given .1 .1 .1 .0 .1) in
-    let rest = same (v .q .rest) (c .struct-told7 .given .1 .1 .1 .1 .0 .1) in
+    let x = stored-same (v .q .f .x) (c .before .before .before .before .before .before .struct-told .given .0 .1) in
+    let y = stored-same (v .q .f .y) (c .before .before .before .before .before .struct-told2 .given .1 .0 .1) in
+    let z = stored-same (v .q .f .z) (c .before .before .before .before .struct-told3 .given .1 .1 .0 .1) in
+    let d = stored-same (v .q .d) (c .before .before .before .struct-told4 .given .1 .0 .1) in
+    let low = stored-same (v .q .low) (c .before .before .struct-told5 .given .1 .1 .0 .1) in
+    let high = stored-same (v .q .high) (c .before .struct-told6 .given .1 .1 .1 .0 .1) in
+    let rest = stored-same (v .q .rest) (c .struct-told7 .given .1 .1 .1 .1 .0 .1) in
     (λ i. set (set (set (set (set (set (set (v .xs .now) k (x i)) (k + 1) (y i)) (k + 2) (z i)) (k + 3) (d i)) (k + 4) (low i)) (k + 5) (high i)) (k + 6) (rest i))
     ∙ seven-stored (v .xs .now) k _ _ _ _ _ _ _ (s .pre)
 

@@ -1,4 +1,4 @@
--- `cutting::push_inner` lends the list from element 2 × budget on to the inner list's writer, and so leaves what is before it. Assumes nothing.
+-- `cutting::tally::push_inner` lends the list from element 2 × budget on to the inner list's writer, and so leaves what is before it. Assumes nothing.
 use Prim.Native.Nat.{_*_, _≤_}
 use native.Mathlib.Omega.{arith}
 use mathlib.Core.Path.{sym, ap, subst}
@@ -8,8 +8,8 @@ use denote.Ref.{now}
 use Rattle.ranges.specs.OnePass.{innerPush}
 use Rattle.ranges.specs.Stored.{range, sizesIn, Hinted, stateOf, Keeps}
 use Rattle.cutting.proofs.LentTail.{tail-lent, tail-back, tail-after}
-use Rattle.cutting.proofs.push_inner.Statement.{statement}
-use Rattle.cutting.proofs.push_inner.Tie as tie
+use Rattle.cutting.proofs.tally.push_inner.Statement.{statement}
+use Rattle.cutting.proofs.tally.push_inner.Tie as tie
 
 wants : tie.Need-inner-push-requires
 wants c κs =
