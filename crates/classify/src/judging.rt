@@ -54,10 +54,12 @@ pub fn class_by_middle(t: Trixel, m: Ball, q: Half) -> Class
     requires { ⌜ SoundHalf q ⌝ }
     ensures { λ r. ⌜ r ≡ apartClass q t ⌝ }
 {
-    if middle::far(q, t, m) {
-        return class_apart(q.d);
+    let apart = middle::far(q, t, m);
+    if apart {
+        class_apart(q.d)
+    } else {
+        Class::Partial
     }
-    Class::Partial
 }
 
 // The class of t for the halfspace that q was prepared from. Of many halfspaces most are far from the trixel or enclose it; the rays are for the others.

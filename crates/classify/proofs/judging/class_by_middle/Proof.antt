@@ -8,14 +8,14 @@ use Rattle.classify.proofs.JudgedLaws.{apart-far, apart-near}
 use Rattle.classify.proofs.judging.class_by_middle.Statement.{statement}
 use Rattle.classify.proofs.judging.class_by_middle.Tie as tie
 
-pub class-by-middle-spec : {M : Type 1} → statement M
-class-by-middle-spec =
-    tie.close
-    (tie.spec
-    (λ c κs. search needs)
-    (λ c κs. tt)
-    (λ c.
+returns : tie.Need-returns
+returns c =
     let s = c .before .before .before .before in
     c .class-apart .ensures ∙ ap classApart (held (sound-offset (s .pre .1 .1)) tt .eq)
-    ∙ sym (apart-far (s .args .q) (s .args .t) (s .pre .0) (sym (c .before .before .before .far .ensures) ∙ c .before .before .if1 .taken)))
-    (λ c. let s = c .before .before in sym (apart-near (s .args .q) (s .args .t) (sym (c .before .far .ensures) ∙ c .if1 .left))))
+    ∙ sym (apart-far (s .args .q) (s .args .t) (s .pre .0) (sym (c .before .before .before .far .ensures) ∙ c .before .before .if1 .taken))
+
+returns-2 : tie.Need-returns-2
+returns-2 c = let s = c .before .before in sym (apart-near (s .args .q) (s .args .t) (sym (c .before .far .ensures) ∙ c .if1 .left))
+
+pub class-by-middle-spec : {M : Type 1} → statement M
+class-by-middle-spec = tie.close (tie.spec (λ c κs. search needs) (λ c κs. tt) returns returns-2)
