@@ -1,6 +1,6 @@
 -- One level of the descent, from the corners: the three tests in their order give the digit, and with it the child's corners. Assumes nothing.
 use native.Mathlib.Omega.{arith}
-use mathlib.Core.Path.{_≡_, sym, ap, ap₂, _∙_}
+use mathlib.Core.Path.{_≡_, sym, ap₂, _∙_}
 use mathlib.Core.Bool.{Bool, true, false}
 use lib.Dec.{lit<}
 use Rattle.vector.specs.declared.Vec3.{Vec3}
@@ -43,29 +43,29 @@ module _ (p : Vec3) (c : Corners) where
   unfolding digit cut
   last a b d = rw (a, b, d)
 
-  -- a test of the normal n = a × b
-  tested : {n a b a′ b′ : Vec3} {t : Bool} → n ≡ cross a b → a ≡ a′ → b ≡ b′ → notNegative (dot (scale n) p) ≡ t → side p a′ b′ ≡ t
-  tested e ea eb h = sym (ap (λ v. notNegative (dot (scale v) p)) (e ∙ ap₂ cross ea eb)) ∙ h
+  -- a test of the cut by a and b, which are a′ and b′
+  tested : {a b a′ b′ : Vec3} {t : Bool} → a ≡ a′ → b ≡ b′ → side p a b ≡ t → side p a′ b′ ≡ t
+  tested ea eb h = sym (ap₂ (side p) ea eb) ∙ h
 
-  module _ (small : SmallCorners c) {w1 w2 n0 : Vec3} (e1 : w1 ≡ m1) (e2 : w2 ≡ m2) (s1 : Small w1) (s2 : Small w2) (i0 : n0 ≡ cross w2 w1) where
-    pub stepped-0 : notNegative (dot (scale n0) p) ≡ true → Stepped p c (record { digit = 0; corners = record { v0 = c .v0; v1 = w2; v2 = w1 } })
+  module _ (small : SmallCorners c) {w1 w2 : Vec3} (e1 : w1 ≡ m1) (e2 : w2 ≡ m2) (s1 : Small w1) (s2 : Small w2) where
+    pub stepped-0 : side p w2 w1 ≡ true → Stepped p c (record { digit = 0; corners = record { v0 = c .v0; v1 = w2; v2 = w1 } })
     stepped-0 t0 =
-        let d = first (tested i0 e2 e1 t0) in
+        let d = first (tested e2 e1 t0) in
         record { is = d; child = child-0 c (sym d) e1 e2; small = record { v0 = small .v0; v1 = s2; v2 = s1 }; low = lit< tt }
 
-    module _ (t0 : notNegative (dot (scale n0) p) ≡ false) {w0 n1 : Vec3} (e0 : w0 ≡ m0) (s0 : Small w0) (i1 : n1 ≡ cross w0 w2) where
-      pub stepped-1 : notNegative (dot (scale n1) p) ≡ true → Stepped p c (record { digit = 1; corners = record { v0 = c .v1; v1 = w0; v2 = w2 } })
+    module _ (t0 : side p w2 w1 ≡ false) {w0 : Vec3} (e0 : w0 ≡ m0) (s0 : Small w0) where
+      pub stepped-1 : side p w0 w2 ≡ true → Stepped p c (record { digit = 1; corners = record { v0 = c .v1; v1 = w0; v2 = w2 } })
       stepped-1 t1 =
-          let d = second (tested i0 e2 e1 t0) (tested i1 e0 e2 t1) in
+          let d = second (tested e2 e1 t0) (tested e0 e2 t1) in
           record { is = d; child = child-1 c (sym d) e0 e2; small = record { v0 = small .v1; v1 = s0; v2 = s2 }; low = lit< tt }
 
-      module _ (t1 : notNegative (dot (scale n1) p) ≡ false) {n2 : Vec3} (i2 : n2 ≡ cross w1 w0) where
-        pub stepped-2 : notNegative (dot (scale n2) p) ≡ true → Stepped p c (record { digit = 2; corners = record { v0 = c .v2; v1 = w1; v2 = w0 } })
+      module _ (t1 : side p w0 w2 ≡ false) where
+        pub stepped-2 : side p w1 w0 ≡ true → Stepped p c (record { digit = 2; corners = record { v0 = c .v2; v1 = w1; v2 = w0 } })
         stepped-2 t2 =
-            let d = third (tested i0 e2 e1 t0) (tested i1 e0 e2 t1) (tested i2 e1 e0 t2) in
+            let d = third (tested e2 e1 t0) (tested e0 e2 t1) (tested e1 e0 t2) in
             record { is = d; child = child-2 c (sym d) e0 e1; small = record { v0 = small .v2; v1 = s1; v2 = s0 }; low = lit< tt }
 
-        pub stepped-3 : notNegative (dot (scale n2) p) ≡ false → Stepped p c (record { digit = 3; corners = record { v0 = w0; v1 = w1; v2 = w2 } })
+        pub stepped-3 : side p w1 w0 ≡ false → Stepped p c (record { digit = 3; corners = record { v0 = w0; v1 = w1; v2 = w2 } })
         stepped-3 t2 =
-            let d = last (tested i0 e2 e1 t0) (tested i1 e0 e2 t1) (tested i2 e1 e0 t2) in
+            let d = last (tested e2 e1 t0) (tested e0 e2 t1) (tested e1 e0 t2) in
             record { is = d; child = child-3 c (omega arith) e0 e1 e2; small = record { v0 = s0; v1 = s1; v2 = s2 }; low = lit< tt }

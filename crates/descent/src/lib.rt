@@ -31,12 +31,14 @@ pub struct Place {
 
 // ---- one level
 
-// Whether p is on the side of Scale(c): Scale(c)·p ≥ 0. Where c·p is beyond three times the largest component it has the same sign.
-fn on_side(c: Vec3, p: Vec3) -> bool
-    requires { ⌜ AtMost (2 ^ 41) c ⌝ }
+// Whether p is on the side of the cut by a and b: Scale(a × b)·p ≥ 0. Where (a × b)·p is beyond three times the largest component of a × b it has
+// the same sign.
+fn on_side(a: Vec3, b: Vec3, p: Vec3) -> bool
+    requires { ⌜ Small a × Small b ⌝ }
     requires { ⌜ Small p ⌝ }
-    ensures { λ t. ⌜ t ≡ notNegative (vectors.dot (vectors.scale c) p) ⌝ }
+    ensures { λ t. ⌜ t ≡ notNegative (vectors.dot (vectors.scale (vectors.cross a b)) p) ⌝ }
 {
+    let c = vector::cross(a, b);
     let s = vector::dot(p, c);
     let m = 3 * vector::largest(c) as i64;
     if m < s {
@@ -45,7 +47,7 @@ fn on_side(c: Vec3, p: Vec3) -> bool
     if s < -m {
         return false;
     }
-    0 <= vector::dot(vector::scale(c), p)
+    0 <= vector::dot(mesh::trixels::normal(a, b), p)
 }
 
 fn chosen(digit: u64, corners: Corners) -> Child
@@ -68,14 +70,14 @@ fn step(p: Vec3, c: Corners) -> Child
     let v2 = c.v2;
     let w1 = mesh::cutting::midpoint(v0, v2);
     let w2 = mesh::cutting::midpoint(v0, v1);
-    if on_side(vector::cross(w2, w1), p) {
+    if on_side(w2, w1, p) {
         return chosen(0, mesh::cutting::triple(v0, w2, w1));
     }
     let w0 = mesh::cutting::midpoint(v1, v2);
-    if on_side(vector::cross(w0, w2), p) {
+    if on_side(w0, w2, p) {
         return chosen(1, mesh::cutting::triple(v1, w0, w2));
     }
-    if on_side(vector::cross(w1, w0), p) {
+    if on_side(w1, w0, p) {
         return chosen(2, mesh::cutting::triple(v2, w1, w0));
     }
     chosen(3, mesh::cutting::triple(w0, w1, w2))

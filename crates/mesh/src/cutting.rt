@@ -32,7 +32,7 @@ pub fn midpoint(a: Vec3, b: Vec3) -> Vec3
     requires { ⌜ Small b ⌝ }
     ensures { λ r. ⌜ (r ≡ unit (plus a b)) × Small r ⌝ }
 {
-    vector::unit(vector::sum(a, b))
+    vector::unit_two(vector::sum(a, b))
 }
 
 // The corners of a root: S0 S1 S2 S3 N0 N1 N2 N3 are 0 to 7.

@@ -30,7 +30,7 @@ pub fn root(k: u64) -> Trixel
 }
 
 // The normal of a cut: Scale(a × b).
-fn normal(a: Vec3, b: Vec3) -> Vec3
+pub fn normal(a: Vec3, b: Vec3) -> Vec3
     requires { ⌜ Small a ⌝ }
     requires { ⌜ Small b ⌝ }
     ensures { λ r. ⌜ (r ≡ vectors.scale (vectors.cross a b)) × Small r ⌝ }

@@ -92,7 +92,7 @@ dot-self v = λ i. sq (v .x) i +ℤ sq (v .y) i +ℤ sq (v .z) i
 pub dot-self-positive : (v : Vec3) → T (nonNeg (dot v v))
 dot-self-positive v = subst (λ z. T (nonNeg z)) (sym (dot-self v)) tt
 
-pub root-at-most : (v : Vec3) → AtMost (root (natAbs (dot v v))) v
+root-at-most : (v : Vec3) → AtMost (root (natAbs (dot v v))) v
 root-at-most v =
     let e = ap natAbs (dot-self v) in
     record {
@@ -104,6 +104,15 @@ root-at-most v =
 pub unit-small : (v : Vec3) → Small (unit v)
 unfolding unit
 unit-small v = divided-small v (root (natAbs (dot v v))) (root-at-most v)
+
+-- n is the root of the square length of v: no component is beyond n, and v divided by n is Unit
+module _ (v : Vec3) {n : ℕ} (e : n ≡ root (natAbs (dot v v))) where
+  pub at-most-root : AtMost n v
+  at-most-root = subst (λ n. AtMost n v) (sym e) (root-at-most v)
+
+  pub unit-by : {r : Vec3} → r ≡ dividedBy n v → (r ≡ unit v) × Small r
+  unfolding unit
+  unit-by d = let u = d ∙ ap (λ n. dividedBy n v) e in (u, subst Small (sym u) (unit-small v))
 
 pub largest-at-most : (v : Vec3) → AtMost (largest v) v
 largest-at-most v = record { x = record { le = omega arith }; y = record { le = omega arith }; z = record { le = omega arith } }

@@ -19,65 +19,60 @@ step-spec =
     (tie.spec
     (λ c κs. let p = c .before .before .before .pre .1 in (p .v0, p .v2))
     (λ c κs. let p = c .before .before .before .before .pre .1 in (p .v0, p .v1))
-    (λ c κs. (c .midpoint2 .ensures .1, c .before .midpoint .ensures .1))
-    (λ c κs. (c .cross .ensures .1, c .before .before .before .before .before .before .pre .0))
+    (λ c κs. ((c .midpoint2 .ensures .1, c .before .midpoint .ensures .1), c .before .before .before .before .before .pre .0))
     (λ c κs. tt)
     (λ c κs. tt)
     (λ c.
     let g = c .before .before in
     let a = g .before in
-    let m = a .before .before in
+    let m = a .before in
     let s = m .before .before .before .before .before in
     done (s .args .p) (s .args .c) (c .chosen .ensures) (c .before .triple .ensures)
     (stepped-0 (s .args .p) (s .args .c) (s .pre .1) (m .before .midpoint .ensures .0) (m .midpoint2 .ensures .0) (m .before .midpoint .ensures .1) (m .midpoint2 .ensures .1)
-    (a .before .cross .ensures .0) (sym (a .on-side .ensures) ∙ g .if1 .taken)))
-    (λ c κs. let p = c .before .before .before .before .before .before .before .before .pre .1 in (p .v1, p .v2))
-    (λ c κs. (c .midpoint3 .ensures .1, c .before .before .before .before .midpoint2 .ensures .1))
-    (λ c κs. (c .cross2 .ensures .1, c .before .before .before .before .before .before .before .before .before .before .pre .0))
+    (sym (a .on-side .ensures) ∙ g .if1 .taken)))
+    (λ c κs. let p = c .before .before .before .before .before .before .before .pre .1 in (p .v1, p .v2))
+    (λ c κs. ((c .midpoint3 .ensures .1, c .before .before .before .midpoint2 .ensures .1), c .before .before .before .before .before .before .before .before .pre .0))
     (λ c κs. tt)
     (λ c κs. tt)
     (λ c.
     let g = c .before .before in
     let b = g .before in
-    let e = b .before .before .before in
+    let e = b .before .before in
     let a = e .before in
-    let m = a .before .before in
+    let m = a .before in
     let s = m .before .before .before .before .before in
-    let w = b .before .before .midpoint3 .ensures in
+    let w = b .before .midpoint3 .ensures in
     done (s .args .p) (s .args .c) (c .chosen2 .ensures) (c .before .triple2 .ensures)
     (stepped-1 (s .args .p) (s .args .c) (s .pre .1) (m .before .midpoint .ensures .0) (m .midpoint2 .ensures .0) (m .before .midpoint .ensures .1) (m .midpoint2 .ensures .1)
-    (a .before .cross .ensures .0) (sym (a .on-side .ensures) ∙ e .if1 .left) (w .0) (w .1) (b .before .cross2 .ensures .0) (sym (b .on-side2 .ensures) ∙ g .if2 .taken)))
-    (λ c κs. (c .before .before .before .before .before .before .before .before .midpoint .ensures .1, c .before .before .before .midpoint3 .ensures .1))
-    (λ c κs. (c .cross3 .ensures .1, c .before .before .before .before .before .before .before .before .before .before .before .before .before .pre .0))
+    (sym (a .on-side .ensures) ∙ e .if1 .left) (w .0) (w .1) (sym (b .on-side2 .ensures) ∙ g .if2 .taken)))
+    (λ c κs. ((c .before .before .before .before .before .before .midpoint .ensures .1, c .before .before .midpoint3 .ensures .1), c .before .before .before .before .before .before .before .before .before .before .pre .0))
     (λ c κs. tt)
     (λ c κs. tt)
     (λ c.
     let g = c .before .before in
     let d = g .before in
-    let f = d .before .before in
+    let f = d .before in
     let b = f .before in
-    let e = b .before .before .before in
+    let e = b .before .before in
     let a = e .before in
-    let m = a .before .before in
+    let m = a .before in
     let s = m .before .before .before .before .before in
-    let w = b .before .before .midpoint3 .ensures in
+    let w = b .before .midpoint3 .ensures in
     done (s .args .p) (s .args .c) (c .chosen3 .ensures) (c .before .triple3 .ensures)
     (stepped-2 (s .args .p) (s .args .c) (s .pre .1) (m .before .midpoint .ensures .0) (m .midpoint2 .ensures .0) (m .before .midpoint .ensures .1) (m .midpoint2 .ensures .1)
-    (a .before .cross .ensures .0) (sym (a .on-side .ensures) ∙ e .if1 .left) (w .0) (w .1) (b .before .cross2 .ensures .0) (sym (b .on-side2 .ensures) ∙ f .if2 .left)
-    (d .before .cross3 .ensures .0) (sym (d .on-side3 .ensures) ∙ g .if3 .taken)))
+    (sym (a .on-side .ensures) ∙ e .if1 .left) (w .0) (w .1) (sym (b .on-side2 .ensures) ∙ f .if2 .left) (sym (d .on-side3 .ensures) ∙ g .if3 .taken)))
     (λ c κs. tt)
     (λ c κs. tt)
     (λ c.
     let g = c .before .before in
     let d = g .before in
-    let f = d .before .before in
+    let f = d .before in
     let b = f .before in
-    let e = b .before .before .before in
+    let e = b .before .before in
     let a = e .before in
-    let m = a .before .before in
+    let m = a .before in
     let s = m .before .before .before .before .before in
-    let w = b .before .before .midpoint3 .ensures in
+    let w = b .before .midpoint3 .ensures in
     done (s .args .p) (s .args .c) (c .chosen4 .ensures) (c .before .triple4 .ensures)
     (stepped-3 (s .args .p) (s .args .c) (s .pre .1) (m .before .midpoint .ensures .0) (m .midpoint2 .ensures .0) (m .before .midpoint .ensures .1) (m .midpoint2 .ensures .1)
-    (a .before .cross .ensures .0) (sym (a .on-side .ensures) ∙ e .if1 .left) (w .0) (w .1) (b .before .cross2 .ensures .0) (sym (b .on-side2 .ensures) ∙ f .if2 .left)
-    (d .before .cross3 .ensures .0) (sym (d .on-side3 .ensures) ∙ g .if3 .left))))
+    (sym (a .on-side .ensures) ∙ e .if1 .left) (w .0) (w .1) (sym (b .on-side2 .ensures) ∙ f .if2 .left) (sym (d .on-side3 .ensures) ∙ g .if3 .left))))

@@ -12,4 +12,4 @@ midpoint-spec =
     (tie.spec
     (λ c κs. (at-most-mono (lit≤ tt) (c .pre .0), at-most-mono (lit≤ tt) (c .pre .1)))
     (λ c κs. c .sum .ensures .1)
-    (λ c. (c .unit .ensures .0 ∙ ap unit (c .before .sum .ensures .0), c .unit .ensures .1)))
+    (λ c. (c .unit-two .ensures .0 ∙ ap unit (c .before .sum .ensures .0), c .unit-two .ensures .1)))
