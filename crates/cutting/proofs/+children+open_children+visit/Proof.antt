@@ -201,7 +201,7 @@ pub +children+open-children+visit-spec : {M : Type 1} → statement M
     (λ c. c .match .keys2)
     (λ c. omega (arith, range-fits (c .before .before .before .before .before .before .before .before .before .before .pre .1 .1 .1 .1 .1) .0))
     (λ c. omega (arith, range-fits (c .before .before .before .before .before .before .before .before .before .before .pre .1 .1 .1 .1 .1) .0))
-    (λ c. range-fits (c .before .before .before .before .before .before .before .before .before .before .pre .1 .1 .1 .1 .1) .1)
+    (λ c. omega (arith, range-fits (c .before .before .before .before .before .before .before .before .before .before .pre .1 .1 .1 .1 .1) .1))
     (λ c. omega (arith, range-fits (c .before .before .before .before .before .before .before .before .before .before .pre .1 .1 .1 .1 .1) .0))
     (λ c κs. let s = c .before .before .before .before .before .before .before .before .before .before in (c .take-full-arg2 .given .0 .1, (s .pre .1 .1 .1 .1 .0, seen-fits (s .pre .1 .1 .1 .1 .1))))
     (λ c. c .match .keys3)
