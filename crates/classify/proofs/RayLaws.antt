@@ -1,8 +1,8 @@
 -- Rays with their heights: r·r lies from 2⁵² h to below 2⁵² (h + 5), by which the filters are right; and the rays that a trixel was measured to are
 -- its own. Assumes nothing.
 use Prim.Native.Nat.{ℕ, _+_, _*_, _/_, _^_, _≤_, _<_}
-use mathlib.Core.Path.{_≡_, sym, ap, subst, _∙_}
-use mathlib.Core.Bool.{Bool, true, false, _&&_}
+use mathlib.Core.Path.{_≡_, refl, sym, ap, subst, _∙_}
+use mathlib.Core.Bool.{Bool, true, false, cond, _&&_}
 use borrow.Author.Tests.{le-leb, lt-leb, leb-true}
 use lib.Dec.{leb}
 use lib.IntN.{ℤ, natAbs}
@@ -17,8 +17,10 @@ use Rattle.mesh.specs.declared.Trixel.{Trixel}
 use Rattle.classify.specs.declared.Ray.{Ray}
 use Rattle.classify.specs.declared.Shape.{Shape}
 use Rattle.classify.specs.declared.reaching.Passed.{Passed}
+use Rattle.classify.specs.declared.reaching.Told.{Told}
+use Rattle.classify.specs.declared.reaching.Told.the-variants.{Yes, No, Unsure}
 use Rattle.classify.specs.Measures.{heightOf, squareOf, IsRay, Shaped, OwnRays}
-use Rattle.classify.specs.Rays.{passes, allPass, passedOf, raysPassed}
+use Rattle.classify.specs.Rays.{passes, toldReach, allPass, passedOf, raysPassed}
 
 pub own-ray : {v : Vec3} {y : Ray} → IsRay v y → IsRay (y .r) y
 own-ray {y} i = subst (λ v. IsRay v y) (sym (i .r)) i
@@ -55,10 +57,25 @@ module _ {v : Vec3} (l : AtMost (2 ^ 41) v) where
 pub ray-most : {y : Ray} → IsRay (y .r) y → y .height ≤ 3 * 2 ^ 30
 ray-most i = subst (λ h. h ≤ 3 * 2 ^ 30) (sym (i .height)) (height-most (i .size))
 
--- what the filters tell
-module _ (x g : ℕ) {y : Ray} (i : IsRay (y .r) y) where
-  pub reach-sure : leb ((g * g / 1024 + 1) * (y .height + 5)) (x / 2 ^ 31 * (x / 2 ^ 31)) ≡ true → true ≡ leb (g * g * squareOf y) (x * x)
-  reach-sure e = sym (le-leb _ _ (filters.reach-surely x g (squareOf y) (y .height) (subst (λ h. squareOf y < 2 ^ 52 * (h + 5)) (sym (i .height)) (height-high (i .size))) (leb-true _ _ e)))
+-- ---- the filter
 
-  pub reach-sure-not : leb ((x / 2 ^ 31 + 1) * (x / 2 ^ 31 + 1)) (g * g / 1024 * y .height) ≡ true → false ≡ leb (g * g * squareOf y) (x * x)
-  reach-sure-not e = sym (lt-leb _ _ (filters.reach-surely-not x g (squareOf y) (y .height) (subst (λ h. 2 ^ 52 * h ≤ squareOf y) (sym (i .height)) (height-low (i .size))) (leb-true _ _ e)))
+-- what is told of a test is right
+abbrev pub Right : Told → Bool → Type 0
+Right Yes t = true ≡ t
+Right No t = false ≡ t
+Right Unsure t = Unit {0}
+
+right-by : {a b t : Bool} → (a ≡ true → true ≡ t) → (b ≡ true → false ≡ t) → Right (cond a Yes (cond b No Unsure)) t
+right-by {a = true} f g = f refl
+right-by {a = false} {b = true} f g = g refl
+right-by {a = false} {b = false} f g = tt
+
+module _ (x g : ℕ) {y : Ray} (i : IsRay (y .r) y) where
+  sure : leb ((g * g / 1024 + 1) * (y .height + 5)) (x / 2 ^ 31 * (x / 2 ^ 31)) ≡ true → true ≡ leb (g * g * squareOf y) (x * x)
+  sure e = sym (le-leb _ _ (filters.reach-surely x g (squareOf y) (y .height) (subst (λ h. squareOf y < 2 ^ 52 * (h + 5)) (sym (i .height)) (height-high (i .size))) (leb-true _ _ e)))
+
+  sure-not : leb ((x / 2 ^ 31 + 1) * (x / 2 ^ 31 + 1)) (g * g / 1024 * y .height) ≡ true → false ≡ leb (g * g * squareOf y) (x * x)
+  sure-not e = sym (lt-leb _ _ (filters.reach-surely-not x g (squareOf y) (y .height) (subst (λ h. 2 ^ 52 * h ≤ squareOf y) (sym (i .height)) (height-low (i .size))) (leb-true _ _ e)))
+
+  pub told-right : {r t : Told} → r ≡ toldReach x (y .height) g → r ≡ t → Right t (leb (g * g * squareOf y) (x * x))
+  told-right e k = subst (λ t. Right t (leb (g * g * squareOf y) (x * x))) (sym e ∙ k) (right-by sure sure-not)

@@ -1,9 +1,10 @@
 -- The room of a middle: what is beyond it passes the tests of squares and of edges for every halfspace. With r² ≥ S, r ≤ E and M ≥ 2²¹ r:
 -- p S < 2⁴² S ≤ M² for p up to 3·2⁴⁰, and S G ≤ 2²¹ r² ≤ M E for G up to 2²¹. Assumes nothing.
-use Prim.Native.Nat.{ℕ, _*_, _^_, _≤_, _<_}
+use Prim.Native.Nat.{ℕ, zero, suc, _*_, _^_, _≤_, _<_}
+use native.Mathlib.Nat.{le-refl, le-of-lt, lt-of-lt-of-le}
 use native.Mathlib.Omega.{arith}
 use borrow.Author.Tests.{ltb-true, ltb-false}
-use lib.Dec.{T, ltb, leb→le, le→leb, lt→ltb}
+use lib.Dec.{T, ltb, leb→le, le→leb, lt→ltb, lit<}
 use lib.IntN.{ℤ, pos, negsuc, natAbs, _*ℤ_}
 use lib.Signed.{nonNeg, leZ, _≤ℤ_, _<ℤ_, leZ-yes, ltZ-yes}
 use Rattle.algebra.specs.Sizes.{Upto}
@@ -11,33 +12,45 @@ use Rattle.algebra.proofs.Order.{nn-pos}
 use Rattle.algebra.proofs.Beyond.{beyond-square, beyond-edges, beyond-front}
 use Rattle.algebra.proofs.Sized.{upto-high}
 use Rattle.algebra.proofs.Tests.{split, no-le}
-use Rattle.classify.specs.Measures.{Rest, rootAbove, roomOf}
+use Rattle.classify.specs.Measures.{Rest, firstAbove, rootAbove, roomOf}
 
 -- ---- a number whose square is not below
 
+-- r after n steps
+abbrev pub doubled : ℕ → ℕ → ℕ
+doubled zero r = r
+doubled (suc n) r = doubled n (2 * r)
+
+pub doubled-least : (n r : ℕ) → r ≤ doubled n r
+doubled-least zero r = le-refl r
+doubled-least (suc n) r = omega (arith, doubled-least n (2 * r))
+
+first-above : (n r s : ℕ) → s ≤ doubled n r * doubled n r → s ≤ firstAbove n r s * firstAbove n r s
+unfolding firstAbove
+first-above zero r s h = h
+first-above (suc n) r s h = split (ltb s (r * r)) (λ a. rw a (le-of-lt (ltb-true s (r * r) a))) (λ a. rw a (first-above n (2 * r) s h))
+
+first-most : (n r s : ℕ) → firstAbove n r s ≤ doubled n r
+unfolding firstAbove
+first-most zero r s = le-refl r
+first-most (suc n) r s = split (ltb s (r * r)) (λ a. rw a (doubled-least (suc n) r)) (λ a. rw a (first-most n (2 * r) s))
+
+first-least : (n r s : ℕ) → r ≤ firstAbove n r s
+unfolding firstAbove
+first-least zero r s = le-refl r
+first-least (suc n) r s = split (ltb s (r * r)) (λ a. rw a (le-refl r)) (λ a. rw a (omega (arith, first-least n (2 * r) s)))
+
 root-above : (s : ℕ) → s ≤ 2 ^ 42 → s ≤ rootAbove s * rootAbove s
 unfolding rootAbove
-root-above s h =
-    split (ltb s 65536) (λ a. rw a (omega (arith, ltb-true s 65536 a)))
-    (λ a. rw a
-    (split (ltb s 1048576) (λ b. rw b (omega (arith, ltb-true s 1048576 b)))
-    (λ b. rw b
-    (split (ltb s 16777216) (λ c. rw c (omega (arith, ltb-true s 16777216 c)))
-    (λ c. rw c
-    (split (ltb s 268435456) (λ d. rw d (omega (arith, ltb-true s 268435456 d)))
-    (λ d. rw d
-    (split (ltb s 4294967296) (λ e. rw e (omega (arith, ltb-true s 4294967296 e))) (λ e. rw e (omega arith))))))))))
+root-above s h = first-above _ _ s h
 
 pub root-most : (s : ℕ) → rootAbove s ≤ 2 ^ 21
 unfolding rootAbove
-root-most s =
-    split (ltb s 65536) (λ a. rw a (omega arith))
-    (λ a. rw a
-    (split (ltb s 1048576) (λ b. rw b (omega arith))
-    (λ b. rw b
-    (split (ltb s 16777216) (λ c. rw c (omega arith))
-    (λ c. rw c
-    (split (ltb s 268435456) (λ d. rw d (omega arith)) (λ d. rw d (split (ltb s 4294967296) (λ e. rw e (omega arith)) (λ e. rw e (omega arith))))))))))
+root-most s = first-most _ _ s
+
+root-some : (s : ℕ) → 0 < rootAbove s
+unfolding rootAbove
+root-some s = lt-of-lt-of-le (lit< tt) (first-least _ _ s)
 
 pub room-upto : (S : ℤ) (e : ℕ) → Upto (2 ^ 62) (roomOf S e)
 unfolding roomOf
@@ -70,17 +83,6 @@ by-root S M e r s h n l k = record {
   square = λ p q. beyond-square M S (pos r) p k h (upto-high (q .size)) s (nn-pos r);
   edges = λ G u. beyond-edges M S (pos r) (pos e) G k h (leZ-yes (le→leb r e l)) (upto-high u) s (nn-pos r);
 }
-
-root-some : (s : ℕ) → 0 < rootAbove s
-unfolding rootAbove
-root-some s =
-    split (ltb s 65536) (λ a. rw a (omega arith))
-    (λ a. rw a
-    (split (ltb s 1048576) (λ b. rw b (omega arith))
-    (λ b. rw b
-    (split (ltb s 16777216) (λ c. rw c (omega arith))
-    (λ c. rw c
-    (split (ltb s 268435456) (λ d. rw d (omega arith)) (λ d. rw d (split (ltb s 4294967296) (λ e. rw e (omega arith)) (λ e. rw e (omega arith))))))))))
 
 pub beyond-room : (S M : ℤ) (e : ℕ) → Rest S → roomOf S e ≤ℤ M → Upto (2 ^ 43) M → Beyond S (pos e) M
 unfolding roomOf

@@ -11,14 +11,14 @@
 --   OwnRays s            each ray of s has its own height
 --   Shaped t s           s has the rays of t and whether V > 0
 --   Balled t m           m has b and E of t: whether b is ahead of the rays, and then E, b·b − E² and their room
---   rootAbove s          a number whose square is not below s, for s up to 2⁴² (proofs/RoomLaws)
+--   rootAbove s          a number whose square is not below s, for s up to 2⁴²: the first of 256, 512, 1024 and so on, or 2²¹ (proofs/RoomLaws)
 --   roomOf rest e        the bound beyond which every halfspace is settled (proofs/RoomLaws)
 --   ballAhead b e, ballBehind b   what is kept of b where it is ahead of the rays and reaches e, and where it is not ahead
 --   reachAll x0 x1 x2 s n    n² (r·r) ≤ x² for each ray r of s and its x: where each x is b·r, and positive, b reaches n at all three
 --   greatestReach x0 x1 x2 s   the greatest such n up to K, which is E (proofs/ReachLaws)
 --   Bounded x0 x1 x2 s   how large these numbers are, for rays with their heights
 --   Spanned x0 x1 x2 s low high   the search for it: low is such an n, and none from high up to K is
-use Prim.Native.Nat.{ℕ, _+_, _*_, _/_, _^_, _≤_, _<_}
+use Prim.Native.Nat.{ℕ, zero, suc, _+_, _*_, _/_, _^_, _≤_, _<_}
 use mathlib.Core.Path.{_≡_}
 use mathlib.Core.Bool.{Bool, true, false, cond, _&&_}
 use lib.Dec.{T, leb, ltb}
@@ -101,13 +101,13 @@ pub record Shaped (t : Trixel) (s : Shape) : Type 0 where
   pub r2 : IsRay (ray2 t) (s .r2)
   pub solid : s .solid ≡ positive (volume t)
 
+-- the first of r, 2r, 4r and so on whose square is above s, or that after n steps
+unfoldable pub firstAbove : ℕ → ℕ → ℕ → ℕ
+firstAbove zero r s = r
+firstAbove (suc n) r s = cond (ltb s (r * r)) r (firstAbove n (2 * r) s)
+
 unfoldable pub rootAbove : ℕ → ℕ
-rootAbove s =
-    cond (ltb s 65536) 256
-    (cond (ltb s 1048576) 1024
-    (cond (ltb s 16777216) 4096
-    (cond (ltb s 268435456) 16384
-    (cond (ltb s 4294967296) 65536 2097152))))
+rootAbove s = firstAbove 13 256 s
 
 unfoldable pub roomOf : ℤ → ℕ → ℤ
 roomOf rest e = cond (leZ rest (pos 0)) (pos (2 ^ 62)) (cond (ltb e (rootAbove (natAbs rest))) (pos (2 ^ 62)) (pos (2097152 * rootAbove (natAbs rest))))

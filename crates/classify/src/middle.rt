@@ -124,26 +124,18 @@ fn along(b: Vec3, y: Ray) -> i64
     vector::dot(b, r)
 }
 
-// A number whose square is not below s, for s up to 2^42.
+// A number whose square is not below s, for s up to 2^42: the first of 256, 512, 1024 and so on, or 2^21.
 fn root_above(s: u64) -> u64
     ensures { λ r. ⌜ r ≡ rootAbove s ⌝ }
 {
-    if s < 65536 {
-        return 256;
+    let mut r: u64 = 256;
+    while r < 2097152 {
+        if s < r * r {
+            return r;
+        }
+        r = 2 * r;
     }
-    if s < 1048576 {
-        return 1024;
-    }
-    if s < 16777216 {
-        return 4096;
-    }
-    if s < 268435456 {
-        return 16384;
-    }
-    if s < 4294967296 {
-        return 65536;
-    }
-    2097152
+    r
 }
 
 // The bound beyond which every halfspace is settled, for the rest b·b − E² and E: 2^21 times a number whose square is not below the rest. It is out of

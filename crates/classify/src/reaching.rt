@@ -7,7 +7,7 @@ use vector::Vec3;
 use wide::Wide;
 ghost use mathlib.Core.Path.{_≡_};
 ghost use mathlib.Core.Bool.{_&&_};
-ghost use Prim.Native.Nat.{_*_, _^_, _≤_};
+ghost use Prim.Native.Nat.{_+_, _*_, _^_, _≤_, _<_};
 ghost use lib.Dec.{leb};
 ghost use lib.IntN.{natAbs};
 ghost use Rattle.algebra.specs.Sizes.{Upto};
@@ -16,13 +16,20 @@ ghost use Rattle.vector.specs.Vectors.{AtMost, Small};
 ghost use Rattle.vector.specs.Vectors as vectors;
 ghost use Rattle.classify.specs.Measures.{squareOf, IsRay, OwnRays};
 ghost use Rattle.classify.specs.Rays as rule;
-ghost use Rattle.classify.specs.Rays.{passedOf};
+ghost use Rattle.classify.specs.Rays.{passedOf, toldReach};
 
 // How many of the three rays of a trixel pass.
 pub enum Passed {
     None,
     Some,
     All,
+}
+
+// What a filter tells of a test.
+pub enum Told {
+    Yes,
+    No,
+    Unsure,
 }
 
 // ---- a ray
@@ -54,26 +61,39 @@ fn reaches_exactly(x: u64, r: Vec3, g: u64) -> bool
     !wide::less(given, wanted)
 }
 
-// Whether x² ≥ g² (r·r) for the ray r of height h. With p = g² / 2^10 and q = x / 2^31 it is sure where (p + 1)(h + 5) ≤ q², and sure not to be
-// where (q + 1)² ≤ p h.
+// Whether x² ≥ g² (r·r) for the ray r of height h, by a filter. With p = g² / 2^10 and q = x / 2^31 it is sure where (p + 1)(h + 5) ≤ q², and sure not
+// to be where (q + 1)² ≤ p h.
+fn filtered(x: u64, h: u64, g: u64) -> Told
+    requires { ⌜ (x ≤ 3 * 2 ^ 61) × (g ≤ 2 ^ 21) × (h + 5 < 2 ^ 32) ⌝ }
+    ensures { λ r. ⌜ r ≡ toldReach x h g ⌝ }
+{
+    let p = g * g / 1024;
+    let q = x / 2147483648;
+    if filters::product_within(p + 1, h + 5, q) {
+        return Told::Yes;
+    }
+    if filters::square_within(q + 1, p, h) {
+        return Told::No;
+    }
+    Told::Unsure
+}
+
+// Whether x² ≥ g² (r·r) for the ray r: by the filter, and in two words where it does not tell.
 pub fn reaches(x: u64, y: Ray, g: u64) -> bool
     requires { ⌜ (x ≤ 3 * 2 ^ 61) × (g ≤ 2 ^ 21) × IsRay (y .r) y ⌝ }
     ensures { λ t. ⌜ t ≡ leb (g * g * squareOf y) (x * x) ⌝ }
 {
-    let h = y.height;
-    let p = g * g / 1024;
-    let q = x / 2147483648;
-    if filters::product_within(p + 1, h + 5, q) {
-        return true;
-    }
-    if filters::square_within(q + 1, p, h) {
-        return false;
-    }
     let r = y.r;
-    reaches_exactly(x, r, g)
+    let told = filtered(x, y.height, g);
+    match told {
+        Told::Yes => true,
+        Told::No => false,
+        Told::Unsure => reaches_exactly(x, r, g),
+    }
 }
 
-// Whether f·r > 0 and (f·r)² ≥ g² (r·r) for the ray r.
+// Whether f·r > 0 and (f·r)² ≥ g² (r·r) for the ray r. The same two tests as in `reaches`, so that the filter stands in the scan itself and the test in
+// two words does not.
 pub fn passes(f: Vec3, g: i64, y: Ray) -> bool
     requires { ⌜ Small f ⌝ }
     requires { ⌜ Upto (2 ^ 21) g ⌝ }
@@ -82,7 +102,17 @@ pub fn passes(f: Vec3, g: i64, y: Ray) -> bool
 {
     let r = y.r;
     let x = vector::dot(f, r);
-    0 < x && reaches(vector::size(x), y, vector::size(g))
+    if x <= 0 {
+        return false;
+    }
+    let n = x as u64;
+    let k = vector::size(g);
+    let told = filtered(n, y.height, k);
+    match told {
+        Told::Yes => true,
+        Told::No => false,
+        Told::Unsure => reaches_exactly(n, r, k),
+    }
 }
 
 // ---- the three rays

@@ -1,27 +1,19 @@
--- `classify::reaching::reaches`: where a filter tells, it is right, and else the squares are compared in two words. Assumes nothing.
-use Prim.Native.Nat.{_*_, _^_, _≤_}
-use native.Mathlib.Nat.{mul-le-mul, lt-of-le-of-lt}
+-- `classify::reaching::reaches`: where the filter tells, it is right, and else the squares are compared in two words. Assumes nothing.
 use native.Mathlib.Omega.{arith}
-use mathlib.Core.Path.{sym, _∙_}
-use lib.Dec.{lit<}
-use Rattle.classify.proofs.RayLaws.{ray-most, reach-sure, reach-sure-not}
+use borrow.Author.Needs.{needs}
+use Rattle.classify.proofs.RayLaws.{ray-most, told-right}
 use Rattle.classify.proofs.reaching.reaches.Statement.{statement}
 use Rattle.classify.proofs.reaching.reaches.Tie as tie
-
-square-most : (c : tie.Start) → c .args .g * c .args .g ≤ 2 ^ 42
-square-most c = mul-le-mul (c .pre .1) (c .pre .1)
 
 pub reaches-spec : {M : Type 1} → statement M
 reaches-spec =
     tie.close
     (tie.spec
-    (λ c. record { fits = lt-of-le-of-lt (square-most c) (lit< tt) })
-    (λ c. record { fits = omega (arith, square-most c) })
-    (λ c. record { fits = omega (arith, ray-most (c .pre .2)) })
-    (λ c κs. (omega (arith, square-most c), omega (arith, ray-most (c .pre .2)), omega (arith, c .pre .0)))
-    (λ c. let s = c .before .before in reach-sure (s .args .x) (s .args .g) (s .pre .2) (sym (c .before .product-within .ensures) ∙ c .if1 .taken))
-    (λ c. record { fits = omega (arith, c .before .before .pre .0) })
-    (λ c κs. let s = c .before .before in (omega (arith, s .pre .0), omega (arith, square-most s), omega (arith, ray-most (s .pre .2))))
-    (λ c. let s = c .before .before .before .before in reach-sure-not (s .args .x) (s .args .g) (s .pre .2) (sym (c .before .square-within .ensures) ∙ c .if2 .taken))
-    (λ c κs. let p = c .before .before .before .before .before .pre in (p .0, p .1, p .2 .size))
+    (λ c κs. let p = c .before .pre in (omega (arith, p .0), omega (arith, p .1), omega (arith, ray-most (p .2))))
+    (λ c. search needs)
+    (λ c. search needs)
+    (λ c. search needs)
+    (λ c κs. search needs)
+    (λ c. let s = c .before .before .before .before in told-right (s .args .x) (s .args .g) (s .pre .2) (c .before .before .filtered .ensures) (c .enum-told .given .1))
+    (λ c. let s = c .before .before .before .before in told-right (s .args .x) (s .args .g) (s .pre .2) (c .before .before .filtered .ensures) (c .enum-told2 .given .1))
     (λ c. c .reaches-exactly .ensures))
