@@ -19,7 +19,7 @@ ghost use Rattle.narrow.specs.Near.{Placed, placeIn, closeTo, settledBy}
 // No halfspace is beyond it.
 const NEVER: i64 = 17592186044416;
 
-// The place at the middle of t. The margin is twice the room, so that one room is left for steps.
+// The place at the middle of t. The margin is seven eighths of the room: a trixel below has half the room at most, and the rest is left for steps.
 pub fn place_of(t: Trixel, m: Ball) -> Near
     requires { ⌜ Balled t m ⌝ }
     ensures { λ r. ⌜ Placed r ⌝ }
@@ -36,7 +36,7 @@ pub fn place_of(t: Trixel, m: Ball) -> Near
         return Near {
             b: b,
             reach: m.reach,
-            margin: 2 * m.room,
+            margin: m.room - m.room / 8,
         };
     }
     Near {

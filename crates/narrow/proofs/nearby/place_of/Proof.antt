@@ -1,10 +1,14 @@
--- `narrow::nearby::place_of` is a place: a room that is at most 2⁴³ is at most 2⁴⁴ when it is doubled. Assumes nothing.
+-- `narrow::nearby::place_of` is a place: a room that is at most 2⁴³ is at most 2⁴⁴ when a part of it is taken away. Assumes nothing.
 use Prim.Native.Nat.{_^_}
 use mathlib.Core.Path.{sym, _∙_}
 use borrow.Author.Tests.{not-false}
-use lib.Dec.{lit≤}
+use lib.Dec.{lit≤, lit<}
+use lib.IntN.{ℤ, pos, _-ℤ_}
+use lib.Signed.{quotZ}
+use mir.Syntax.{w64}
+use mir.Val.{toZ, ofZ}
 use Rattle.algebra.specs.Sizes.{Upto}
-use Rattle.algebra.proofs.Sized.{held, lit, upto-held, is-mul, fits-mul, same-le}
+use Rattle.algebra.proofs.Sized.{Is, held, lit, upto-held, is-sub, is-div, fits-sub, fits-div, same-le}
 use Rattle.vector.specs.Numbers.{Kℕ}
 use Rattle.classify.proofs.BallLaws.{ball-small, ball-beside}
 use Rattle.classify.proofs.FarLaws.{ball-room, room-below}
@@ -21,10 +25,14 @@ room c =
     let a = not-false _ (c .before .before .before .if1 .left) in
     room-below (s .pre) a (sym (same-le (held (ball-room (s .pre) a) tt) (lit (2 ^ 43) tt)) ∙ c .if2 .taken)
 
+-- the room less its eighth
+less : {z : ℤ} → Upto (2 ^ 43) z → Is (ofZ w64 (toZ w64 (ofZ w64 z) -ℤ toZ w64 (ofZ w64 (quotZ (toZ w64 (ofZ w64 z)) (toZ w64 8))))) (z -ℤ quotZ z (pos 8)) (2 ^ 44)
+less h = is-sub (held h tt) (is-div (held h tt) (lit 8 tt) tt) tt
+
 returns-2 : tie.Need-returns-2
 returns-2 c =
-    let t = c .before .before .before in
-    let z = is-mul (lit 2 tt) (held (room t) tt) tt in
+    let t = c .before .before .before .before .before in
+    let z = less (room t) in
     record {
       b = ball-small (t .before .before .before .before .before .before .pre);
       reach = upto-held (reach (t .before .before .before)) tt;
@@ -36,7 +44,8 @@ place-of-spec =
     tie.close
     (tie.spec
     (λ c. record { b = ball-small (c .before .before .before .pre); reach = record { le = lit≤ tt }; margin = record { le = lit≤ tt } })
-    (λ c. fits-mul (lit 2 tt) (held (room (c .before .before)) tt) tt)
+    (λ c. fits-div (held (room (c .before .before)) tt) (lit 8 tt) (lit< tt) tt)
+    (λ c. fits-sub (held (room (c .before .before .before .before)) tt) (is-div (held (room (c .before .before .before .before)) tt) (lit 8 tt) tt) tt)
     returns-2
     (λ c.
     let e = c .before .before .before .before in
