@@ -21,60 +21,48 @@ pub mod tally;
 
 // ---- the cutting
 
-// The trixel with the identifier id, `left` levels above the depth, where it has `span` descendants. The w open halfspaces beside a place that is near, if
-// there are some, stand in `ys` and `marks`.
+// The trixel with the identifier id, `left` levels above the depth, where it has `span` descendants. The region was prepared to xs and es, n halfspaces
+// in all; the w that are open beside the place ps, if there are some, stand in ys and ms. b is the budget, s the tally.
 fn visit(
     trixel: &[i64; 21],
     id: u64,
     left: u32,
     span: u64,
     xs: &[i64; 3584],
-    ends: &[u64; 64],
+    es: &[u64; 64],
     n: usize,
     ys: &[i64; 224],
-    marks: &[u64; 32],
+    ms: &[u64; 32],
     w: usize,
-    near: &[i64; 5],
-    budget: usize,
+    ps: &[i64; 5],
+    b: usize,
     out: &mut [u64],
     s: &mut [u64; 10],
 )
     requires { ⌜ KeptTrixel (now trixel) ⌝ }
-    requires { ⌜ Ready (now xs) (now ends) n ⌝ }
-    requires { ⌜ Beside (now xs) (now ends) n (now ys) (now marks) w (now near) ⌝ }
-    requires { ⌜ Room budget (tallyIn (now s)) (now out) ⌝ }
+    requires { ⌜ Ready (now xs) (now es) n ⌝ }
+    requires { ⌜ Beside (now xs) (now es) n (now ys) (now ms) w (now ps) ⌝ }
+    requires { ⌜ Room b (tallyIn (now s)) (now out) ⌝ }
     requires { ⌜ Level id left span (tallyIn (now s) .seen) ⌝ }
-    ensures { λ _. ⌜ Visited (now (xs .entry)) (now (ends .entry)) n budget left (trixelIn (now (trixel .entry))) id (tallyIn (now (s .entry))) (now (out .entry)) (tallyIn (now (s .exit))) (now (out .exit)) ⌝ }
-    ensures { λ _. ⌜ Room budget (tallyIn (now (s .exit))) (now (out .exit)) × (3 * tallyIn (now (s .exit)) .seen + 1 ≤ 3 * tallyIn (now (s .entry)) .seen + 4 ^ suc left) ⌝ }
+    ensures { λ _. ⌜ Visited (now (xs .entry)) (now (es .entry)) n b left (trixelIn (now (trixel .entry))) id (tallyIn (now (s .entry))) (now (out .entry)) (tallyIn (now (s .exit))) (now (out .exit)) ⌝ }
+    ensures { λ _. ⌜ Room b (tallyIn (now (s .exit))) (now (out .exit)) × (3 * tallyIn (now (s .exit)) .seen + 1 ≤ 3 * tallyIn (now (s .entry)) .seen + 4 ^ suc left) ⌝ }
 {
     let t = kept::trixel_in(trixel);
     let shape = measures::measured(t, stored::vec_in(trixel, 18));
-    let class = narrow::class_near(t, shape, xs, ends, n, ys, marks, w, near);
+    let class = narrow::class_near(t, shape, xs, es, n, ys, ms, w, ps);
     match class {
         Class::Outside => tally::seen_more(s),
-        Class::Full => tally::take_full(out, budget, s, id * span, id * span + (span - 1)),
+        Class::Full => tally::take_full(out, b, s, id * span, id * span + (span - 1)),
         Class::Partial => {
             if left == 0 {
-                tally::take_partial(out, budget, s, id, id);
+                tally::take_partial(out, b, s, id, id);
                 return;
             }
             tally::seen_more(s);
             let mut rays = [0i64; 6];
             kept::keep_rays(&mut rays, shape);
             if narrow::wanted(n, w) {
-                open_children(
-                    trixel,
-                    &rays,
-                    id,
-                    left - 1,
-                    span / 4,
-                    xs,
-                    ends,
-                    n,
-                    budget,
-                    out,
-                    s,
-                );
+                open_children(trixel, &rays, id, left - 1, span / 4, xs, es, n, b, out, s);
                 return;
             }
             children(
@@ -84,13 +72,13 @@ fn visit(
                 left - 1,
                 span / 4,
                 xs,
-                ends,
+                es,
                 n,
                 ys,
-                marks,
+                ms,
                 w,
-                near,
-                budget,
+                ps,
+                b,
                 out,
                 s,
             );
@@ -106,26 +94,26 @@ fn open_children(
     left: u32,
     span: u64,
     xs: &[i64; 3584],
-    ends: &[u64; 64],
+    es: &[u64; 64],
     n: usize,
-    budget: usize,
+    b: usize,
     out: &mut [u64],
     s: &mut [u64; 10],
 )
     requires { ⌜ KeptTrixel (now trixel) ⌝ }
     requires { ⌜ KeptRays (now trixel) (now rays) ⌝ }
-    requires { ⌜ Ready (now xs) (now ends) n ⌝ }
-    requires { ⌜ Room budget (tallyIn (now s)) (now out) ⌝ }
+    requires { ⌜ Ready (now xs) (now es) n ⌝ }
+    requires { ⌜ Room b (tallyIn (now s)) (now out) ⌝ }
     requires { ⌜ ChildLevel id left span (tallyIn (now s) .seen) ⌝ }
-    ensures { λ _. ⌜ Parted (now (xs .entry)) (now (ends .entry)) n budget left (trixelIn (now (trixel .entry))) id (tallyIn (now (s .entry))) (now (out .entry)) (tallyIn (now (s .exit))) (now (out .exit)) ⌝ }
-    ensures { λ _. ⌜ Room budget (tallyIn (now (s .exit))) (now (out .exit)) × (3 * tallyIn (now (s .exit)) .seen + 4 ≤ 3 * tallyIn (now (s .entry)) .seen + 4 * 4 ^ suc left) ⌝ }
+    ensures { λ _. ⌜ Parted (now (xs .entry)) (now (es .entry)) n b left (trixelIn (now (trixel .entry))) id (tallyIn (now (s .entry))) (now (out .entry)) (tallyIn (now (s .exit))) (now (out .exit)) ⌝ }
+    ensures { λ _. ⌜ Room b (tallyIn (now (s .exit))) (now (out .exit)) × (3 * tallyIn (now (s .exit)) .seen + 4 ≤ 3 * tallyIn (now (s .entry)) .seen + 4 * 4 ^ suc left) ⌝ }
 {
     let mut ys = [0i64; 224];
-    let mut marks = [0u64; 32];
-    let mut near = [0i64; 5];
+    let mut ms = [0u64; 32];
+    let mut ps = [0i64; 5];
     let t = kept::trixel_in(trixel);
     let shape = measures::measured(t, stored::vec_in(trixel, 18));
-    let w = narrow::narrowed(t, shape, xs, ends, n, &mut ys, &mut marks, &mut near);
+    let w = narrow::narrowed(t, shape, xs, es, n, &mut ys, &mut ms, &mut ps);
     children(
         trixel,
         rays,
@@ -133,13 +121,13 @@ fn open_children(
         left,
         span,
         xs,
-        ends,
+        es,
         n,
         &ys,
-        &marks,
+        &ms,
         w,
-        &near,
-        budget,
+        &ps,
+        b,
         out,
         s,
     );
@@ -154,98 +142,38 @@ fn children(
     left: u32,
     span: u64,
     xs: &[i64; 3584],
-    ends: &[u64; 64],
+    es: &[u64; 64],
     n: usize,
     ys: &[i64; 224],
-    marks: &[u64; 32],
+    ms: &[u64; 32],
     w: usize,
-    near: &[i64; 5],
-    budget: usize,
+    ps: &[i64; 5],
+    b: usize,
     out: &mut [u64],
     s: &mut [u64; 10],
 )
     requires { ⌜ KeptTrixel (now trixel) ⌝ }
     requires { ⌜ KeptRays (now trixel) (now rays) ⌝ }
-    requires { ⌜ Ready (now xs) (now ends) n ⌝ }
-    requires { ⌜ Beside (now xs) (now ends) n (now ys) (now marks) w (now near) ⌝ }
-    requires { ⌜ Room budget (tallyIn (now s)) (now out) ⌝ }
+    requires { ⌜ Ready (now xs) (now es) n ⌝ }
+    requires { ⌜ Beside (now xs) (now es) n (now ys) (now ms) w (now ps) ⌝ }
+    requires { ⌜ Room b (tallyIn (now s)) (now out) ⌝ }
     requires { ⌜ ChildLevel id left span (tallyIn (now s) .seen) ⌝ }
-    ensures { λ _. ⌜ Parted (now (xs .entry)) (now (ends .entry)) n budget left (trixelIn (now (trixel .entry))) id (tallyIn (now (s .entry))) (now (out .entry)) (tallyIn (now (s .exit))) (now (out .exit)) ⌝ }
-    ensures { λ _. ⌜ Room budget (tallyIn (now (s .exit))) (now (out .exit)) × (3 * tallyIn (now (s .exit)) .seen + 4 ≤ 3 * tallyIn (now (s .entry)) .seen + 4 * 4 ^ suc left) ⌝ }
+    ensures { λ _. ⌜ Parted (now (xs .entry)) (now (es .entry)) n b left (trixelIn (now (trixel .entry))) id (tallyIn (now (s .entry))) (now (out .entry)) (tallyIn (now (s .exit))) (now (out .exit)) ⌝ }
+    ensures { λ _. ⌜ Room b (tallyIn (now (s .exit))) (now (out .exit)) × (3 * tallyIn (now (s .exit)) .seen + 4 ≤ 3 * tallyIn (now (s .entry)) .seen + 4 * 4 ^ suc left) ⌝ }
 {
     let t = kept::trixel_in(trixel);
     let c = trixels::cut(t);
     let i = 4 * id;
-    let mut next = [0i64; 21];
-    kept::keep(&mut next, trixels::child0(t, c), stored::vec_in(trixel, 18));
-    visit(
-        &next,
-        i,
-        left,
-        span,
-        xs,
-        ends,
-        n,
-        ys,
-        marks,
-        w,
-        near,
-        budget,
-        out,
-        s,
-    );
-    kept::keep(&mut next, trixels::child1(t, c), stored::vec_in(rays, 0));
-    visit(
-        &next,
-        i + 1,
-        left,
-        span,
-        xs,
-        ends,
-        n,
-        ys,
-        marks,
-        w,
-        near,
-        budget,
-        out,
-        s,
-    );
-    kept::keep(&mut next, trixels::child2(t, c), stored::vec_in(rays, 3));
-    visit(
-        &next,
-        i + 2,
-        left,
-        span,
-        xs,
-        ends,
-        n,
-        ys,
-        marks,
-        w,
-        near,
-        budget,
-        out,
-        s,
-    );
+    let mut sub = [0i64; 21];
+    kept::keep(&mut sub, trixels::child0(t, c), stored::vec_in(trixel, 18));
+    visit(&sub, i, left, span, xs, es, n, ys, ms, w, ps, b, out, s);
+    kept::keep(&mut sub, trixels::child1(t, c), stored::vec_in(rays, 0));
+    visit(&sub, i + 1, left, span, xs, es, n, ys, ms, w, ps, b, out, s);
+    kept::keep(&mut sub, trixels::child2(t, c), stored::vec_in(rays, 3));
+    visit(&sub, i + 2, left, span, xs, es, n, ys, ms, w, ps, b, out, s);
     let last = trixels::child3(t, c);
-    kept::keep(&mut next, last, measures::first_ray(last));
-    visit(
-        &next,
-        i + 3,
-        left,
-        span,
-        xs,
-        ends,
-        n,
-        ys,
-        marks,
-        w,
-        near,
-        budget,
-        out,
-        s,
-    );
+    kept::keep(&mut sub, last, measures::first_ray(last));
+    visit(&sub, i + 3, left, span, xs, es, n, ys, ms, w, ps, b, out, s);
 }
 
 // 4 to the power n.
