@@ -1,6 +1,6 @@
 #!/usr/bin/env python3
-"""Prints the rows of crates/table/src/lib.rt by the model htm.py: two lines for each of the trixels 128 to 255, x y z of v0 v1 v2 and of p0 p1 p2;
-the same numbers as the list of crates/table/proofs/Constants.antt; and the lines of crates/table/proofs/row/Proof.antt that answer for them.
+"""Prints the rows of crates/mesh_table/src/lib.rt by the model htm.py: two lines for each of the trixels 128 to 255, x y z of v0 v1 v2 and of p0 p1 p2;
+the same numbers as the list of crates/mesh_table/proofs/Constants.antt; and the lines of crates/mesh_table/proofs/row/Proof.antt that answer for them.
 
 python3 tools/table.py              print the rows
 python3 tools/table.py --constants  print the list
@@ -13,7 +13,7 @@ from pathlib import Path
 sys.dont_write_bytecode = True
 from htm import trixel
 
-CRATE = Path(__file__).resolve().parent.parent / "crates/table"
+CRATE = Path(__file__).resolve().parent.parent / "crates/mesh_table"
 
 
 def row(j):

@@ -6,7 +6,7 @@ use mathlib.Core.Path.{refl, subst}
 use mathlib.Core.List.{[], _∷_}
 use lib.IntN.{ℤ, pos, negℤ, natAbs, _+ℤ_, _-ℤ_, _*ℤ_}
 use lib.Signed.{_≤ℤ_}
-use Rattle.algebra.specs.Sizes.{Upto}
+use Rattle.algebra.proofs.Sizes.{Upto}
 use Rattle.algebra.proofs.Ring.{_:+_, _:-_, _:*_, :neg}
 use Rattle.algebra.proofs.Claim.{_:≤_, _:≡_, hyp, _⊕_, ring, prove}
 use Rattle.algebra.proofs.Sized.{upto-mono, upto-add, upto-sub, upto-mul, upto-low}

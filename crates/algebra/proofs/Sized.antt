@@ -12,7 +12,7 @@ use lib.Signed.{mag, quotZ, ltZ, leZ, _≤ℤ_, leZ-yes, nonNeg}
 use mir.Syntax.{Width, w32, w64}
 use mir.Val.{SFits, toZ, ofZ, hbits, Fits}
 use mir.Facts.{toZ-ofZ, fits-le}
-use Rattle.algebra.specs.Sizes.{Upto}
+use Rattle.algebra.proofs.Sizes.{Upto}
 use Rattle.algebra.proofs.Order.{nn-pos}
 
 -- ---- sizes

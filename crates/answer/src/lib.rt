@@ -1,4 +1,5 @@
 // What is sent back: the table of refusals, and the answer of a call that gives one number. The rules stand in specs/.
+
 pub const LONG: u32 = 1;
 
 pub const TORN: u32 = 2;

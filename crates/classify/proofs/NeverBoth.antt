@@ -5,8 +5,7 @@ use Rattle.algebra.proofs.Tests.{and-left, and-right, or-left}
 use Rattle.mesh.specs.declared.Trixel.{Trixel}
 use Rattle.region.specs.declared.Halfspace.{Halfspace}
 use Rattle.classify.specs.Shape.{positive, ray0, volume, eOf, fOf, GOf, within, apart}
-use Rattle.classify.specs.Rays.{passes}
-use Rattle.classify.proofs.RaysFirst.{by-rays, refutes-apart}
+use Rattle.classify.proofs.RaysFirst.{passes, by-rays, refutes-apart}
 
 pub never-both : (h : Halfspace) (t : Trixel) → within h t ≡ true → apart h t ≡ true → ⊥
 unfolding within

@@ -1,10 +1,12 @@
 -- Rays first. One ray that passes with G refutes apart: a ray r is itself a direction of the trixel, so that b reaches it by E, and f reaches it by G
 -- and by D, which is not above G: against the separation lemma at p = r. Assumes nothing.
+--   passes f g r                     f·r > 0 and (f·r)² ≥ g² (r·r)
+--   allPass f g t, onePasses f g t   all rays of t do; at least one does
 use Prim.Native.Nat.{ℕ, _*_, _+_, _/_}
 use native.Mathlib.Omega.{arith}
-use mathlib.Core.Path.{_≡_, sym, subst, _∙_}
-use mathlib.Core.Bool.{true, false, _&&_}
-use lib.Dec.{le→leb}
+use mathlib.Core.Path.{_≡_, sym, _∙_}
+use mathlib.Core.Bool.{true, false, _&&_, Bool, _||_}
+use lib.Dec.{le→leb, leb}
 use lib.IntN.{ℤ, pos, natAbs, _-ℤ_, _*ℤ_}
 use lib.Signed.{_≤ℤ_, leZ-yes}
 use Rattle.algebra.proofs.Order.{nn-pos}
@@ -18,12 +20,18 @@ use Rattle.vector.specs.Vectors.{dot}
 use Rattle.vector.proofs.VectorLaws.{v3}
 use Rattle.mesh.specs.declared.Trixel.{Trixel}
 use Rattle.region.specs.declared.Halfspace.{Halfspace}
-use Rattle.classify.specs.declared.Half.{Half}
-use Rattle.classify.specs.Shape.{square, positive, ray0, ray1, ray2, volume, eOf, fOf, DOf, GOf, ahead, reachesRay, reaches, bOf, EOf, far, apart}
-use Rattle.classify.specs.Measures.{SoundHalf, apartBy}
-use Rattle.classify.specs.Rays.{passes, allPass, onePasses}
+use Rattle.classify.specs.Shape.{square, positive, ray0, ray1, ray2, volume, eOf, fOf, DOf, GOf, ahead, reachesRay, reaches, bOf, EOf, far, apart, apartBy}
 use Rattle.classify.proofs.ELaws.{smaller}
 use Rattle.classify.proofs.WithinApart.{E-reaches}
+
+unfoldable pub passes : Vec3 → ℤ → Vec3 → Bool
+passes f g r = positive (dot f r) && reachesRay f g r
+
+abbrev pub allPass : Vec3 → ℤ → Trixel → Bool
+allPass f g t = passes f g (ray0 t) && (passes f g (ray1 t) && passes f g (ray2 t))
+
+abbrev pub onePasses : Vec3 → ℤ → Trixel → Bool
+onePasses f g t = passes f g (ray0 t) || (passes f g (ray1 t) || passes f g (ray2 t))
 
 pub D-below-G : (e : ℕ) → DOf (pos e) ≤ℤ GOf (pos e)
 D-below-G e = leZ-yes (le→leb (e * 1048576 / 1048578) (e * 1048576 / 1048574 + 1) (omega arith))
@@ -65,7 +73,7 @@ module _ (f : Vec3) (e : ℕ) (t : Trixel) where
       (and-right (ahead (bOf t) t) _ (and-right (positive (volume t)) _ a))))
       (λ n. n)
 
-  one-refutes : onePasses f (GOf (pos e)) t ≡ true → apartBy f (DOf (pos e)) t ≡ false
+  pub one-refutes : onePasses f (GOf (pos e)) t ≡ true → apartBy f (DOf (pos e)) t ≡ false
   one-refutes p =
       let b0 = passes (bOf t) (EOf t) (ray0 t) in
       let b1 = passes (bOf t) (EOf t) (ray1 t) in
@@ -78,7 +86,3 @@ module _ (f : Vec3) (e : ℕ) (t : Trixel) where
 pub refutes-apart : (h : Halfspace) (t : Trixel) → onePasses (fOf h) (GOf (eOf h)) t ≡ true → apart h t ≡ false
 unfolding apart
 refutes-apart h t = one-refutes (fOf h) (natAbs (h .d)) t
-
--- for what a halfspace was prepared to
-pub sound-refutes : (q : Half) → SoundHalf q → (t : Trixel) → onePasses (q .f) (q .high) t ≡ true → apartBy (q .f) (q .low) t ≡ false
-sound-refutes q s t = subst (λ q. onePasses (q .f) (q .high) t ≡ true → apartBy (q .f) (q .low) t ≡ false) (sym (s .is)) (one-refutes (fOf (s .halfspace)) (natAbs (s .halfspace .d)) t)

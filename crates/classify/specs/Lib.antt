@@ -1,4 +1,2 @@
 pub mod Shape
 pub mod Classes
-pub mod Measures
-pub mod Rays

@@ -1,7 +1,2 @@
 pub mod CuttingLaws
-pub mod WalkLaws
-pub mod TallyLaws
-pub mod KeptLaws
-pub mod VisitLaws
-pub mod LentTail
-pub mod RowsLaws
+pub mod Examples

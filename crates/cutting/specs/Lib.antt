@@ -1,3 +1,1 @@
 pub mod Cover
-pub mod Walk
-pub mod Kept

@@ -20,8 +20,7 @@ use Rattle.region.specs.Regions.{holds}
 use Rattle.region.specs.Budgets.{budgetOf}
 use Rattle.region.specs.Reader.{File, read, Accepted}
 use Rattle.region.specs.Answers.{pointTest}
-use Rattle.ranges.specs.Ranges.{Range, pairs}
-use Rattle.ranges.specs.Stored.{rangesIn}
+use Rattle.ranges.specs.Ranges.{Range, pairs, rangesIn}
 use Rattle.cutting.specs.Cover.{cover, countsOf}
 use Rattle.cutting.specs.declared.Counts.{Counts}
 use Rattle.htm.specs.Answers.{coverInto, coverAnswer, bothLists, coverAfter, outerIn, innerIn}

@@ -15,10 +15,10 @@ use Rattle.vector.specs.Numbers.{isDepth}
 use Rattle.mesh.specs.declared.Corners.{Corners}
 use Rattle.mesh.specs.Identifiers.{depthOf, isIdentifier, trixel, cornersOf, corners}
 use Rattle.mesh.specs.Names.{nameAt, nameOf}
-use Rattle.mesh.specs.Corners.{SmallCorners}
+use Rattle.mesh_trixels.specs.Corners.{SmallCorners}
 use Rattle.mesh.specs.Answers.{nameAnswer}
 use Rattle.mesh.proofs.NameLaws.{depth-high, digits-length}
-use Rattle.mesh.proofs.SmallTrixels.{trixel-small}
+use Rattle.mesh_trixels.proofs.SmallTrixels.{trixel-small}
 use Rattle.region.specs.declared.Header.{Header}
 use Rattle.region.specs.Budgets.{budgetOf, isBudget}
 use Rattle.region.specs.Rows.{rows, regionOf}

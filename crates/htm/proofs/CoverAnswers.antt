@@ -21,10 +21,10 @@ use Rattle.region.specs.Answers.{headerOf}
 use Rattle.region.proofs.ReaderLaws.{read-depth}
 use Rattle.region.proofs.GoodRegions.{accepted-good}
 use Rattle.region.proofs.FilledLaws.{accepted-filled, accepted-few}
-use Rattle.files.proofs.ReadAnswers.{accepted-total}
+use Rattle.region_reader.proofs.ReadAnswers.{accepted-total}
 use Rattle.cutting.specs.declared.Counts.{Counts}
 use Rattle.cutting.specs.Cover.{cutting, listed, cover, countsOf, bothListed}
-use Rattle.cutting.specs.Walk.{RowsOf, SomeRows, CoversRows}
+use Rattle.cutting_walk.specs.Walk.{RowsOf, SomeRows, CoversRows}
 use Rattle.htm.specs.Answers.{coverInto, coverAnswer, bothLists, coverAfter}
 
 module _ (f before : List ℕ) where

@@ -1,6 +1,6 @@
-pub mod Starred
-pub mod Refusals
-pub mod PromiseKept
 pub mod AnswersKept
-pub mod CoverAnswers
 pub mod CLaws
+pub mod CoverAnswers
+pub mod PromiseKept
+pub mod Refusals
+pub mod Starred

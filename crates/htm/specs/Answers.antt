@@ -16,8 +16,7 @@ use Rattle.vector.specs.Vectors.{vec}
 use Rattle.mesh.specs.Lookup.{lookup}
 use Rattle.region.specs.Budgets.{budgetOf}
 use Rattle.region.specs.Reader.{File, read}
-use Rattle.ranges.specs.Ranges.{Range}
-use Rattle.ranges.specs.Stored.{rangesIn}
+use Rattle.ranges.specs.Ranges.{Range, rangesIn}
 use Rattle.cutting.specs.declared.Counts.{Counts}
 use Rattle.htm.specs.declared.CoverOf.{CoverOf}
 use Rattle.cutting.specs.Cover.{cover, countsOf, bothListed}

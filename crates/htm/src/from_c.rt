@@ -13,19 +13,18 @@ ghost use mathlib.Core.Path.{_≡_};
 ghost use Prim.Native.Nat.{ℕ, _+_, _^_, _≤_};
 ghost use lib.ListN.{length};
 ghost use lib.IntN.{pos, negℤ};
-ghost use Rattle.algebra.specs.Sizes.{Upto};
+ghost use Rattle.algebra.proofs.Sizes.{Upto};
 ghost use Rattle.answer.specs.Answer.{gives};
 ghost use Rattle.answer.specs.Calls.{numberOf};
 ghost use Rattle.answer.specs.Lent.{put};
-ghost use Rattle.vector.specs.Vectors.{vec, Small};
+ghost use Rattle.vector.specs.Vectors.{vec};
+ghost use Rattle.vector.proofs.Sizes.{Small};
 ghost use Rattle.mesh.specs.Names.{identifierOf};
-ghost use Rattle.mesh.specs.Corners.{SmallCorners};
+ghost use Rattle.mesh_trixels.specs.Corners.{SmallCorners};
 ghost use Rattle.mesh.specs.Answers.{nameAnswer, nameAfter};
 ghost use Rattle.region.specs.Answers.{pointTest, writeAnswer, writeAfter};
 ghost use Rattle.htm.specs.Answers.{orZero, entry};
 ghost use Rattle.htm.specs.CalledFromC.{lengthForC, heldForC, statusOf, cornerList, cornersList, cornersForC, cornersAfterC, refusalOf, headerList, readForC, rowsAfterC, headerAfterC, coverForC, coverAfterC, countsAfterC};
-
-// ---- answers as numbers
 
 // An identifier, or 0 for a refusal.
 fn or_zero(answer: Number) -> u64
@@ -54,8 +53,6 @@ fn length_or_minus(answer: Number) -> i64
         Number::Refused(n) => minus(n),
     }
 }
-
-// ---- identifiers, names and corners
 
 // The lookup: the identifier, or 0 for a refusal.
 #[no_mangle]
@@ -124,8 +121,6 @@ pub extern "C" fn htm_corners(id: u64, out: &mut [i32]) -> i64
     }
 }
 
-// ---- region files
-
 // The region file of some rows, at the beginning of `out`: its length, or minus the number of the refusal.
 #[no_mangle]
 pub extern "C" fn htm_write(depth: u32, budget: u32, rows: &[i32], out: &mut [u8]) -> i64
@@ -152,7 +147,7 @@ fn without_room(file: &[u8]) -> i64
     ensures { λ r. ⌜ (r ≡ statusOf (refusalOf (now (file .entry)))) × Upto (2 ^ 32) r ⌝ }
 {
     let mut rows = [0i32; 2560];
-    let said = files::reader::decode(file, &mut rows);
+    let said = region_reader::decode(file, &mut rows);
     match said {
         HeaderOf::Gives(_) => minus(SPACE),
         HeaderOf::Refused(n) => minus(n),
@@ -204,7 +199,7 @@ pub extern "C" fn htm_cover(file: &[u8], out: &mut [u64], counts: &mut [u64]) ->
     let answer = crate::cover(file, out);
     match answer {
         CoverOf::Gives(c) => {
-            cutting::put_counts(counts, c);
+            cutting_cover::put_counts(counts, c);
             0
         }
         CoverOf::Refused(n) => minus(n),

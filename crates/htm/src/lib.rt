@@ -14,13 +14,18 @@ ghost use Rattle.vector.specs.Vectors.{vec};
 ghost use Rattle.mesh.specs.Lookup as mesh_lookup;
 ghost use Rattle.mesh.specs.Names.{identifierOf};
 ghost use Rattle.mesh.specs.Identifiers as identifiers;
-ghost use Rattle.mesh.specs.Corners.{cornersGiven};
-ghost use Rattle.mesh.specs.Answers.{nameAnswer, nameAfter};
+ghost use Rattle.mesh.specs.Answers.{cornersGiven, nameAnswer, nameAfter};
 ghost use Rattle.region.specs.Answers.{headerGiven, readAnswer, readAfter, writeAnswer, writeAfter, heldGiven, pointTest};
 ghost use Rattle.region.specs.Budgets.{budgetOf};
 ghost use Rattle.htm.specs.Answers.{coverGiven, coverAnswer, coverAfter};
 
 pub mod from_c;
+
+// Both counts and seen, or the number of the first check that failed.
+pub enum CoverOf {
+    Gives(Counts),
+    Refused(u32),
+}
 
 fn pointing(x: i32, y: i32, z: i32) -> Vec3
     ensures { λ r. ⌜ r ≡ vec x y z ⌝ }
@@ -36,7 +41,7 @@ fn pointing(x: i32, y: i32, z: i32) -> Vec3
 pub fn locate(x: i32, y: i32, z: i32, depth: u32) -> Number
     ensures { λ r. ⌜ numberOf r ≡ mesh_lookup.lookup (vec x y z) depth ⌝ }
 {
-    descent::lookup(pointing(x, y, z), depth)
+    mesh_lookup::lookup(pointing(x, y, z), depth)
 }
 
 // The name of an identifier, written at the beginning of `out`, and its length; refusals 11, then 10.
@@ -44,21 +49,21 @@ pub fn name(id: u64, out: &mut [u8]) -> Number
     ensures { λ r. ⌜ numberOf r ≡ nameAnswer id (now (out .entry)) ⌝ }
     ensures { λ r. ⌜ now (out .exit) ≡ nameAfter id (now (out .entry)) ⌝ }
 {
-    mesh::names::name_of(id, out)
+    mesh_names::name_of(id, out)
 }
 
 // The identifier of a name; refusal 11.
 pub fn identifier(name: &[u8]) -> Number
     ensures { λ r. ⌜ numberOf r ≡ identifierOf (now (name .entry)) ⌝ }
 {
-    mesh::names::id_of(name)
+    mesh_names::id_of(name)
 }
 
 // The corners of the trixel of an identifier to depth 12; refusal 11.
 pub fn corners(id: u64) -> CornersOf
     ensures { λ r. ⌜ cornersGiven r ≡ identifiers.corners id ⌝ }
 {
-    mesh::cutting::corners_of(id)
+    mesh_trixels::corners_of(id)
 }
 
 // The rows of a region file, written at the beginning of `rows`, with their count and the file's depth and budget as written; or the refusal of the
@@ -67,7 +72,7 @@ pub fn read(file: &[u8], rows: &mut [i32]) -> HeaderOf
     ensures { λ r. ⌜ headerGiven r ≡ readAnswer (now (file .entry)) (now (rows .entry)) ⌝ }
     ensures { λ r. ⌜ now (rows .exit) ≡ readAfter (now (file .entry)) (now (rows .entry)) ⌝ }
 {
-    files::reader::read(file, rows)
+    region_reader::read(file, rows)
 }
 
 // The region file of some rows, written at the beginning of `out`, and its length; refusals 5, 6, then 4, 7, 8, 9 row by row, then 10.
@@ -75,20 +80,14 @@ pub fn write(depth: u32, budget: u32, rows: &[i32], out: &mut [u8]) -> Number
     ensures { λ r. ⌜ numberOf r ≡ writeAnswer depth budget (now (rows .entry)) (now (out .entry)) ⌝ }
     ensures { λ r. ⌜ now (out .exit) ≡ writeAfter depth budget (now (rows .entry)) (now (out .entry)) ⌝ }
 {
-    files::writer::write(depth, budget, rows, out)
+    region_writer::write(depth, budget, rows, out)
 }
 
 // The point test: whether the region of a file holds a pointing; the file's refusals, then 8.
 pub fn holds(file: &[u8], x: i32, y: i32, z: i32) -> HeldOf
     ensures { λ r. ⌜ heldGiven r ≡ pointTest (now (file .entry)) (vec x y z) ⌝ }
 {
-    files::points::point_test(file, pointing(x, y, z))
-}
-
-// Both counts and seen, or the number of the first check that failed.
-pub enum CoverOf {
-    Gives(Counts),
-    Refused(u32),
+    region_points::point_test(file, pointing(x, y, z))
 }
 
 // The budget that is counted with: 0 means 64.
@@ -105,14 +104,14 @@ pub fn cover(file: &[u8], out: &mut [u64]) -> CoverOf
     ensures { λ r. ⌜ now (out .exit) ≡ coverAfter (now (file .entry)) (now (out .entry)) ⌝ }
 {
     let mut rows = [0i32; 2560];
-    let said = files::reader::decode(file, &mut rows);
+    let said = region_reader::decode(file, &mut rows);
     match said {
         HeaderOf::Gives(h) => {
             let budget = budget_of(h.budget);
             if out.len() < 4 * budget {
                 return CoverOf::Refused(SPACE);
             }
-            CoverOf::Gives(cutting::cover(h.depth, &rows, h.count as usize, budget, out))
+            CoverOf::Gives(cutting_cover::cover(h.depth, &rows, h.count as usize, budget, out))
         }
         HeaderOf::Refused(n) => CoverOf::Refused(n),
     }

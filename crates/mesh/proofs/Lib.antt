@@ -1,9 +1,4 @@
-pub mod Ties
-pub mod Path
-pub mod SmallTrixels
 pub mod NameLaws
 pub mod NamesInverse
-pub mod CornerLaws
-pub mod DepthBits
-pub mod NameWriting
-pub mod NameReading
+pub mod Path
+pub mod Ties

@@ -1,12 +1,9 @@
-// What the programs print. Answers are collected in a lent buffer: each function puts something there from `at` on, and its result is the place
-// after that. A full buffer is written to standard output.
+// What the programs print: bytes, numbers, names and refusals, collected in a lent buffer.
 use answer::Number;
 use libc::STDOUT_FILENO;
 ghost use Prim.Native.Nat.{_≤_};
 ghost use mathlib.Core.Path.{_≡_};
 ghost use lib.IntN.{natAbs};
-
-pub mod cover;
 
 pub const SIZE: usize = 65536;
 

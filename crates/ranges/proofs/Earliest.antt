@@ -11,7 +11,7 @@ use lib.Seq.{drop-at, drop-cons}
 use borrow.Author.Tests.{ltb-true, ltb-false, lt-ltb, eqb-true, eqb-false, eq-eqb, ne-eqb}
 use Rattle.algebra.proofs.Tests.{split, and-left, and-right}
 use Rattle.ranges.specs.Lists.{smallest, place, earliest, without}
-use Rattle.ranges.specs.OnePass.{below}
+use Rattle.ranges.proofs.Pushing.{below}
 
 pub below-cons : (g x : ℕ) (l : List ℕ) → below g (x ∷ l) ≡ true → (g < x) × (below g l ≡ true)
 unfolding below

@@ -10,7 +10,7 @@ use Rattle.algebra.proofs.Tests.{split}
 use Rattle.ranges.specs.Ranges.{Range}
 use Rattle.ranges.specs.Lists.{over, touch, joined, joinedFrom, earliest, size, without, dropShortest, innerOf, whileMore}
 use Rattle.ranges.proofs.Loop.{length-snoc, Reduced, Shrinks, reduced-new}
-use Rattle.ranges.specs.OnePass.{below, extend, innerFull, innerClose, Inner, empty, growing, innerPush, innerEnd, innerPass}
+use Rattle.ranges.proofs.Pushing.{below, extend, innerFull, innerClose, Inner, empty, growing, innerPush, innerEnd, innerPass}
 use Rattle.ranges.proofs.Earliest.{below-without, earliest-inside, earliest-snoc}
 use Rattle.ranges.proofs.OuterPass.{lastHigh-snoc, joinOn, joinedFrom-snoc}
 

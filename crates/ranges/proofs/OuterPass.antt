@@ -11,7 +11,7 @@ use Rattle.algebra.proofs.Tests.{split}
 use Rattle.ranges.specs.Ranges.{Range}
 use Rattle.ranges.specs.Lists.{over, touch, joined, joinedFrom, earliest, gaps, gap, joinAt, joinSmallest, outerOf, without, whileMore}
 use Rattle.ranges.proofs.Loop.{length-snoc, Reduced, Shrinks, reduced-few, reduced-keeps, reduced-along, reduced-new, length-reduced}
-use Rattle.ranges.specs.OnePass.{below, lastHigh, extend, outerFull, outerNew, outerPush, outerPass}
+use Rattle.ranges.proofs.Pushing.{below, lastHigh, extend, outerFull, outerNew, outerPush, outerPass}
 use Rattle.ranges.proofs.Earliest.{below-without, earliest-inside, earliest-snoc}
 
 -- ---- gaps

@@ -7,11 +7,13 @@
 --   Spaced rs        between neighbours at least one identifier is left
 --   Proper b rs      the list ascends, is spaced, and has at most b ranges
 --   pairs rs         the list as pairs low, high
-use Prim.Native.Nat.{ℕ, _+_, _≤_, _<_}
+--   range low high   a range, by its two numbers
+--   rangesIn n l     the first n ranges of the list l
+use Prim.Native.Nat.{ℕ, _+_, _≤_, _<_, zero, suc}
 use mathlib.Core.Bool.{Bool, _&&_}
 use mathlib.Core.List.{List, [], _∷_}
 use lib.Dec.{leb}
-use lib.ListN.{length}
+use lib.ListN.{length, getD, drop}
 use Rattle.algebra.specs.Lists.{tally, some}
 
 pub record Range : Type 0 where
@@ -45,3 +47,11 @@ pub record Proper (b : ℕ) (rs : List Range) : Type 0 where
 unfoldable pub pairs : List Range → List ℕ
 pairs [] = []
 pairs (r ∷ rs) = r .low ∷ r .high ∷ pairs rs
+
+abbrev pub range : ℕ → ℕ → Range
+range low high = record { low = low; high = high }
+
+-- n pairs low, high from the beginning of xs
+unfoldable pub rangesIn : ℕ → List ℕ → List Range
+rangesIn zero xs = []
+rangesIn (suc n) xs = range (getD xs 0 0) (getD xs 1 0) ∷ rangesIn n (drop 2 xs)

@@ -11,7 +11,7 @@ use Rattle.answer.proofs.AnswerLaws.{check-passed, check-gives, same-value}
 use Rattle.vector.specs.Vectors.{isVector}
 use Rattle.region.specs.declared.Halfspace.{Halfspace}
 use Rattle.region.specs.Regions.{Region}
-use Rattle.region.specs.Building.{isOffset, lastConvex, total, withHalfspace, roomForHalfspace, add}
+use Rattle.region.specs.Building.{isOffset, lastConvex, total, withHalfspace, belowLimits, add}
 
 pub record Fine (h : Halfspace) : Type 0 where
   pub vector : isVector (h .n) ≡ true
@@ -29,8 +29,8 @@ added g r h e =
     let last = gives (withHalfspace g h) in
     let offset = check Offset (isOffset (h .d)) last in
     let vector = check Vector (isVector (h .n)) offset in
-    let m = check-passed Crowd (roomForHalfspace g) vector r e in
-    let v = check-gives Crowd (roomForHalfspace g) vector r e in
+    let m = check-passed Crowd (belowLimits g) vector r e in
+    let v = check-gives Crowd (belowLimits g) vector r e in
     let o = check-gives Vector (isVector (h .n)) offset r v in
     record {
       fine = record { vector = check-passed Vector (isVector (h .n)) offset r v; offset = check-passed Offset (isOffset (h .d)) last r o };

@@ -1,5 +1,6 @@
 -- No convex of an accepted file is empty: a convex begins after none or one with halfspaces, and the end comes after one with halfspaces. And there are
 -- at most 64 of them, since each was checked as it began. Assumes nothing.
+--   good g, Filled g          every direction is a vector and every offset within ±K; every convex has a halfspace
 use Prim.Native.Nat.{ℕ, _≤_, _<_}
 use native.Mathlib.Omega.{arith}
 use mathlib.Core.Path.{_≡_, sym, ap, subst}
@@ -9,11 +10,16 @@ use lib.ListN.{length}
 use borrow.Author.Tests.{leb-true, ltb-true, lt-ltb}
 use Rattle.region.specs.declared.Halfspace.{Halfspace}
 use Rattle.region.specs.Regions.{Region}
-use Rattle.region.specs.Building.{lastConvex, withConvex, withHalfspace, begun, filled, Filled}
+use Rattle.region.specs.Building.{lastConvex, withConvex, withHalfspace, begun, filled}
 use Rattle.region.specs.Reader.{File, Accepted}
 use Rattle.region.proofs.AddLaws.{added}
 use Rattle.region.proofs.RegionLaws.{halfspace-length}
 use Rattle.region.proofs.ReaderLaws.{accepted-keeps, accepted-ends}
+
+-- every convex has a halfspace
+abbrev pub Filled : Region → Type 0
+Filled [] = Unit {0}
+Filled (c ∷ cs) = (0 < length c) × Filled cs
 
 -- every convex before the last has a halfspace
 abbrev Before : Region → Type 0

@@ -1,17 +1,28 @@
 -- The region of an accepted file is good: every direction is a vector and every offset is within ±K, since each was checked as it came. Assumes nothing.
+--   good g, Filled g          every direction is a vector and every offset within ±K; every convex has a halfspace
 use mathlib.Core.Path.{_≡_, refl, ap, subst}
-use mathlib.Core.Bool.{Bool, true}
+use mathlib.Core.Bool.{Bool, true, _&&_}
 use mathlib.Core.List.{List, [], _∷_, _++_}
-use Prim.Native.Nat.{ℕ}
+use Prim.Native.Nat.{ℕ, _+_}
 use Rattle.algebra.specs.Lists.{every}
 use Rattle.algebra.proofs.Tests.{and-left, and-right, and-both}
 use Rattle.answer.specs.Answer.{gives}
 use Rattle.region.specs.declared.Halfspace.{Halfspace}
-use Rattle.region.specs.Regions.{Region}
-use Rattle.region.specs.Building.{withConvex, withHalfspace, add, goodHalfspace, goodConvex, good}
+use Rattle.region.specs.Regions.{Region, Convex}
+use Rattle.region.specs.Building.{withConvex, withHalfspace, add, isOffset}
 use Rattle.region.specs.Reader.{File, Accepted}
 use Rattle.region.proofs.AddLaws.{added}
 use Rattle.region.proofs.ReaderLaws.{accepted-keeps}
+use Rattle.vector.specs.Vectors.{isVector}
+
+abbrev pub goodHalfspace : Halfspace → Bool
+goodHalfspace h = isVector (h .n) && isOffset (h .d)
+
+unfoldable pub goodConvex : Convex → Bool
+goodConvex c = every goodHalfspace c
+
+unfoldable pub good : Region → Bool
+good g = every goodConvex g
 
 -- ---- lists grow
 

@@ -9,7 +9,7 @@ use lib.ListN.{length, length-append}
 use lib.IntN.{ℤ, pos, negsuc}
 use borrow.Author.Tests.{le-leb, lt-ltb, le-ltb}
 use Rattle.algebra.proofs.Tests.{and-both}
-use Rattle.algebra.specs.Sizes.{Upto}
+use Rattle.algebra.proofs.Sizes.{Upto}
 use Rattle.vector.specs.Numbers.{Kℕ, isDepth}
 use Rattle.vector.specs.Vectors.{vec, isVector}
 use Rattle.vector.proofs.SizeLaws.{between-upto}

@@ -4,16 +4,14 @@
 --   withHalfspace g h         one halfspace more, in the last convex
 --   begun g, filled g         a convex has begun; the last convex has a halfspace
 --   fewConvexes g             at most 64 convexes
---   roomForHalfspace g        one more makes at most 100 halfspaces in the last convex and at most 512 in all
---   good g, Filled g          every direction is a vector and every offset within ±K; every convex has a halfspace
+--   belowLimits g        one more makes at most 100 halfspaces in the last convex and at most 512 in all
 --   add g h                   the region with the halfspace more: refusals 7, 8, 9
-use Prim.Native.Nat.{ℕ, _+_, _<_}
+use Prim.Native.Nat.{ℕ, _+_}
 use mathlib.Core.Bool.{Bool, _&&_}
 use mathlib.Core.List.{[], _∷_, _++_}
 use lib.Dec.{leb, ltb}
 use lib.ListN.{length}
 use lib.IntN.{ℤ, negℤ}
-use Rattle.algebra.specs.Lists.{every}
 use Rattle.answer.specs.Answer.{Answer, gives, check, Crowd, Vector, Offset}
 use Rattle.vector.specs.Numbers.{K, between}
 use Rattle.vector.specs.Vectors.{isVector}
@@ -43,32 +41,14 @@ begun g = ltb 0 (length g)
 abbrev pub filled : Region → Bool
 filled g = ltb 0 (length (lastConvex g))
 
--- ---- the stated limits
-
 abbrev pub fewConvexes : Region → Bool
 fewConvexes g = leb (length g) 64
 
-abbrev pub roomForHalfspace : Region → Bool
-roomForHalfspace g = ltb (length (lastConvex g)) 100 && ltb (total g) 512
+abbrev pub belowLimits : Region → Bool
+belowLimits g = ltb (length (lastConvex g)) 100 && ltb (total g) 512
 
 abbrev pub isOffset : ℤ → Bool
 isOffset d = between (negℤ K) K d
 
 unfoldable pub add : Region → Halfspace → Answer Region
-add g h = check Crowd (roomForHalfspace g) (check Vector (isVector (h .n)) (check Offset (isOffset (h .d)) (gives (withHalfspace g h))))
-
--- ---- what every region of an accepted file is (proofs/GoodRegions, proofs/FilledLaws)
-
-abbrev pub goodHalfspace : Halfspace → Bool
-goodHalfspace h = isVector (h .n) && isOffset (h .d)
-
-unfoldable pub goodConvex : Convex → Bool
-goodConvex c = every goodHalfspace c
-
-unfoldable pub good : Region → Bool
-good g = every goodConvex g
-
--- every convex has a halfspace
-abbrev pub Filled : Region → Type 0
-Filled [] = Unit {0}
-Filled (c ∷ cs) = (0 < length c) × Filled cs
+add g h = check Crowd (belowLimits g) (check Vector (isVector (h .n)) (check Offset (isOffset (h .d)) (gives (withHalfspace g h))))

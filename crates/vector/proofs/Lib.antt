@@ -1,6 +1,6 @@
 pub mod GreatestLaws
-pub mod RootLaws
 pub mod QuotLaws
+pub mod RootLaws
 pub mod SizeLaws
-pub mod SideLaws
+pub mod Sizes
 pub mod VectorLaws

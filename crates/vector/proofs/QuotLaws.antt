@@ -1,16 +1,11 @@
 -- Truncation keeps sign symmetry: the quotient of −a is minus the quotient of a, since both are rounded toward zero. So Unit and Scale
 -- of −s are minus those of s: the number that they divide by is the same for both. Assumes nothing.
-use Prim.Native.Nat.{ℕ, zero, suc, max, _+_, _*_, _/_, _≤_, _<_}
+use Prim.Native.Nat.{ℕ, zero, suc, max}
 use native.Mathlib.Nat.{zero-div}
-use native.Mathlib.Omega.{arith}
 use mathlib.Core.Path.{_≡_, refl, sym, ap, _∙_}
-use mathlib.Core.Bool.{Bool, true, false, cond, true≢false}
+use mathlib.Core.Bool.{Bool, true, false, cond}
 use lib.Dec.{eqb}
 use lib.IntN.{ℤ, pos, negsuc, negℤ, negℤ-negℤ, natAbs, _*ℤ_}
-use lib.Signed.{ltZ}
-use borrow.Author.Tests.{ltb-true}
-use Rattle.algebra.specs.Sizes.{Upto}
-use Rattle.algebra.proofs.Reciprocal.{short-quotient}
 use Rattle.algebra.proofs.RingLaws.{*ℤ-neg-r}
 use Rattle.algebra.proofs.Ring.{_:+_, _:*_, :neg}
 use Rattle.algebra.proofs.Claim.{_:≡_, ring}
@@ -23,23 +18,6 @@ pub quot-neg : (a : ℤ) (n : ℕ) → quot (negℤ a) (pos n) ≡ negℤ (quot 
 quot-neg (pos zero) n = rw zero-div
 quot-neg (pos (suc a)) n = refl
 quot-neg (negsuc a) n = sym (negℤ-negℤ (quot (pos (suc a)) (pos n)))
-
--- ---- K times a, divided by n
-
--- by the size of a, with its sign put back
-pub quot-above : (a : ℤ) (n : ℕ) → ltZ a (pos 0) ≡ false → quot (K *ℤ a) (pos n) ≡ pos (1048576 * natAbs a / n)
-quot-above (pos a) n e = refl
-quot-above (negsuc a) n e = absurd (true≢false e)
-
-pub quot-below : (a : ℤ) (n : ℕ) → ltZ a (pos 0) ≡ true → quot (K *ℤ a) (pos n) ≡ negℤ (pos (1048576 * natAbs a / n))
-quot-below (pos a) n e = absurd (omega (arith, ltb-true a 0 e))
-quot-below (negsuc a) n e = quot-neg (pos (1048576 * suc a)) n
-
--- by 2⁶² / n
-pub quot-short : (a : ℤ) (n r : ℕ) → 0 < n → Upto n a → n ≤ 2097152 → r ≡ 4611686018427387903 / n + 1 → quot (a *ℤ pos r) (pos 4398046511104) ≡ quot (K *ℤ a) (pos n)
-quot-short (pos a) n r some h m e = ap pos (short-quotient a n r some (h .le) e m)
-quot-short (negsuc a) n r some h m e =
-    quot-neg (pos (suc a * r)) 4398046511104 ∙ ap (λ q. negℤ (pos q)) (short-quotient (suc a) n r some (h .le) e m) ∙ sym (quot-neg (pos (1048576 * suc a)) n)
 
 part-neg : (a : ℤ) (n : ℕ) → quot (K *ℤ negℤ a) (pos n) ≡ negℤ (quot (K *ℤ a) (pos n))
 part-neg a n = ap (λ z. quot z (pos n)) (*ℤ-neg-r K a) ∙ quot-neg (K *ℤ a) n

@@ -1,5 +1,6 @@
 -- The square root is the greatest whole number whose square is at most s, and the only number r with r² ≤ s < (r + 1)².
 -- Of a fourth of s the root q has q² ≤ s / 4 < (q + 1)², so (2 q)² ≤ s < (2 q + 2)²: the root of s is 2 q or 2 q + 1. Assumes nothing.
+--   IsRoot s r     r is that number: r² ≤ s < (r + 1)². That `root s` is, and that no other number is: proofs/RootLaws
 use Prim.Native.Nat.{ℕ, zero, suc, _+_, _-_, _*_, _/_, _^_, _<_, _≤_}
 use mathlib.Core.Path.{_≡_, refl, sym, ap, _∙_}
 use mathlib.Core.Bool.{Bool, true, false, cond, _&&_}
@@ -12,7 +13,11 @@ use Rattle.algebra.proofs.Ring.{con, _:+_, _:*_}
 use Rattle.algebra.proofs.Claim.{_:≡_, ring}
 use Rattle.algebra.proofs.Tests.{and-left, and-right, split}
 use Rattle.algebra.proofs.Inequalities.{`1}
-use Rattle.vector.specs.Numbers.{root, rootIn, orNext, IsRoot}
+use Rattle.vector.specs.Numbers.{root, rootIn, orNext}
+
+pub record IsRoot (s r : ℕ) : Type 0 where
+  pub low : r * r ≤ s
+  pub high : s < (r + 1) * (r + 1)
 
 doubled : (k : ℕ) → 2 * k * (2 * k) ≡ 4 * (k * k)
 doubled k = ap natAbs (ring 1 (λ k. con (pos 2) :* k :* (con (pos 2) :* k) :≡ con (pos 4) :* (k :* k)) refl (pos k))

@@ -11,12 +11,13 @@ use lib.IntN.{ℤ, pos, negsuc, negℤ, natAbs, _+ℤ_, _*ℤ_}
 use lib.Signed.{nonNeg}
 use mir.Syntax.{w64}
 use mir.Val.{toZ, ofZ}
-use Rattle.algebra.specs.Sizes.{Upto}
+use Rattle.algebra.proofs.Sizes.{Upto}
 use Rattle.algebra.proofs.Tests.{and-left, and-right}
 use Rattle.algebra.proofs.Sized.{natAbs-neg, held, upto-mono, upto-neg, upto-add, upto-sub, upto-mul}
 use Rattle.vector.specs.declared.Vec3.{Vec3}
 use Rattle.vector.specs.Numbers.{Kℕ, K, quot, between, root}
-use Rattle.vector.specs.Vectors.{vec, plus, minus, dot, cross, dividedBy, unit, largest, scale, AtMost, Small}
+use Rattle.vector.specs.Vectors.{vec, plus, minus, dot, cross, dividedBy, unit, largest, scale}
+use Rattle.vector.proofs.Sizes.{AtMost, Small}
 use Rattle.vector.proofs.RootLaws.{root-greatest}
 
 pub at-most-mono : {m n : ℕ} {v : Vec3} → m ≤ n → AtMost m v → AtMost n v

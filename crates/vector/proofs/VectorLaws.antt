@@ -9,7 +9,8 @@ use Rattle.algebra.proofs.Tests.{and-left, and-right, le-yes}
 use Rattle.algebra.proofs.Vec.{V3}
 use Rattle.vector.specs.declared.Vec3.{Vec3}
 use Rattle.vector.specs.Numbers.{K, between}
-use Rattle.vector.specs.Vectors.{dot, minus, isVector, Small}
+use Rattle.vector.specs.Vectors.{dot, minus, isVector}
+use Rattle.vector.proofs.Sizes.{Small}
 use Rattle.vector.proofs.SizeLaws.{small-tested}
 
 -- a vector as the algebra has it: `dot` and `cross` of the two are the same by computing

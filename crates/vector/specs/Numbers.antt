@@ -6,8 +6,7 @@
 --   isDepth d      a depth that is looked up and covered: 1 to 12 ('What is sent back', 5)
 --   greatest f n   the greatest whole number up to n that passes the test f; 0 where none from 1 on does
 --   root s         the greatest whole number whose square is at most s
---   IsRoot s r     r is that number: r² ≤ s < (r + 1)². That `root s` is, and that no other number is: proofs/RootLaws
-use Prim.Native.Nat.{ℕ, zero, suc, _+_, _*_, _/_, _≤_, _<_}
+use Prim.Native.Nat.{ℕ, zero, suc, _+_, _*_, _/_}
 use mathlib.Core.Bool.{Bool, true, false, cond, _&&_}
 use lib.Dec.{leb, eqb}
 use lib.IntN.{ℤ, pos, negsuc}
@@ -50,7 +49,3 @@ rootIn (suc n) s = elim (eqb s 0) [ true ↦ 0 | false ↦ orNext s (2 * rootIn 
 
 unfoldable pub root : ℕ → ℕ
 root s = rootIn s s
-
-pub record IsRoot (s r : ℕ) : Type 0 where
-  pub low : r * r ≤ s
-  pub high : s < (r + 1) * (r + 1)

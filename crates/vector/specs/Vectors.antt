@@ -3,15 +3,12 @@
 --   unit s                    Unit(s): K times s, divided by the greatest n with n² at most s·s; zero if n is 0
 --   scale c                   Scale(c): K times c, divided by the largest absolute component; zero if that is 0
 --   isVector p                the rule of a pointing and of a halfspace direction
---   AtMost n v                each component is at most n in size
---   Small v                   each is within ±K, as of every corner and normal of the mesh (the laws: proofs/SizeLaws)
 use Prim.Native.Nat.{ℕ, max}
 use mathlib.Core.Bool.{Bool, cond, _&&_}
 use lib.Dec.{eqb}
 use lib.IntN.{ℤ, pos, negℤ, natAbs, _+ℤ_, _-ℤ_, _*ℤ_}
-use Rattle.algebra.specs.Sizes.{Upto}
 use Rattle.vector.specs.declared.Vec3.{Vec3}
-use Rattle.vector.specs.Numbers.{Kℕ, K, quot, between, root}
+use Rattle.vector.specs.Numbers.{K, quot, between, root}
 
 abbrev pub vec : ℤ → ℤ → ℤ → Vec3
 vec x y z = record { x = x; y = y; z = z }
@@ -46,11 +43,3 @@ unfoldable pub isVector : Vec3 → Bool
 isVector p =
     between (negℤ K) K (p .x) && between (negℤ K) K (p .y) && between (negℤ K) K (p .z)
     && between ((K -ℤ pos 2) *ℤ (K -ℤ pos 2)) ((K +ℤ pos 2) *ℤ (K +ℤ pos 2)) (dot p p)
-
-pub record AtMost (n : ℕ) (v : Vec3) : Type 0 where
-  pub x : Upto n (v .x)
-  pub y : Upto n (v .y)
-  pub z : Upto n (v .z)
-
-abbrev pub Small : Vec3 → Type 0
-Small v = AtMost Kℕ v

@@ -8,7 +8,7 @@ use Rattle.answer.specs.Answer.{gives, with-value}
 use Rattle.region.specs.Reader as reader
 use Rattle.region.specs.Answers.{headerOf, headerGiven}
 use Rattle.region.proofs.BudgetLaws.{budget-one}
-use Rattle.cutting.specs.Walk.{CoversRows}
+use Rattle.cutting_walk.specs.Walk.{CoversRows}
 use Rattle.htm.proofs.CoverAnswers.{file-refused, no-room, depth-fits, some-rows, covered}
 use Rattle.htm.proofs.cover.Statement.{statement}
 use Rattle.htm.proofs.cover.Tie as tie

@@ -5,7 +5,7 @@ use denote.Ref.{now}
 use Rattle.algebra.proofs.Sized.{held}
 use Rattle.answer.specs.Answer.{gives}
 use Rattle.mesh.specs.Identifiers.{corners}
-use Rattle.mesh.specs.Corners.{cornersGiven}
+use Rattle.mesh.specs.Answers.{cornersGiven}
 use Rattle.htm.proofs.CLaws.{corners-small, no-corners, no-room, corners-put}
 use Rattle.htm.proofs.from_c.htm_corners.Statement.{statement}
 use Rattle.htm.proofs.from_c.htm_corners.Tie as tie

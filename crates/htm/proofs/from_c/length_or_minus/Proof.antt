@@ -2,7 +2,7 @@
 use Prim.Native.Nat.{_^_, _≤_}
 use mathlib.Core.Path.{sym, ap, subst, _∙_}
 use lib.IntN.{pos}
-use Rattle.algebra.specs.Sizes.{Upto}
+use Rattle.algebra.proofs.Sizes.{Upto}
 use Rattle.algebra.proofs.Sized.{held, nat, sfits}
 use mir.Syntax.{w64}
 use Rattle.answer.specs.Calls.{numberOf}

@@ -4,7 +4,7 @@ use native.Mathlib.Omega.{arith}
 use mathlib.Core.Path.{sym, subst, _∙_}
 use lib.IntN.{pos, negℤ, +ℤ-idl}
 use mir.Syntax.{w64}
-use Rattle.algebra.specs.Sizes.{Upto}
+use Rattle.algebra.proofs.Sizes.{Upto}
 use Rattle.algebra.proofs.Sized.{sfits, nat, lit, upto-neg, is-sub, fits-sub}
 use Rattle.htm.proofs.from_c.minus.Statement.{statement}
 use Rattle.htm.proofs.from_c.minus.Tie as tie

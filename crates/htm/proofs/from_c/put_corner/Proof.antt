@@ -6,7 +6,7 @@ use mathlib.Core.List.{[], _∷_, append-assoc}
 use lib.ListN.{set, take, drop, length-set}
 use lib.Seq.{sets-eq}
 use denote.Ref.{now}
-use Rattle.files.proofs.RowLaws.{narrow-fits, narrow-same}
+use Rattle.region_contents.proofs.RowLaws.{narrow-fits, narrow-same}
 use Rattle.htm.proofs.from_c.put_corner.Statement.{statement}
 use Rattle.htm.proofs.from_c.put_corner.Tie as tie
 

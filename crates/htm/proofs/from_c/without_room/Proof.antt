@@ -2,7 +2,7 @@
 use Prim.Native.Nat.{_^_}
 use mathlib.Core.Path.{sym, ap, subst, _∙_}
 use denote.Ref.{now}
-use Rattle.algebra.specs.Sizes.{Upto}
+use Rattle.algebra.proofs.Sizes.{Upto}
 use Rattle.algebra.proofs.Sized.{held}
 use Rattle.region.specs.Answers.{headerGiven}
 use Rattle.htm.proofs.CLaws.{own-or-space}

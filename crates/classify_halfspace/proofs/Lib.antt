@@ -1,0 +1,3 @@
+pub mod Enclosing
+pub mod FarLaws
+pub mod JudgedLaws

@@ -1,0 +1,75 @@
+-- `classify_halfspace::far` is the test: D·E − c stays below 2⁶³. Assumes nothing.
+use Prim.Native.Nat.{_+_, _*_}
+use mathlib.Core.Path.{ap, subst, sym, _∙_}
+use mathlib.Core.Bool.{_&&_}
+use lib.Dec.{lit≤}
+use lib.IntN.{_-ℤ_, _*ℤ_}
+use lib.Signed.{ltZ}
+use Rattle.algebra.proofs.Sizes.{Upto}
+use borrow.Author.Tests.{not-true, not-false}
+use Rattle.algebra.proofs.Tests.{and-then, and-no-left, le-yes}
+use Rattle.algebra.proofs.Sized.{held, upto-mono, is-mul, is-sub, fits-mul, fits-sub, same-le}
+use Rattle.vector.specs.Numbers.{Kℕ}
+use Rattle.vector.proofs.SizeLaws.{at-most-mono, dot-upto}
+use Rattle.classify.specs.Shape.{positive}
+use Rattle.classify_middle.proofs.CapLaws.{Beside, sound-beside, cap-beside}
+use Rattle.classify_halfspace.proofs.FarLaws.{rest-prepared, cap-rest, cap-clearance, far-is, far-beyond}
+use Rattle.classify_halfspace.proofs.far.Statement.{statement}
+use Rattle.classify_halfspace.proofs.far.Tie as tie
+
+half : (c : tie.Start) → Beside (c .args .q .f) (c .args .q .low) (c .args .q .rest)
+half c = sound-beside (c .pre .0)
+
+cap : (c : tie.Else1) → Beside (c .before .before .args .m .b) (c .before .before .args .m .reach) (c .before .before .args .m .rest)
+cap c = cap-beside (c .before .before .pre .1) (not-false _ (c .if1 .left))
+
+-- c
+along : (c : tie.After-dot) → Upto (Kℕ * Kℕ + Kℕ * Kℕ + Kℕ * Kℕ) (c .dot .result)
+along c = subst (Upto (Kℕ * Kℕ + Kℕ * Kℕ + Kℕ * Kℕ)) (sym (c .dot .ensures .0)) (dot-upto (half (c .before .before .before .before .before .before .before .before .before) .small) (cap (c .before .before .before .before .before .before .before) .small))
+
+-- beyond the clearance
+returns-2 : tie.Need-returns-2
+returns-2 c =
+    let d = c .before .before .before in
+    let e = c .before .before .before .before .before .before .before .before .before .before in
+    let s = c .before .before .before .before .before .before .before .before .before .before .before .before in
+    let a = not-false _ (e .if1 .left) in
+    let z = is-sub (is-mul (held (half s .size) tt) (held (cap e .size) tt) tt) (held (along d) tt) tt in
+    let l = sym (same-le (held (cap-clearance (s .pre .1) a) tt) z) ∙ c .if2 .taken in
+    far-beyond (s .pre .0) (s .pre .1) a (le-yes l) (upto-mono (lit≤ tt) (z .size)) (ap (λ x. s .args .q .low *ℤ s .args .m .reach -ℤ x) (d .dot .ensures .0))
+    ∙ and-then _ (sym (s .pre .1 .ahead) ∙ a)
+
+beyond-requires : tie.Need-beyond-requires
+beyond-requires c κs =
+    let e = c .before .before .before .before .before .before .before .before .before .before .before .before in
+    let s = c .before .before .before .before .before .before .before .before .before .before .before .before .before .before in
+    let z = is-sub (is-mul (held (half s .size) tt) (held (cap e .size) tt) tt) (held (c .before .before .before .before .before .dot .ensures .1) tt) tt in
+    let p = rest-prepared (s .pre .0) in
+    let q = cap-rest (s .pre .1) (not-false _ (e .if1 .left)) in
+    (rw (z .eq) (upto-mono (lit≤ tt) (z .size)), (rw (held (p .size) tt .eq) p, rw (held (q .size) tt .eq) q))
+
+returns-3 : tie.Need-returns-3
+returns-3 c =
+    let d = c .before .before .before .before .before .before in
+    let e = c .before .before .before .before .before .before .before .before .before .before .before .before .before in
+    let s = c .before .before .before .before .before .before .before .before .before .before .before .before .before .before .before in
+    let a = not-false _ (e .if1 .left) in
+    let z = is-sub (is-mul (held (half s .size) tt) (held (cap e .size) tt) tt) (held (d .dot .ensures .1) tt) tt in
+    let p = held (rest-prepared (s .pre .0) .size) tt in
+    let q = held (cap-rest (s .pre .1) a .size) tt in
+    c .beyond .ensures
+    ∙ (λ i. positive (z .eq i) && ltZ (p .eq i *ℤ q .eq i) (z .eq i *ℤ z .eq i))
+    ∙ far-is (s .pre .0) (s .pre .1) a (ap (λ x. s .args .q .low *ℤ s .args .m .reach -ℤ x) (d .dot .ensures .0))
+    ∙ and-then _ (sym (s .pre .1 .ahead) ∙ a)
+
+pub far-spec : {M : Type 1} → statement M
+far-spec =
+    tie.close
+    (tie.spec
+    (λ c. sym (and-no-left _ (sym (c .before .before .pre .1 .ahead) ∙ not-true _ (c .if1 .taken))))
+    (λ c. let e = c .before .before .before .before .before .before in fits-mul (held (half (c .before .before .before .before .before .before .before .before) .size) tt) (held (cap e .size) tt) tt)
+    (λ c κs. (half (c .before .before .before .before .before .before .before .before) .small, at-most-mono (lit≤ tt) (cap (c .before .before .before .before .before .before) .small)))
+    (λ c. fits-sub (is-mul (held (half (c .before .before .before .before .before .before .before .before .before) .size) tt) (held (cap (c .before .before .before .before .before .before .before) .size) tt) tt) (held (c .dot .ensures .1) tt) tt)
+    returns-2
+    beyond-requires
+    returns-3)

@@ -1,0 +1,170 @@
+// The class of a trixel for one halfspace: by the bounding cap, and by the rays where that does not tell. The rule is `halfspaceClass` of
+// classify/specs/Classes, the tests on the way stand in specs/Halfspaces.
+use classify::Class;
+use classify_measures::PreparedHalfspace;
+use classify_measures::TrixelRays;
+use classify_middle::BoundingCap;
+use mesh::Trixel;
+ghost use mathlib.Core.Path.{_≡_};
+ghost use mathlib.Core.Bool.{true, _&&_};
+ghost use Prim.Native.Nat.{_-_, _*_, _^_, _≤_};
+ghost use lib.Dec.{ltb};
+ghost use lib.IntN.{_*ℤ_};
+ghost use lib.Signed.{ltZ};
+ghost use Rattle.algebra.proofs.Sizes.{Upto};
+ghost use Rattle.classify.specs.Shape as rule;
+ghost use Rattle.classify.specs.Shape.{positive, ahead, bOf, EOf, volume};
+ghost use Rattle.classify_halfspace.specs.Halfspaces.{enclosed, judged, classWithin, classApart, withinClass, apartClass};
+ghost use Rattle.classify_measures.specs.Measures.{SoundHalfspace, Rest, RaysOf};
+ghost use Rattle.classify_middle.specs.Middle.{IsBoundingCap};
+
+// Whether m² > p q, in two words.
+fn square_passes_exactly(m: u64, p: u64, q: u64) -> bool
+    ensures { λ t. ⌜ t ≡ ltb (p * q) (m * m) ⌝ }
+{
+    wide::less(wide::product(p, q), wide::product(m, m))
+}
+
+// Whether m² > p q. It is so for a large m; else, with a = m / 2^10, u = p / 2^10 and v = q / 2^10, it is sure where (u + 1)(v + 1) ≤ a², and sure
+// not to be where (a + 1)² ≤ u v.
+fn square_passes(m: u64, p: u64, q: u64) -> bool
+    requires { ⌜ (p ≤ 3 * 2 ^ 40) × (q ≤ 3 * 2 ^ 40) ⌝ }
+    ensures { λ t. ⌜ t ≡ ltb (p * q) (m * m) ⌝ }
+{
+    if m >= 4398046510080 {
+        return true;
+    }
+    let a = m / 1024;
+    let u = p / 1024;
+    let v = q / 1024;
+    if classify_rays::product_within(u + 1, v + 1, a) {
+        return true;
+    }
+    if classify_rays::square_within(a + 1, u, v) {
+        return false;
+    }
+    square_passes_exactly(m, p, q)
+}
+
+// Whether x > 0 and x² > p q.
+fn beyond(x: i64, p: i64, q: i64) -> bool
+    requires { ⌜ Upto (2 ^ 63 - 1) x ⌝ }
+    requires { ⌜ Rest p × Rest q ⌝ }
+    ensures { λ t. ⌜ t ≡ positive x && ltZ (p *ℤ q) (x *ℤ x) ⌝ }
+{
+    if x <= 0 {
+        return false;
+    }
+    square_passes(x as u64, p as u64, q as u64)
+}
+
+// Whether b is ahead of the rays, D·E − c > 0 and (D·E − c)² > (f·f − D²)(b·b − E²), with c = f·b.
+pub fn far(q: PreparedHalfspace, t: Trixel, m: BoundingCap) -> bool
+    requires { ⌜ SoundHalfspace q ⌝ }
+    requires { ⌜ IsBoundingCap t m ⌝ }
+    ensures { λ r. ⌜ r ≡ ahead (bOf t) t && rule.far (q .f) (q .low) (bOf t) (EOf t) ⌝ }
+{
+    if !m.ahead {
+        return false;
+    }
+    let f = q.f;
+    let b = m.b;
+    let past = q.low * m.reach - vector_products::dot(f, b);
+    if m.clearance <= past {
+        return true;
+    }
+    beyond(past, q.rest, m.rest)
+}
+
+// Whether b is ahead of the rays and its cap by E lies in that of f and G, by a test that is enough: with M = f·b − G·E and S = b·b − E² it asks that
+// both are positive, S·G ≤ M·E and (f·f − D²) S < M².
+pub fn encloses(q: PreparedHalfspace, t: Trixel, m: BoundingCap) -> bool
+    requires { ⌜ SoundHalfspace q ⌝ }
+    requires { ⌜ IsBoundingCap t m ⌝ }
+    ensures { λ r. ⌜ r ≡ ahead (bOf t) t && enclosed (q .f) (q .low) (q .high) (bOf t) (EOf t) ⌝ }
+{
+    if !m.ahead {
+        return false;
+    }
+    let f = q.f;
+    let b = m.b;
+    let inward = vector_products::dot(f, b) - q.high * m.reach;
+    if m.clearance <= inward {
+        return true;
+    }
+    if m.rest <= 0 {
+        return false;
+    }
+    if inward * m.reach < m.rest * q.high {
+        return false;
+    }
+    beyond(inward, q.rest, m.rest)
+}
+
+// The class where within holds.
+pub fn class_within(d: i64) -> Class
+    ensures { λ r. ⌜ r ≡ classWithin d ⌝ }
+{
+    if d < 0 {
+        return Class::Outside;
+    }
+    Class::Full
+}
+
+// The class where apart holds.
+pub fn class_apart(d: i64) -> Class
+    ensures { λ r. ⌜ r ≡ classApart d ⌝ }
+{
+    if d < 0 {
+        return Class::Full;
+    }
+    Class::Outside
+}
+
+// The class by the rays, where apart does not hold.
+fn class_by_rays(t: Trixel, s: TrixelRays, q: PreparedHalfspace) -> Class
+    requires { ⌜ RaysOf t s × (s .solid ≡ true) ⌝ }
+    requires { ⌜ SoundHalfspace q ⌝ }
+    ensures { λ r. ⌜ r ≡ withinClass q t ⌝ }
+{
+    let f = q.f;
+    let all = classify_rays::all_pass(f, q.high, s);
+    if all {
+        return class_within(q.d);
+    }
+    Class::Partial
+}
+
+// The class by the middle, where within does not hold.
+pub fn class_by_middle(t: Trixel, m: BoundingCap, q: PreparedHalfspace) -> Class
+    requires { ⌜ positive (volume t) ≡ true ⌝ }
+    requires { ⌜ IsBoundingCap t m ⌝ }
+    requires { ⌜ SoundHalfspace q ⌝ }
+    ensures { λ r. ⌜ r ≡ apartClass q t ⌝ }
+{
+    let apart = far(q, t, m);
+    if apart {
+        class_apart(q.d)
+    } else {
+        Class::Partial
+    }
+}
+
+// The class of t for the halfspace that q was prepared from. Of many halfspaces most are far from the trixel or enclose it; the rays are for the others.
+pub fn judge(t: Trixel, s: TrixelRays, m: BoundingCap, q: PreparedHalfspace) -> Class
+    requires { ⌜ RaysOf t s ⌝ }
+    requires { ⌜ IsBoundingCap t m ⌝ }
+    requires { ⌜ SoundHalfspace q ⌝ }
+    ensures { λ r. ⌜ r ≡ judged q t ⌝ }
+{
+    if !s.solid {
+        return Class::Partial;
+    }
+    if far(q, t, m) {
+        return class_apart(q.d);
+    }
+    if encloses(q, t, m) {
+        return class_within(q.d);
+    }
+    class_by_rays(t, s, q)
+}

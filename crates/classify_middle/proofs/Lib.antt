@@ -1,0 +1,3 @@
+pub mod CapLaws
+pub mod ReachLaws
+pub mod ClearanceLaws

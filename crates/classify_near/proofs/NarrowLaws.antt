@@ -1,0 +1,244 @@
+-- What is kept of a region beside a place, convex by convex: one that is outside for every close trixel is left out, of the others the open halfspaces
+-- are kept. Assumes nothing.
+use Prim.Native.Nat.{ℕ, suc, _+_, _*_, _≤_, _<_}
+use native.Mathlib.Omega.{arith}
+use mathlib.Core.Path.{_≡_, refl, sym, ap, subst, _∙_}
+use mathlib.Core.Bool.{true}
+use mathlib.Core.List.{List, [], _∷_, _++_, append-assoc}
+use lib.ListN.{length, getD, take, drop, set, length-set, length-append, take-append-drop}
+use lib.Seq.{take-at, take-append-add, length-take-le, take-suc-set}
+use lib.IntN.{ℤ}
+use Rattle.algebra.specs.Lists.{every}
+use Rattle.algebra.proofs.Tests.{and-left, and-right, and-both}
+use Rattle.answer.specs.Lent.{put}
+use Rattle.answer.proofs.PutLaws.{put-length}
+use Rattle.mesh.specs.declared.Trixel.{Trixel}
+use Rattle.region.specs.Regions.{Convex, Region}
+use Rattle.region.specs.Building.{total}
+use Rattle.region.proofs.GoodRegions.{goodConvex, good}
+use Rattle.region.proofs.FilledLaws.{Filled}
+use Rattle.classify.specs.declared.Class.{Class}
+use Rattle.classify.specs.declared.Class.the-variants.{Outside}
+use Rattle.classify_middle.specs.declared.BoundingCap.{BoundingCap}
+use Rattle.classify_places.specs.declared.Near.{Near}
+use Rattle.classify.specs.Classes.{convexClass, regionClass}
+use Rattle.classify.specs.Shape.{positive, volume}
+use Rattle.classify_middle.specs.Middle.{IsBoundingCap}
+use Rattle.classify_places.specs.Near.{Placed, placeIn, closeTo, Close}
+use Rattle.classify_region.specs.PreparedLists.{convexSevens, sevens, endsFrom, Prepared, Classed, join}
+use Rattle.classify_region.proofs.ScanLaws.{join-assoc, join-outside, region-cons, length-sevens, no-total, no-region, ConvexNext, region-start, convex-next, region-end}
+use Rattle.classify_near.specs.declared.Opened.{Opened}
+use Rattle.classify_near.specs.Narrow.{Alike, Narrowed, Beside, Stores, OpenedOf, SomeConvex, OpenedConvex, Narrowing}
+use Rattle.classify_near.proofs.OpenLaws.{length-snoc}
+
+-- ---- one more at the end of a region
+
+module _ (c : Convex) where
+  region-snoc : (g : Region) (t : Trixel) → regionClass (g ++ c ∷ []) t ≡ join (regionClass g t) (convexClass c t)
+  region-snoc [] t = region-cons c [] t ∙ ap (join (convexClass c t)) (no-region [] t tt no-total) ∙ join-outside (convexClass c t) ∙ ap (λ a. join a (convexClass c t)) (sym (no-region [] t tt no-total))
+  region-snoc (v ∷ vs) t =
+      region-cons v (vs ++ c ∷ []) t ∙ ap (join (convexClass v t)) (region-snoc vs t)
+      ∙ sym (join-assoc (convexClass v t) (regionClass vs t) (convexClass c t)) ∙ ap (λ a. join a (convexClass c t)) (sym (region-cons v vs t))
+
+  region-sevens : (g : Region) → sevens (g ++ c ∷ []) ≡ sevens g ++ convexSevens c
+  unfolding sevens
+  region-sevens [] = append-nil (convexSevens c)
+    where
+      append-nil : (l : List ℤ) → l ++ [] ≡ l
+      append-nil [] = refl
+      append-nil (x ∷ l) = ap (λ m. x ∷ m) (append-nil l)
+  region-sevens (v ∷ vs) = ap (λ l. convexSevens v ++ l) (region-sevens vs) ∙ sym (append-assoc (convexSevens v) (sevens vs) (convexSevens c))
+
+  ends-snoc : (m : ℕ) (g : Region) → endsFrom m (g ++ c ∷ []) ≡ endsFrom m g ++ (m + total g + length c) ∷ []
+  unfolding endsFrom total
+  ends-snoc m [] = let e : m + length c ≡ m + 0 + length c = omega arith in ap (λ n. n ∷ []) e
+  ends-snoc m (v ∷ vs) =
+      let e : m + length v + total vs + length c ≡ m + (length v + total vs) + length c = omega arith in
+      ap (λ l. (m + length v) ∷ l) (ends-snoc (m + length v) vs ∙ ap (λ n. endsFrom (m + length v) vs ++ n ∷ []) e)
+
+  total-snoc : (g : Region) → total (g ++ c ∷ []) ≡ total g + length c
+  unfolding total
+  total-snoc [] = omega arith
+  total-snoc (v ∷ vs) = omega (arith, total-snoc vs)
+
+  filled-snoc : (g : Region) → Filled g → 0 < length c → Filled (g ++ c ∷ [])
+  filled-snoc [] f h = (h, tt)
+  filled-snoc (v ∷ vs) f h = (f .0, filled-snoc vs (f .1) h)
+
+  region-good-snoc : (g : Region) → good g ≡ true → goodConvex c ≡ true → good (g ++ c ∷ []) ≡ true
+  unfolding good every
+  region-good-snoc [] e f = and-both f refl
+  region-good-snoc (v ∷ vs) e f = and-both (and-left (goodConvex v) (every goodConvex vs) e) (region-good-snoc vs (and-right (goodConvex v) (every goodConvex vs) e) f)
+
+length-region : (g : Region) → length (sevens g) ≡ 7 * total g
+unfolding sevens total
+length-region [] = refl
+length-region (c ∷ cs) = omega (arith, length-append (convexSevens c) (sevens cs), length-sevens c, length-region cs)
+
+length-ends : (m : ℕ) (g : Region) → length (endsFrom m g) ≡ length g
+unfolding endsFrom
+length-ends m [] = refl
+length-ends m (c ∷ cs) = omega (arith, length-ends (m + length c) cs)
+
+few-convexes : (g : Region) → Filled g → length g ≤ total g
+unfolding total
+few-convexes [] f = omega arith
+few-convexes (c ∷ cs) f = omega (arith, f .0, few-convexes cs (f .1))
+
+-- ---- what is put behind a place leaves what is before it
+
+module _ {A : Type 0} (k : ℕ) (xs before : List A) (h : k ≤ length before) where
+  put-before : take k (put k xs before) ≡ take k before
+  put-before = take-at (take k before) (xs ++ drop (k + length xs) before) k (length-take-le k before h)
+
+  put-with : take (k + length xs) (put k xs before) ≡ take k before ++ xs
+  put-with =
+      let l = length-take-le k before h in
+      ap (λ m. take (m + length xs) (put k xs before)) (sym l)
+      ∙ take-append-add (take k before) (xs ++ drop (k + length xs) before) (length xs)
+      ∙ ap (λ m. take k before ++ m) (take-at xs (drop (k + length xs) before) (length xs) refl)
+
+-- ---- the convexes of a region
+
+module _ (r : Near) (xs : List ℤ) (es : List ℕ) (n : ℕ) (g : Region) where
+  pub narrow-start : Prepared g xs es n → (ys : List ℤ) (ms : List ℕ) → 7 * 32 ≤ length ys → 32 ≤ length ms → Narrowing r xs es n g 0 0 0 0 ys ms
+  unfolding total sevens endsFrom good every
+  narrow-start p ys ms long wide = record {
+    left = g;
+    at = region-start xs es n g p;
+    kept = [];
+    halfspaces = refl;
+    convexes = refl;
+    few = omega arith;
+    full = tt;
+    good = refl;
+    list = refl;
+    marks = refl;
+    long = long;
+    wide = wide;
+    class = λ t c. ap (λ a. join a (regionClass g t)) (no-region [] t tt no-total);
+  }
+
+  module _ {i k w c : ℕ} {ys : List ℤ} {ms : List ℕ} (h : i < n) (a : Narrowing r xs es n g i k w c ys ms) where
+    following : ConvexNext xs es n i k (getD es k 0) (a .left)
+    following = convex-next xs es n i k (a .left) (a .at) h .1 (getD es k 0) refl
+
+    pub end-read : k < length es
+    end-read = convex-next xs es n i k (a .left) (a .at) h .0
+
+    pub end-most : (i < getD es k 0) × (getD es k 0 ≤ n)
+    end-most = (following .before, following .most)
+
+    pub some-convex : SomeConvex xs i (getD es k 0)
+    some-convex = (following .convex, following .at)
+
+    -- the class of the region, with that of its next convex
+    with-next : (t : Trixel) → Close r t → {b : Class} → convexClass (following .convex) t ≡ b → join (regionClass (a .kept) t) (join b (regionClass (following .rest) t)) ≡ regionClass g t
+    with-next t c e =
+        ap (λ b. join (regionClass (a .kept) t) (join b (regionClass (following .rest) t))) (sym e) ∙ ap (join (regionClass (a .kept) t)) (sym (following .class t)) ∙ a .class t c
+
+    -- what was kept before stays, and is followed by what is kept now
+    module _ (u : Convex) {ys′ : List ℤ} (s : Stores w u ys ys′) where
+      long-after : 7 * 32 ≤ length ys′
+      long-after = omega (arith, ap length (s .list) ∙ put-length (7 * w) (convexSevens u) ys (omega (arith, length-sevens u, s .small, a .long)), a .long)
+
+      kept-before : take (7 * w) ys′ ≡ sevens (a .kept)
+      kept-before = ap (take (7 * w)) (s .list) ∙ put-before (7 * w) (convexSevens u) ys (omega (arith, a .long, a .few)) ∙ a .list
+
+      dropped : ((t : Trixel) → Close r t → convexClass (following .convex) t ≡ Outside) → Narrowing r xs es n g (getD es k 0) (k + 1) w c ys′ ms
+      dropped o = record {
+        left = following .rest;
+        at = following .after;
+        kept = a .kept;
+        halfspaces = a .halfspaces;
+        convexes = a .convexes;
+        few = a .few;
+        full = a .full;
+        good = a .good;
+        list = kept-before;
+        marks = a .marks;
+        long = long-after;
+        wide = a .wide;
+        class = λ t c. with-next t c (o t c);
+      }
+
+      module _ {m : ℕ} (e : m ≡ w + length u) (l : w < m) where
+        kept-with : take (7 * m) ys′ ≡ sevens (a .kept ++ u ∷ [])
+        kept-with =
+            let at : 7 * m ≡ 7 * w + length (convexSevens u) = omega (arith, e, length-sevens u) in
+            (λ j. take (at j) (s .list j)) ∙ put-with (7 * w) (convexSevens u) ys (omega (arith, a .long, a .few)) ∙ ap (λ l. l ++ convexSevens u) (a .list)
+            ∙ sym (region-sevens u (a .kept))
+
+        few-marks : c < 32
+        few-marks = omega (arith, e, s .small, a .convexes, a .halfspaces, few-convexes (a .kept) (a .full))
+
+        marked-with : take (c + 1) (set ms c m) ≡ endsFrom 0 (a .kept ++ u ∷ [])
+        marked-with =
+            let one : c + 1 ≡ suc c = omega arith in
+            let end : m ≡ 0 + total (a .kept) + length u = omega (arith, e, a .halfspaces) in
+            ap (λ j. take j (set ms c m)) one ∙ take-suc-set ms c m (omega (arith, few-marks, a .wide)) ∙ (λ j. a .marks j ++ end j ∷ []) ∙ sym (ends-snoc u 0 (a .kept))
+
+        taken : ((t : Trixel) → Close r t → convexClass (following .convex) t ≡ convexClass u t) → Narrowing r xs es n g (getD es k 0) (k + 1) m (c + 1) ys′ (set ms c m)
+        taken o = record {
+          left = following .rest;
+          at = following .after;
+          kept = a .kept ++ u ∷ [];
+          halfspaces = omega (arith, e, a .halfspaces, total-snoc u (a .kept));
+          convexes = omega (arith, a .convexes, length-snoc (a .kept) u);
+          few = omega (arith, e, s .small);
+          full = filled-snoc u (a .kept) (a .full) (omega (arith, e));
+          good = region-good-snoc u (a .kept) (a .good) (s .good);
+          list = kept-with;
+          marks = marked-with;
+          long = long-after;
+          wide = omega (arith, length-set ms c m, a .wide);
+          class = λ t c.
+              ap (λ b. join b (regionClass (following .rest) t)) (region-snoc u (a .kept) t)
+              ∙ join-assoc (regionClass (a .kept) t) (convexClass u t) (regionClass (following .rest) t)
+              ∙ with-next t c (o t c);
+        }
+
+    -- as a program finds it: what was found of the next convex
+    found : (ys′ : List ℤ) {o p : Opened} → OpenedConvex r xs i (getD es k 0) w ys ys′ o → o ≡ p → OpenedOf r (following .convex) w ys ys′ p
+    found ys′ f e = subst (OpenedOf r (following .convex) w ys ys′) e (f (following .convex) (following .at))
+
+    pub add-outside : {ys′ : List ℤ} {o : Opened} → OpenedConvex r xs i (getD es k 0) w ys ys′ o → o ≡ Opened.Outside → Narrowing r xs es n g (getD es k 0) (k + 1) w c ys′ ms
+    add-outside {ys′} f e = let b = found ys′ f e in dropped (b .0) (b .1) (b .2)
+
+    pub add-halves : {ys′ : List ℤ} {o : Opened} {m : ℕ} → OpenedConvex r xs i (getD es k 0) w ys ys′ o → o ≡ Opened.Halves m → w < m
+        → (c < 32) × Narrowing r xs es n g (getD es k 0) (k + 1) m (c + 1) ys′ (set ms c m)
+    add-halves {ys′} f e l = let b = found ys′ f e in (few-marks (b .0) (b .1) (b .2) l, taken (b .0) (b .1) (b .2) l (b .3))
+
+  -- no convex is left: what is kept is a region of its own
+  pub narrow-end : (i k w c : ℕ) (ys : List ℤ) (ms : List ℕ) → Narrowing r xs es n g i k w c ys ms → n ≤ i → (h : Region) × Prepared h ys ms w × Alike r g h
+  narrow-end i k w c ys ms a h = (
+    a .kept,
+    record {
+      count = a .halfspaces;
+      filled = a .full;
+      good = a .good;
+      more = drop (7 * w) ys;
+      halves = sym (take-append-drop (7 * w) ys) ∙ ap (λ l. l ++ drop (7 * w) ys) (a .list);
+      further = drop c ms;
+      ends = sym (take-append-drop c ms) ∙ ap (λ l. l ++ drop c ms) (a .marks);
+    },
+    λ t c′.
+        sym (a .class t c′) ∙ ap (join (regionClass (a .kept) t)) (region-end xs es n i k (a .left) (a .at) h t) ∙ join-outside (regionClass (a .kept) t),
+  )
+
+-- ---- the class of a trixel that is close, by what is open
+
+pub by-open : {xs : List ℤ} {es : List ℕ} {n : ℕ} {ys : List ℤ} {ms : List ℕ} {w : ℕ} {r : Near} {t : Trixel} {m : BoundingCap} → Narrowed xs es n ys ms w r
+    → IsBoundingCap t m → positive (volume t) ≡ true → closeTo r m ≡ true → {c : Class} → Classed t ys ms w c → Classed t xs es n c
+by-open {t = t} {m = m} k b v e f g p = let h = k g p in f (h .0) (h .1) ∙ sym (h .2 t (record { cap = m; bounds = b; solid = v; close = e }))
+
+-- ---- what goes with a trixel
+
+module _ {xs : List ℤ} {es : List ℕ} {n : ℕ} {ys : List ℤ} {ms : List ℕ} {ps : List ℤ} where
+  -- a place that was stored, and what was found beside it
+  pub beside : {w : ℕ} {r : Near} → Placed r → placeIn ps ≡ r → (0 < w → Narrowed xs es n ys ms w r) → Beside xs es n ys ms w ps
+  beside {w} p e f = record { placed = subst Placed (sym e) p; narrowed = λ h. subst (Narrowed xs es n ys ms w) (sym e) (f h) }
+
+  -- nothing is known
+  pub beside-none : Placed (placeIn ps) → Beside xs es n ys ms 0 ps
+  beside-none p = record { placed = p; narrowed = λ h. absurd (omega arith) }

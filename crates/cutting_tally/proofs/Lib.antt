@@ -1,0 +1,3 @@
+pub mod LentTail
+pub mod TallyLaws
+pub mod WalkLaws

@@ -1,0 +1,96 @@
+-- What a cutting has found so far, with its two lists in one pass in the lent list. Document 01, 'The two lists'.
+--   Tally              what was found so far: how many outer ranges are stored and what is known of their gaps, what stands beside the inner list, and
+--                      the trixels classified
+--   tallyIn xs         the tally of ten numbers; noTally: before the first trixel; withOuter, withInner, oneMore: after a change of one part
+--   nothing            before the first trixel
+--   Walked b start a s out   where a was found so far, s and the list `out` have it: the outer list at the front of what `start` had in its first 2 × b
+--                      elements, the inner list at the front of the rest
+--   Adds b found ..    whatever was found before, `found` is noted after it
+--   Outered ..         the range r was pushed onto the outer list
+--   Behind, BehindEnd  the inner list's writer was lent the list from element 2 × b on: the elements before it stay
+--   Room b s out       the counts are at most the budget b, the list has room for both lists, and what s knows of the gaps of the outer list and of the
+--                      sizes of the inner list's stored ranges is so
+use Prim.Native.Nat.{ℕ, _+_, _*_, _≤_}
+use mathlib.Core.Path.{_≡_}
+use mathlib.Core.List.{List, [], _++_, foldl}
+use lib.Dec.{ltb}
+use lib.ListN.{length, getD, take, drop}
+use Rattle.ranges_stored.specs.declared.Hint.{Hint}
+use Rattle.ranges_lists.specs.declared.Pushed.{Pushed}
+use Rattle.ranges_stored.specs.declared.Pending.{Pending}
+use Rattle.ranges.specs.Ranges.{Range, rangesIn}
+use Rattle.ranges.specs.Lists.{gaps}
+use Rattle.ranges.proofs.Pushing.{outerPush, outerPass, Inner, empty, innerPush}
+use Rattle.ranges_stored.specs.Stored.{sizesIn, Writes, hintOf, noHint, Hinted, nothingYet, Keeps}
+use Rattle.cutting.specs.Cover.{Found, both}
+
+pub record Tally : Type 0 where
+  pub outer : ℕ
+  pub hint : Hint
+  pub inner : Pending
+  pub seen : ℕ
+
+abbrev pub tallyIn : List ℕ → Tally
+tallyIn xs = record {
+  outer = getD xs 0 0;
+  hint = hintOf (getD xs 1 0) (getD xs 2 0);
+  inner = record { n = getD xs 3 0; some = ltb 0 (getD xs 4 0); low = getD xs 5 0; high = getD xs 6 0; hint = hintOf (getD xs 7 0) (getD xs 8 0) };
+  seen = getD xs 9 0;
+}
+
+abbrev pub noTally : Tally
+noTally = record { outer = 0; hint = noHint; inner = nothingYet; seen = 0 }
+
+abbrev pub withOuter : Pushed → Tally → Tally
+withOuter m s = record { outer = m .n; hint = m .hint; inner = s .inner; seen = s .seen }
+
+abbrev pub withInner : Pending → Tally → Tally
+withInner p s = record { outer = s .outer; hint = s .hint; inner = p; seen = s .seen }
+
+-- one more is classified
+abbrev pub oneMore : Tally → Tally
+oneMore s = record { outer = s .outer; hint = s .hint; inner = s .inner; seen = s .seen + 1 }
+
+abbrev pub nothing : Found
+nothing = record { accepted = []; full = []; seen = 0 }
+
+abbrev pub innerState : ℕ → List Range → Inner
+innerState b rs = foldl (innerPush b) empty rs
+
+pub record Walked (b : ℕ) (start : List ℕ) (a : Found) (s : Tally) (out : List ℕ) : Type 0 where
+  pub front : List ℕ
+  pub back : List ℕ
+  pub list : out ≡ front ++ back
+  pub width : length front ≡ 2 * b
+  pub outer : Writes (outerPass b (a .accepted)) (take (2 * b) start) front (s .outer)
+  pub inner : Keeps (innerState b (a .full)) (drop (2 * b) start) back (s .inner)
+  pub seen : s .seen ≡ a .seen
+
+-- what `found` is, is found after whatever was found before
+abbrev pub Adds : ℕ → Found → Tally → List ℕ → Tally → List ℕ → Type 0
+Adds b found s out s′ out′ = (start : List ℕ) (a : Found) → Walked b start a s out → Walked b start (both a found) s′ out′
+
+pub record Outered (b : ℕ) (r : Range) (s : Tally) (out : List ℕ) (s′ : Tally) (out′ : List ℕ) : Type 0 where
+  pub writes : Writes (outerPush b (rangesIn (s .outer) out) r) out out′ (s′ .outer)
+  pub few : s′ .outer ≤ b
+  pub hinted : Hinted (s′ .hint) (gaps (rangesIn (s′ .outer) out′))
+  pub inner : s′ .inner ≡ s .inner
+  pub seen : s′ .seen ≡ s .seen
+
+pub record Behind (b : ℕ) (before after : List ℕ) (state : Inner) (p : Pending) : Type 0 where
+  pub rest : List ℕ
+  pub list : after ≡ take (2 * b) before ++ rest
+  pub keeps : Keeps state (drop (2 * b) before) rest p
+
+pub record BehindEnd (b : ℕ) (before after : List ℕ) (rs : List Range) (n : ℕ) : Type 0 where
+  pub rest : List ℕ
+  pub list : after ≡ take (2 * b) before ++ rest
+  pub writes : Writes rs (drop (2 * b) before) rest n
+
+pub record Room (b : ℕ) (s : Tally) (out : List ℕ) : Type 0 where
+  pub budget : 1 ≤ b
+  pub outer : s .outer ≤ b
+  pub inner : s .inner .n ≤ b
+  pub list : 4 * b ≤ length out
+  pub hinted : Hinted (s .hint) (gaps (rangesIn (s .outer) out))
+  pub innerHinted : Hinted (s .inner .hint) (sizesIn (2 * b) (s .inner .n) out)

@@ -1,0 +1,52 @@
+-- `cutting_walk::keep` stores the seven vectors one after the other, and what was stored is read back. Assumes nothing.
+use mathlib.Core.Path.{_≡_, refl, sym, ap, subst, _∙_}
+use mathlib.Core.List.{List}
+use lib.ListN.{length}
+use lib.IntN.{ℤ}
+use borrow.Author.Needs.{needs}
+use Rattle.algebra.proofs.Cells.{all-cells}
+use Rattle.vector.specs.declared.Vec3.{Vec3}
+use Rattle.vector_products.specs.Stored.{vecIn, withVec}
+use Rattle.mesh.specs.declared.Trixel.{Trixel}
+use Rattle.cutting_walk.specs.Kept.{trixelIn}
+use Rattle.cutting_walk.proofs.keep.Statement.{statement}
+use Rattle.cutting_walk.proofs.keep.Tie as tie
+
+-- a list with the vectors of the trixel, and one more
+abbrev filled : Trixel → Vec3 → List ℤ → List ℤ
+filled t r xs = withVec (withVec (withVec (withVec (withVec (withVec (withVec xs 0 (t .v0)) 3 (t .v1)) 6 (t .v2)) 9 (t .p0)) 12 (t .p1)) 15 (t .p2)) 18 r
+
+abbrev Holds : Trixel → Vec3 → List ℤ → Type 0
+Holds t r xs = (trixelIn xs ≡ t) × (vecIn xs 18 ≡ r)
+
+holds : (t : Trixel) (r : Vec3) (xs : List ℤ) → length xs ≡ 21 → Holds t r (filled t r xs)
+unfolding withVec
+holds t r xs long = all-cells 21 (λ xs. Holds t r (filled t r xs)) (λ a b c d e f g h i j k l m n o p q r s t u. (refl, refl)) xs long
+
+returns : tie.Need-returns
+returns c =
+    let s6 = c .before .before in
+    let s5 = s6 .before .before in
+    let s4 = s5 .before .before in
+    let s3 = s4 .before .before in
+    let s2 = s3 .before .before in
+    let s1 = s2 .before .before in
+    let s = s1 .before .before .before .before .before .before .before .before in
+    let t = s .args .t in
+    let r = s .args .r in
+    let l : c .store7 .last .0 ≡ filled t r (s .args .xs .now) =
+    c .store7 .ensures ∙ ap (λ xs. withVec xs 18 r) (s6 .store6 .ensures ∙ ap (λ xs. withVec xs 15 (t .p2)) (s5 .store5 .ensures ∙ ap (λ xs. withVec xs 12 (t .p1)) (s4 .store4 .ensures ∙ ap (λ xs. withVec xs 9 (t .p0)) (s3 .store3 .ensures ∙ ap (λ xs. withVec xs 6 (t .v2)) (s2 .store2 .ensures ∙ ap (λ xs. withVec xs 3 (t .v1)) (s1 .store .ensures)))))) in
+    subst (Holds t r) (sym l) (holds t r (s .args .xs .now) (search needs))
+
+pub keep-spec : {M : Type 1} → statement M
+keep-spec =
+    tie.close
+    (tie.spec
+    (λ c κs. search needs)
+    (λ c κs. search needs)
+    (λ c κs. search needs)
+    (λ c κs. search needs)
+    (λ c κs. search needs)
+    (λ c κs. search needs)
+    (λ c κs. search needs)
+    returns)

@@ -1,4 +1,0 @@
-pub mod StepLaws
-pub mod DescentLaws
-pub mod TableLaws
-pub mod AnswerLaws

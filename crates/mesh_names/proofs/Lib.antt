@@ -1,0 +1,3 @@
+pub mod DepthBits
+pub mod NameReading
+pub mod NameWriting

@@ -1,0 +1,33 @@
+-- The table of the trixels of depth 3, by the cutting rule. Document 01, 'Pointings and the mesh'.
+--   numbers t   corners and normals of a trixel, x y z of v0 v1 v2 p0 p1 p2: eighteen numbers
+--   table       the numbers of the 128 trixels of depth 3, in identifier order, 128 to 255
+--   vectorAt k  the corner or normal number k of these trixels, six for each
+use Prim.Native.Nat.{ℕ, zero, suc, _+_, _/_, _%_}
+use mathlib.Core.Bool.{cond}
+use mathlib.Core.List.{List, [], _∷_, _++_}
+use lib.Dec.{eqb}
+use lib.IntN.{ℤ}
+use Rattle.vector.specs.declared.Vec3.{Vec3}
+use Rattle.mesh.specs.declared.Trixel.{Trixel}
+use Rattle.mesh.specs.Identifiers.{trixel}
+
+abbrev pub three : Vec3 → List ℤ
+three a = a .x ∷ a .y ∷ a .z ∷ []
+
+abbrev pub numbers : Trixel → List ℤ
+numbers t = three (t .v0) ++ three (t .v1) ++ three (t .v2) ++ three (t .p0) ++ three (t .p1) ++ three (t .p2)
+
+-- of n trixels of depth 3, from the identifier i on
+unfoldable pub tableFrom : ℕ → ℕ → List ℤ
+tableFrom zero i = []
+tableFrom (suc n) i = numbers (trixel 2 i) ++ tableFrom n (suc i)
+
+unfoldable pub table : List ℤ
+table = tableFrom 128 128
+
+-- corner or normal number a of a trixel: v0 v1 v2 p0 p1 p2
+abbrev pub partOf : ℕ → Trixel → Vec3
+partOf a t = cond (eqb a 0) (t .v0) (cond (eqb a 1) (t .v1) (cond (eqb a 2) (t .v2) (cond (eqb a 3) (t .p0) (cond (eqb a 4) (t .p1) (t .p2)))))
+
+unfoldable pub vectorAt : ℕ → Vec3
+vectorAt k = partOf (k % 6) (trixel 2 (128 + k / 6))

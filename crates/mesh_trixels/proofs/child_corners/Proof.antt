@@ -1,0 +1,49 @@
+-- `mesh_trixels::child_corners` gives the corners of a child, by the table of children. Assumes nothing.
+use native.Mathlib.Omega.{arith}
+use mathlib.Core.Path.{_≡_, sym, subst, _∙_}
+use Rattle.mesh.specs.declared.Corners.{Corners}
+use Rattle.mesh_trixels.specs.Corners.{SmallCorners}
+use Rattle.mesh_trixels.proofs.CornerLaws.{child-0, child-1, child-2, child-3}
+use Rattle.mesh_trixels.proofs.child_corners.Statement.{statement}
+use Rattle.mesh_trixels.proofs.child_corners.Tie as tie
+
+-- three corners that are the child's
+done : {r t c : Corners} → r ≡ t → t ≡ c → SmallCorners t → (r ≡ c) × SmallCorners r
+done e h small = (e ∙ h, subst SmallCorners (sym e) small)
+
+pub child-corners-spec : {M : Type 1} → statement M
+child-corners-spec =
+    tie.close
+    (tie.spec
+    (λ c κs. let p = c .before .before .before .pre in (p .v1, p .v2))
+    (λ c κs. let p = c .before .before .before .before .pre in (p .v0, p .v2))
+    (λ c κs. let p = c .before .before .before .before .before .pre in (p .v0, p .v1))
+    (λ c κs. tt)
+    (λ c.
+    let g = c .before in
+    let s = g .before .before .before .before .before .before .before in
+    let m1 = g .before .before .midpoint2 .ensures in
+    let m2 = g .before .midpoint3 .ensures in
+    done (c .triple .ensures) (child-0 (s .args .c) (g .if1 .taken) (m1 .0) (m2 .0)) (record { v0 = s .pre .v0; v1 = m2 .1; v2 = m1 .1 }))
+    (λ c κs. tt)
+    (λ c.
+    let g = c .before in
+    let s = g .before .before .before .before .before .before .before .before in
+    let m0 = g .before .before .before .before .midpoint .ensures in
+    let m2 = g .before .before .midpoint3 .ensures in
+    done (c .triple2 .ensures) (child-1 (s .args .c) (g .if2 .taken) (m0 .0) (m2 .0)) (record { v0 = s .pre .v1; v1 = m0 .1; v2 = m2 .1 }))
+    (λ c κs. tt)
+    (λ c.
+    let g = c .before in
+    let s = g .before .before .before .before .before .before .before .before .before in
+    let m0 = g .before .before .before .before .before .midpoint .ensures in
+    let m1 = g .before .before .before .before .midpoint2 .ensures in
+    done (c .triple3 .ensures) (child-2 (s .args .c) (g .if3 .taken) (m0 .0) (m1 .0)) (record { v0 = s .pre .v2; v1 = m1 .1; v2 = m0 .1 }))
+    (λ c κs. tt)
+    (λ c.
+    let g = c .before in
+    let s = g .before .before .before .before .before .before .before .before .before in
+    let m0 = g .before .before .before .before .before .midpoint .ensures in
+    let m1 = g .before .before .before .before .midpoint2 .ensures in
+    let m2 = g .before .before .before .midpoint3 .ensures in
+    done (c .triple4 .ensures) (child-3 (s .args .c) (omega arith) (m0 .0) (m1 .0) (m2 .0)) (record { v0 = m0 .1; v1 = m1 .1; v2 = m2 .1 })))

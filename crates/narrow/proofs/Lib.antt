@@ -1,3 +1,0 @@
-pub mod NearLaws
-pub mod OpenLaws
-pub mod NarrowLaws

@@ -1,0 +1,100 @@
+// The lines of a cover, for program cover and for the command of query.
+use cutting::Counts;
+use htm::CoverOf;
+use print::Buffer;
+use region::Header;
+use region::HeaderOf;
+
+// Two lists of pairs, each within the largest budget, 2048.
+const ELEMENTS: usize = 8192;
+
+// The most numbers in the rows of a region file.
+const ROWS: usize = 2560;
+
+pub fn lines(out: &mut Buffer, at: usize, file: &[u8], part: u8) -> usize {
+    let mut lists = [0u64; ELEMENTS];
+    match htm::cover(file, &mut lists) {
+        CoverOf::Gives(counts) => accepted(out, at, file, counts, &lists, part),
+        CoverOf::Refused(n) => print::refused(out, at, n),
+    }
+}
+
+// The lines of a file that is accepted: its depth and budget are the reader's.
+fn accepted(
+    out: &mut Buffer,
+    at: usize,
+    file: &[u8],
+    counts: Counts,
+    lists: &[u64; ELEMENTS],
+    part: u8,
+) -> usize {
+    let mut rows = [0i32; ROWS];
+    match htm::read(file, &mut rows) {
+        HeaderOf::Gives(header) => covered(out, at, header, counts, lists, part),
+        HeaderOf::Refused(n) => print::refused(out, at, n),
+    }
+}
+
+fn covered(
+    out: &mut Buffer,
+    at: usize,
+    header: Header,
+    counts: Counts,
+    lists: &[u64; ELEMENTS],
+    part: u8,
+) -> usize {
+    let end = first_line(out, at, header.depth, counts);
+    let end = ranges(out, end, b'o', pairs(lists, 0, counts.outer), part);
+    let end = ranges(
+        out,
+        end,
+        b'i',
+        pairs(lists, inner_start(header.budget), counts.inner),
+        part,
+    );
+    print::byte(out, end, b'\n')
+}
+
+fn first_line(out: &mut Buffer, at: usize, depth: u32, counts: Counts) -> usize {
+    let end = labelled(out, at, b"depth ", depth as u64);
+    let end = labelled(out, end, b" outer ", counts.outer);
+    let end = labelled(out, end, b" inner ", counts.inner);
+    labelled(out, end, b" seen ", counts.seen)
+}
+
+fn labelled(out: &mut Buffer, at: usize, label: &[u8], n: u64) -> usize {
+    let end = print::text(out, at, label);
+    print::digits(out, end, n)
+}
+
+// The element of the lent list at which the inner list begins: twice the budget.
+fn inner_start(budget: u32) -> usize {
+    print::least(htm::budget_of(budget) as u64 * 2, ELEMENTS)
+}
+
+// The pairs of so many ranges from an element on.
+fn pairs(lists: &[u64], from: usize, count: u64) -> &[u64] {
+    if lists.len() < from {
+        return &lists[..0];
+    }
+    let n = print::least(count, (lists.len() - from) / 2);
+    &lists[from..from + n * 2]
+}
+
+// A line for each range of a list.
+fn ranges(out: &mut Buffer, at: usize, letter: u8, pairs: &[u64], part: u8) -> usize {
+    let mut end = at;
+    for i in 0..pairs.len() / 2 {
+        end = print::byte(out, end, part);
+        end = range(out, end, letter, pairs[i * 2], pairs[i * 2 + 1]);
+    }
+    end
+}
+
+fn range(out: &mut Buffer, at: usize, letter: u8, low: u64, high: u64) -> usize {
+    let end = print::byte(out, at, letter);
+    let end = print::byte(out, end, b' ');
+    let end = print::name(out, end, low);
+    let end = print::byte(out, end, b' ');
+    print::name(out, end, high)
+}

@@ -1,0 +1,115 @@
+// What query answers to a command line.
+use answer::Number;
+use check::same;
+use mesh::Corners;
+use mesh::CornersOf;
+use print::Buffer;
+use query_words::Natural;
+use query_words::NaturalAt;
+use query_words::PointAt;
+use vector::Vec3;
+
+pub fn answer(line: &[u8], out: &mut Buffer, at: usize) -> usize {
+    let word = query_words::word(line, 0);
+    let next = query_words::after(line, 0);
+    if same(word, b"lookup") {
+        return lookup(line, next, out, at);
+    }
+    if same(word, b"name") {
+        return name(line, next, out, at);
+    }
+    if same(word, b"id") {
+        return id(line, next, out, at);
+    }
+    if same(word, b"corners") {
+        return corners(line, next, out, at);
+    }
+    if same(word, b"rows") {
+        return query_regions::rows(line, next, out, at);
+    }
+    if same(word, b"file") {
+        return query_regions::file(line, next, out, at);
+    }
+    if same(word, b"holds") {
+        return query_regions::holds(line, next, out, at);
+    }
+    if same(word, b"cover") {
+        return query_regions::cover(line, next, out, at);
+    }
+    print::usage(out, at)
+}
+
+// lookup X Y Z DEPTH
+fn lookup(line: &[u8], next: usize, out: &mut Buffer, at: usize) -> usize {
+    let PointAt::Is {
+        x,
+        y,
+        z,
+        next: depth_at,
+    } = query_words::point_at(line, next)
+    else {
+        return print::usage(out, at);
+    };
+    let NaturalAt::Is(depth, end) = query_words::natural_at(line, depth_at) else {
+        return print::usage(out, at);
+    };
+    if !query_words::is_over(line, end) {
+        return print::usage(out, at);
+    }
+    match htm::locate(x, y, z, depth) {
+        Number::Gives(i) => {
+            let end = print::natural(out, at, i, b' ');
+            print_name(out, end, i)
+        },
+        Number::Refused(n) => print::refused(out, at, n),
+    }
+}
+
+// name ID
+fn name(line: &[u8], next: usize, out: &mut Buffer, at: usize) -> usize {
+    match query_words::identifier(line, next) {
+        Natural::Is(i) => print_name(out, at, i),
+        Natural::Not => print::usage(out, at),
+    }
+}
+
+// id NAME
+fn id(line: &[u8], next: usize, out: &mut Buffer, at: usize) -> usize {
+    let word = query_words::last(line, next);
+    if word.len() == 0 {
+        return print::usage(out, at);
+    }
+    match htm::identifier(word) {
+        Number::Gives(i) => print::natural(out, at, i, b'\n'),
+        Number::Refused(n) => print::refused(out, at, n),
+    }
+}
+
+// corners ID
+fn corners(line: &[u8], next: usize, out: &mut Buffer, at: usize) -> usize {
+    let Natural::Is(i) = query_words::identifier(line, next) else {
+        return print::usage(out, at);
+    };
+    match htm::corners(i) {
+        CornersOf::Gives(c) => print_corners(out, at, c),
+        CornersOf::Refused(n) => print::refused(out, at, n),
+    }
+}
+
+// The name of an identifier, and the line's end.
+fn print_name(out: &mut Buffer, at: usize, i: u64) -> usize {
+    let end = print::name(out, at, i);
+    print::byte(out, end, b'\n')
+}
+
+fn print_corners(out: &mut Buffer, at: usize, c: Corners) -> usize {
+    let end = print_vector(out, at, c.v0, b' ');
+    let end = print_vector(out, end, c.v1, b' ');
+    print_vector(out, end, c.v2, b'\n')
+}
+
+fn print_vector(out: &mut Buffer, at: usize, v: Vec3, then: u8) -> usize {
+    let end = print::whole(out, at, v.x, b' ');
+    let end = print::whole(out, end, v.y, b' ');
+    print::whole(out, end, v.z, then)
+}

@@ -1,0 +1,4 @@
+pub mod Counts
+pub mod InnerStored
+pub mod OuterStored
+pub mod Pushes

@@ -1,0 +1,4 @@
+pub mod HintLaws
+pub mod SearchLaws
+pub mod ShiftLaws
+pub mod StoredLaws

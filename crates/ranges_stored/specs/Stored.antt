@@ -1,0 +1,76 @@
+-- The two lists as one pass keeps them, in lent memory. Document 01, 'The two lists': pairs low, high, one range after the other.
+--   sizesIn start n l   the sizes of n ranges, from element `start` of the list l on. A gap is the size of the range from one high to the next low, so
+--                    from element 1 on they are the gaps
+--   written xs l     the list l with the ranges xs at its front, each in the place of two elements; the other elements stay
+--   Writes xs before after n   `after` is `before` with the ranges xs, n of them, at its front
+-- Where the smallest gap of the outer list is, or the shortest range of the inner list, as far as it is known: a `Hint`.
+--   hintOf from floor   a hint, by its two numbers; noHint is true of every list
+--   Hinted h gs      of the gaps or sizes gs, every one is at least the floor of h, and those before number `from` are above it
+--   FirstAt floor i gs   number i is the first one that is the floor, or there is none and i is behind the last
+--   PointsAt h gs    the one of number `from` is the floor, and so the smallest, the earliest among equals
+-- The inner list's last range may still grow, so it stands beside the lent list, with the count of those in it and what is known of their sizes: a
+-- `Pending`.
+--   nothingYet       where there is no range yet
+--   closed s         the ranges of the inner list s that grow no more
+--   stateOf p l      the inner list that p and the lent list l say
+--   Keeps s before after p   p and `after` say s, and `after` is `before` with the closed ranges of s, as many as p counts, at its front
+-- And for one step of the code:
+--   shifted at l k   the list l, where k elements, from number `at` on, are those two places further on
+use Prim.Native.Nat.{ℕ, _+_, _≤_, _<_}
+use mathlib.Core.Path.{_≡_}
+use mathlib.Core.Bool.{false, cond}
+use mathlib.Core.List.{List, [], _∷_, map}
+use lib.ListN.{length, getD, drop}
+use lib.Seq.{paste}
+use Rattle.ranges_stored.specs.declared.Hint.{Hint}
+use Rattle.ranges_stored.specs.declared.Pending.{Pending}
+use Rattle.ranges.specs.Ranges.{Range, range, rangesIn}
+use Rattle.ranges.specs.Lists.{size}
+use Rattle.ranges.proofs.Pushing.{Inner, empty, growing}
+
+abbrev pub sizesIn : ℕ → ℕ → List ℕ → List ℕ
+sizesIn start n l = map size (rangesIn n (drop start l))
+
+unfoldable pub written : List Range → List ℕ → List ℕ
+written [] l = l
+written (a ∷ xs) l = a .low ∷ a .high ∷ written xs (drop 2 l)
+
+pub record Writes (xs : List Range) (before after : List ℕ) (n : ℕ) : Type 0 where
+  pub count : n ≡ length xs
+  pub list : after ≡ written xs before
+
+abbrev pub hintOf : ℕ → ℕ → Hint
+hintOf from floor = record { from = from; floor = floor }
+
+abbrev pub noHint : Hint
+noHint = hintOf 0 0
+
+pub record Hinted (h : Hint) (gs : List ℕ) : Type 0 where
+  pub atLeast : (i : ℕ) → i < length gs → h .floor ≤ getD gs i 0
+  pub before : (i : ℕ) → i < h .from → i < length gs → h .floor < getD gs i 0
+
+pub record FirstAt (floor i : ℕ) (gs : List ℕ) : Type 0 where
+  pub hinted : Hinted (hintOf i floor) gs
+  pub is : i < length gs → getD gs i 0 ≡ floor
+
+pub record PointsAt (h : Hint) (gs : List ℕ) : Type 0 where
+  pub hinted : Hinted h gs
+  pub inside : h .from < length gs
+  pub is : getD gs (h .from) 0 ≡ h .floor
+
+abbrev pub nothingYet : Pending
+nothingYet = record { n = 0; some = false; low = 0; high = 0; hint = noHint }
+
+abbrev pub closed : Inner → List Range
+closed empty = []
+closed (growing xs r) = xs
+
+unfoldable pub stateOf : Pending → List ℕ → Inner
+stateOf p l = cond (p .some) (growing (rangesIn (p .n) l) (range (p .low) (p .high))) empty
+
+pub record Keeps (s : Inner) (before after : List ℕ) (p : Pending) : Type 0 where
+  pub state : stateOf p after ≡ s
+  pub stored : Writes (closed s) before after (p .n)
+
+unfoldable pub shifted : ℕ → List ℕ → ℕ → List ℕ
+shifted at l k = paste l at (drop (at + 2) l) k

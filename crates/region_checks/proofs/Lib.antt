@@ -1,0 +1,2 @@
+pub mod CheckingPass
+pub mod CountLaws

@@ -1,0 +1,22 @@
+-- `region_points::holds_halfspace` is the strict comparison of n·p with d·K. Assumes nothing.
+use mathlib.Core.Path.{ap, _∙_}
+use lib.Dec.{lit≤}
+use lib.IntN.{_*ℤ_}
+use lib.Signed.{ltZ}
+use Rattle.algebra.proofs.Sized.{held, lit, is-mul, fits-mul, same-lt}
+use Rattle.vector.specs.Numbers.{K}
+use Rattle.vector.proofs.SizeLaws.{at-most-mono}
+use Rattle.vector.proofs.VectorLaws.{dot-comm}
+use Rattle.region_points.proofs.holds_halfspace.Statement.{statement}
+use Rattle.region_points.proofs.holds_halfspace.Tie as tie
+
+pub holds-halfspace-spec : {M : Type 1} → statement M
+holds-halfspace-spec =
+    tie.close
+    (tie.spec
+    (λ c. fits-mul (held (c .pre .1 .0) tt) (lit 1048576 tt) tt)
+    (λ c κs. (c .pre .1 .1, at-most-mono (lit≤ tt) (c .pre .0)))
+    (λ c.
+    let s = c .before in
+    same-lt (is-mul (held (s .pre .1 .0) tt) (lit 1048576 tt) tt) (held (c .dot .ensures .1) tt)
+    ∙ ap (ltZ (s .args .d *ℤ K)) (c .dot .ensures .0 ∙ dot-comm (s .args .p) (s .args .n))))

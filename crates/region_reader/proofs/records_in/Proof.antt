@@ -1,0 +1,64 @@
+-- The loop's invariant: the state and the rows stand for what has been read, and the rest of the file gives what the whole does (`Reading`). The measure is the bytes left. Assumes nothing.
+use Prim.Native.Nat.{_-_}
+use native.Mathlib.Omega.{arith}
+use mathlib.Core.Path.{_≡_, _∙_}
+use lib.ListN.{length}
+use denote.Ref.{now}
+use Rattle.region_reader.proofs.ReadingLaws.{Reading, reading-none, reading-further, reading-more, reading-done, reading-refused}
+use Rattle.region_reader.proofs.records_in.Statement.{statement}
+use Rattle.region_reader.proofs.records_in.Tie as tie
+
+abbrev Inv-loop : tie.InvT-loop
+Inv-loop file h rows₀ s₀ rows s = (length rows₀ ≡ 2560) × Reading file h rows₀ rows s
+
+abbrev μ-loop : tie.MeasureT-loop
+μ-loop file h rows₀ s₀ rows s = length file - s .at
+
+less : tie.Need-loop-less Inv-loop μ-loop
+less c =
+    let r = c .before .before .before .before in
+    let l = r .before .before in
+    let a = l .before .before .args in
+    let n = reading-further (now (a .file)) (a .h) (now (a .rows)) (l .loop .rows) (l .loop .s) (l .loop .inv .1) (r .record-in .result) _ (r .record-in .ensures) (c .before .o .given .0 .0) (c .before .o .given .1) in
+    omega arith
+
+more : tie.Need-loop-again Inv-loop μ-loop
+more c =
+    let r = c .before .before .before .before in
+    let l = r .before .before in
+    let a = l .before .before .args in (
+      l .loop .inv .0,
+      reading-more (now (a .file)) (a .h) (now (a .rows)) (l .loop .rows) (l .loop .s) (l .loop .inv .1) (r .record-in .result) _ (r .record-in .ensures) (c .before .o .given .0 .0) (c .before .o .given .1) (r .record-in .kept .1 .1 .0),
+    )
+
+done : tie.Need-returns Inv-loop μ-loop
+done c =
+    let r = c .before .before .before .before in
+    let l = r .before .before in
+    let a = l .before .before .args in
+    reading-done (now (a .file)) (a .h) (now (a .rows)) (l .loop .rows) (l .loop .s) (l .loop .inv .1) (r .record-in .result) _ (r .record-in .ensures) (c .before .o2 .given .0 .0) (c .before .o2 .given .1)
+
+refused : tie.Need-returns-2 Inv-loop μ-loop
+refused c =
+    let r = c .before .before .before .before in
+    let l = r .before .before in
+    let a = l .before .before .args in
+    reading-refused (now (a .file)) (a .h) (now (a .rows)) (l .loop .rows) (l .loop .s) (l .loop .inv .1) (r .record-in .result) _ (r .record-in .ensures) (c .before .o3 .given .0 .0) (c .before .o3 .given .1)
+
+pub records-in-spec : {M : Type 1} → statement M
+records-in-spec =
+    tie.close
+    (tie.spec
+    Inv-loop
+    μ-loop
+    (λ c. let a = c .before .args in (c .before .pre .1, reading-none (now (a .file)) (a .h) (now (a .rows)) (c .before .pre .0)))
+    (λ c κs. let l = c .before .loop in (l .inv .1 .within, l .inv .1 .room ∙ l .inv .0))
+    (λ c. c .match .keys1)
+    less
+    more
+    (λ c. c .match .keys2)
+    (λ c. let r = c .before .before .before .before in r .record-in .kept .1 .1 .0 ∙ r .before .before .loop .inv .1 .room)
+    done
+    (λ c. c .match .keys3)
+    (λ c. let r = c .before .before .before .before in r .record-in .kept .1 .1 .0 ∙ r .before .before .loop .inv .1 .room)
+    refused)

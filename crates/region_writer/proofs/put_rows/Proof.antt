@@ -1,0 +1,54 @@
+-- The loop's invariant: the records of the rows so far stand from element 8 on, and the next goes after them (`Writing`). Assumes nothing.
+use Prim.Native.Nat.{_-_}
+use native.Mathlib.Omega.{arith}
+use mathlib.Core.Path.{_≡_}
+use lib.ListN.{length, getD}
+use lib.IntN.{pos}
+use mir.Syntax.{w32}
+use mir.Val.{toZ, ofZ}
+use mir.Facts.{toZ-ofZ}
+use Rattle.region_writer.proofs.WritingPass.{Writing, start, same-length, few-written, done, whole-row, row-small, row-offset, row-room, more}
+use Rattle.region_writer.proofs.put_rows.Statement.{statement}
+use Rattle.region_writer.proofs.put_rows.Tie as tie
+
+abbrev Inv-loop : tie.InvT-loop
+Inv-loop rows out₀ p₀ i₀ out p i = Writing rows out₀ out p i
+
+abbrev μ-loop : tie.MeasureT-loop
+μ-loop rows out₀ p₀ i₀ out p i = length rows - i
+
+-- the row's number and its halfspace, as they are handed on
+number : (c : tie.After-halfspace-at Inv-loop μ-loop) → let l = c .before .before .before .before in let z = getD (l .before .before .args .rows .now) (l .loop .i) (pos 0) in toZ w32 (ofZ w32 z) ≡ z
+number c =
+    let l = c .before .before .before .before in
+    toZ-ofZ {w = w32} {z = getD (l .before .before .args .rows .now) (l .loop .i) (pos 0)} (record { sfits = c .before .put-row-arg2 .given })
+
+room : tie.Need-put-row-requires Inv-loop μ-loop
+room c κs =
+    let l = c .before .before .before in
+    let v = l .before .loop .inv in
+    rw (c .halfspace-at .ensures, number c) ((row-room v (l .loop-test .taken), few-written v), (row-small v (l .loop-test .taken), row-offset v (l .loop-test .taken)))
+
+again : tie.Need-loop-again Inv-loop μ-loop
+again c =
+    let r = c .before .before in
+    let e = rw (r .before .halfspace-at .ensures, number (r .before)) at (r .put-row .ensures) in
+    let l = r .before .before .before .before in
+    more (l .before .loop .inv) (l .loop-test .taken) _ _ (e .0) (e .1 .0) (e .1 .1)
+
+pub put-rows-spec : {M : Type 1} → statement M
+put-rows-spec =
+    tie.close
+    (tie.spec
+    Inv-loop
+    μ-loop
+    (λ c. start _ _ (c .before .pre))
+    (λ c. omega arith)
+    (λ c. omega arith)
+    (λ c κs. let l = c .before .before in whole-row (l .before .loop .inv) (l .loop-test .taken))
+    room
+    (λ c. let l = c .before .before .before .before .before .before in omega (arith, whole-row (l .before .loop .inv) (l .loop-test .taken)))
+    (λ c. omega arith)
+    again
+    (λ c. same-length (c .before .loop .inv))
+    (λ c. done (c .before .loop .inv) (c .loop-test .left)))

@@ -1,0 +1,85 @@
+// The integer square root in code: a guess, tested; a step from it, tested; bisection for the rest. The rule is `root` of vector/specs/Numbers.
+ghost use mathlib.Core.Path.{_≡_};
+ghost use mathlib.Core.Bool.{_&&_};
+ghost use Prim.Native.Nat.{_+_, _-_, _*_, _/_, _^_, _≤_, _<_};
+ghost use lib.Dec.{leb, ltb};
+ghost use Rattle.vector.specs.Numbers.{root};
+
+// The square root of s, rounded down: a guess, or Newton's step from it, where that is the root.
+pub fn isqrt(s: u64) -> u64
+    requires { ⌜ s < 2 ^ 46 ⌝ }
+    ensures { λ r. ⌜ r ≡ root s ⌝ }
+    ensures { λ r. ⌜ r < 2 ^ 23 ⌝ }
+{
+    let n = guess(s);
+    if is_root(s, n) {
+        return n;
+    }
+    let m = (n + s / n) / 2;
+    if is_root(s, m) {
+        return m;
+    }
+    bisected(s)
+}
+
+// A number near the root of s, where s is the square length of the sum of two or three near vectors.
+fn guess(s: u64) -> u64
+    ensures { λ r. ⌜ (2 ^ 19 ≤ r) × (r ≤ 2 ^ 22) ⌝ }
+{
+    if s < 5497558138880 {
+        near_two(s)
+    } else {
+        near_three(s)
+    }
+}
+
+// The root for most s a little below (2K)²: with e = (2K)² − s and f = e / 4K it is about 2K − (e + f²) / 4K.
+pub fn near_two(s: u64) -> u64
+    ensures { λ r. ⌜ (2 ^ 19 ≤ r) × (r ≤ 2 ^ 21) ⌝ }
+{
+    if s >= 4398046511104 {
+        return 2097152;
+    }
+    let e = 4398046511104 - s;
+    let f = e / 4194304;
+    2097152 - (e + f * f + 4194303) / 4194304
+}
+
+// The same for s a little below (3K)².
+fn near_three(s: u64) -> u64
+    ensures { λ r. ⌜ (2 ^ 19 ≤ r) × (r ≤ 2 ^ 22) ⌝ }
+{
+    if s >= 9895604649984 {
+        return 3145728;
+    }
+    let e = 9895604649984 - s;
+    let f = e / 6291456;
+    3145728 - (e + f * f + 6291455) / 6291456
+}
+
+// Whether r is the root of s: r² ≤ s < (r + 1)², where (r + 1)² is r² + 2r + 1.
+pub fn is_root(s: u64, r: u64) -> bool
+    requires { ⌜ r ≤ 2 ^ 27 ⌝ }
+    ensures { λ t. ⌜ t ≡ (leb (r * r) s && ltb s ((r + 1) * (r + 1))) ⌝ }
+{
+    r * r <= s && s - r * r <= 2 * r
+}
+
+// The root of s by bisection, for every s: low² ≤ s < high² holds throughout.
+fn bisected(s: u64) -> u64
+    requires { ⌜ s < 2 ^ 46 ⌝ }
+    ensures { λ r. ⌜ r ≡ root s ⌝ }
+    ensures { λ r. ⌜ r < 2 ^ 23 ⌝ }
+{
+    let mut low: u64 = 0;
+    let mut high: u64 = 8388608;
+    while low + 1 < high {
+        let middle = (low + high) / 2;
+        if middle * middle <= s {
+            low = middle;
+        } else {
+            high = middle;
+        }
+    }
+    low
+}
