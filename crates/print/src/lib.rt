@@ -1,6 +1,6 @@
-// What the programs print: bytes, numbers, names and refusals, collected in a lent buffer.
+// What the programs print: bytes, numbers, names and refusals, collected in a lent buffer. Each function takes the place in the buffer where it begins
+// and gives the one where it ends. After a write that failed the place is LOST, and nothing more is written.
 use answer::Number;
-use libc::STDOUT_FILENO;
 ghost use Prim.Native.Nat.{_≤_};
 ghost use mathlib.Core.Path.{_≡_};
 ghost use lib.IntN.{natAbs};
@@ -9,12 +9,19 @@ pub const SIZE: usize = 65536;
 
 pub type Buffer = [u8; SIZE];
 
-pub fn byte(out: &mut Buffer, at: usize, b: u8) -> usize {
+// Past every place of the buffer, and past its end.
+pub const LOST: usize = 65537;
+
+pub fn byte(out: &mut Buffer, at: usize, b: u8) -> usize
+    ensures { λ r. ⌜ (at ≡ 65537 → r ≡ 65537) ⌝ }
+{
     if at < SIZE {
         out[at] = b;
         return at + 1;
     }
-    io::write_all(STDOUT_FILENO, out);
+    if flush(out, at) == LOST {
+        return LOST;
+    }
     out[0] = b;
     1
 }
@@ -92,10 +99,13 @@ pub fn usage(out: &mut Buffer, at: usize) -> usize {
     text(out, at, b"usage\n")
 }
 
-// Writes what was collected.
-pub fn flush(out: &Buffer, at: usize) {
+// Writes what was collected. The place is then the buffer's beginning, or LOST.
+pub fn flush(out: &Buffer, at: usize) -> usize
+    ensures { λ r. ⌜ (at ≡ 65537 → r ≡ 65537) ⌝ }
+{
     let all: &[u8] = out;
-    if at <= all.len() {
-        io::write_all(STDOUT_FILENO, &all[0..at]);
+    if all.len() < at {
+        return LOST;
     }
+    if streams::write(&all[0..at]) { 0 } else { LOST }
 }

@@ -4,12 +4,13 @@ use htm::CoverOf;
 use print::Buffer;
 use region::Header;
 use region::HeaderOf;
+ghost use mathlib.Core.Path.{_≡_};
+ghost use Rattle.answer.specs.Answer.{gives};
+ghost use Rattle.region.specs.Reader.{File, Accepted};
+ghost use Rattle.region.specs.Answers.{headerGiven};
 
 // Two lists of pairs, each within the largest budget, 2048.
 const ELEMENTS: usize = 8192;
-
-// The most numbers in the rows of a region file.
-const ROWS: usize = 2560;
 
 pub fn lines(out: &mut Buffer, at: usize, file: &[u8], part: u8) -> usize {
     let mut lists = [0u64; ELEMENTS];
@@ -19,7 +20,7 @@ pub fn lines(out: &mut Buffer, at: usize, file: &[u8], part: u8) -> usize {
     }
 }
 
-// The lines of a file that is accepted: its depth and budget are the reader's.
+// The lines of a file that is accepted.
 fn accepted(
     out: &mut Buffer,
     at: usize,
@@ -28,11 +29,17 @@ fn accepted(
     lists: &[u64; ELEMENTS],
     part: u8,
 ) -> usize {
-    let mut rows = [0i32; ROWS];
-    match htm::read(file, &mut rows) {
+    match header_of(file) {
         HeaderOf::Gives(header) => covered(out, at, header, counts, lists, part),
         HeaderOf::Refused(n) => print::refused(out, at, n),
     }
+}
+
+// Depth and budget of a file that is accepted: they stand in its header, and no other record is read for them.
+fn header_of(file: &[u8]) -> HeaderOf
+    ensures { λ r. ⌜ ((x : File) → Accepted (now (file .entry)) x → headerGiven r ≡ gives (record { count = 0; depth = x .depth; budget = x .budget })) ⌝ }
+{
+    region_records::header_in(file)
 }
 
 fn covered(

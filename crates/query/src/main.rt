@@ -11,7 +11,7 @@
 //
 // A refusal is answered `refused N`, a line of another shape `usage`. Words are parted by one blank; numbers are decimal, X Y Z with an
 // optional minus. HEX is a file in hexadecimal digits, or `-` for one with no bytes. A line ends with a line feed; the last line may do
-// without. A line of more than 65536 bytes is of another shape.
+// without. A line of more than 65536 bytes is of another shape. Where a read or a write fails, standard error says so and no line more is answered.
 
 fn main() {
     let mut line = io::large_buffer();

@@ -1,41 +1,63 @@
-// Lines of input, each answered as it ends.
-use libc::STDIN_FILENO;
+// Lines of input, each answered as it ends. After a read that failed the line that has begun is not answered, and after a write that failed nothing
+// more is read.
+use check::same;
 use print::Buffer;
+use print::LOST;
 use print::SIZE;
+use streams::Input;
 
 // A loop must end, and no run reads so many blocks.
 const BLOCKS: u64 = u64::MAX;
 
-// Answers the lines of the input. The result is how many bytes `line` holds of a last one that has no line feed.
-pub fn answer_lines(line: &mut Buffer, out: &mut Buffer) -> usize {
-    let mut block = io::large_buffer();
-    let mut n = 0;
-    for _ in 0..BLOCKS {
-        let got = libc::read(STDIN_FILENO, &mut block);
-        let count = io::count(got, &block);
-        if count == 0 {
-            return n;
-        }
-        n = answer_block(&block[..count], line, n, out);
-    }
-    n
+// Between two bytes of the input: how many bytes of a line are kept, and the place in what is printed.
+struct Place {
+    kept: usize,
+    at: usize,
 }
 
-// Answers the lines that end in a block; `line` has n bytes of the first one already. The result is how many it has of the next one.
-fn answer_block(block: &[u8], line: &mut Buffer, n: usize, out: &mut Buffer) -> usize {
-    let mut kept = n;
-    let mut at = 0;
-    for i in 0..block.len() {
-        let b = block[i];
-        if b == b'\n' {
-            at = answer_line(line, kept, out, at);
-            kept = 0;
-        } else {
-            kept = keep(line, kept, b);
+// Answers the lines of the input. The result is how many bytes `line` holds of a last one that has no line feed and is to be answered.
+pub fn answer_lines(line: &mut Buffer, out: &mut Buffer) -> usize {
+    let mut block = io::large_buffer();
+    let mut kept = 0;
+    for _ in 0..BLOCKS {
+        let Input::Bytes(n) = streams::read(&mut block) else {
+            return 0;
+        };
+        if n == 0 {
+            return kept;
         }
+        let place = answer_block(&block[..n], line, kept, out);
+        if place.at == LOST {
+            return 0;
+        }
+        kept = place.kept;
     }
-    print::flush(out, at);
-    kept
+    0
+}
+
+// Answers the lines that end in a block; `line` has so many bytes of the first one already.
+fn answer_block(block: &[u8], line: &mut Buffer, kept: usize, out: &mut Buffer) -> Place {
+    let mut place = Place { kept: kept, at: 0 };
+    for i in 0..block.len() {
+        place = answer_byte(block[i], line, place, out);
+    }
+    Place {
+        kept: place.kept,
+        at: print::flush(out, place.at),
+    }
+}
+
+fn answer_byte(b: u8, line: &mut Buffer, place: Place, out: &mut Buffer) -> Place {
+    if b == b'\n' {
+        return Place {
+            kept: 0,
+            at: answer_line(line, place.kept, out, place.at),
+        };
+    }
+    Place {
+        kept: keep(line, place.kept, b),
+        at: place.at,
+    }
 }
 
 // One byte more of a line. A line that is too long counts as one byte more than `line` can hold.
@@ -48,10 +70,44 @@ fn keep(line: &mut Buffer, n: usize, b: u8) -> usize {
 }
 
 pub fn answer_line(line: &Buffer, n: usize, out: &mut Buffer, at: usize) -> usize {
+    if at == LOST {
+        return LOST;
+    }
     let all: &[u8] = line;
     if n <= all.len() {
-        query_replies::answer(&all[0..n], out, at)
+        answer(&all[0..n], out, at)
     } else {
         print::usage(out, at)
     }
+}
+
+// The answer to a line, by its first word.
+fn answer(line: &[u8], out: &mut Buffer, at: usize) -> usize {
+    let word = query_words::word(line, 0);
+    let next = query_words::after(line, 0);
+    if same(word, b"lookup") {
+        return query_trixels::lookup(line, next, out, at);
+    }
+    if same(word, b"name") {
+        return query_trixels::name(line, next, out, at);
+    }
+    if same(word, b"id") {
+        return query_trixels::id(line, next, out, at);
+    }
+    if same(word, b"corners") {
+        return query_trixels::corners(line, next, out, at);
+    }
+    if same(word, b"rows") {
+        return query_regions::rows(line, next, out, at);
+    }
+    if same(word, b"file") {
+        return query_regions::file(line, next, out, at);
+    }
+    if same(word, b"holds") {
+        return query_regions::holds(line, next, out, at);
+    }
+    if same(word, b"cover") {
+        return query_regions::cover(line, next, out, at);
+    }
+    print::usage(out, at)
 }

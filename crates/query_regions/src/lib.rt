@@ -1,13 +1,11 @@
-// The commands of query about region files: rows, file, holds, cover.
+// The commands of query about region files: rows, file, holds, cover. Each is answered from the word at `next` on.
 use answer::Number;
 use print::Buffer;
 use query_words::MOST;
 use query_words::NaturalAt;
 use query_words::PointAt;
-use region::Header;
 use region::HeaderOf;
 use region::HeldOf;
-ghost use Prim.Native.Nat.{_<_};
 
 // The most bytes of a region file.
 const BYTES: usize = 10508;
@@ -23,7 +21,7 @@ pub fn rows(line: &[u8], next: usize, out: &mut Buffer, at: usize) -> usize {
 }
 
 // The rows of a file of n bytes, if it has a length.
-pub fn read(file: &[u8; MOST], n: usize, out: &mut Buffer, at: usize) -> usize {
+fn read(file: &[u8; MOST], n: usize, out: &mut Buffer, at: usize) -> usize {
     let all: &[u8] = file;
     if all.len() < n {
         return print::usage(out, at);
@@ -32,7 +30,7 @@ pub fn read(file: &[u8; MOST], n: usize, out: &mut Buffer, at: usize) -> usize {
     match htm::read(&all[0..n], &mut rows) {
         HeaderOf::Gives(header) => {
             let k = print::least(header.count as u64 * 5, ROWS);
-            print_rows(out, at, header, &rows[0..k])
+            print_region::rows(out, at, header, &rows[0..k])
         },
         HeaderOf::Refused(k) => print::refused(out, at, k),
     }
@@ -68,7 +66,7 @@ fn write(
     match htm::write(depth, budget, &all[0..n], &mut bytes) {
         Number::Gives(count) => {
             let k = print::least(count, BYTES);
-            print_file(out, at, &bytes[0..k])
+            print_region::file(out, at, &bytes[0..k])
         },
         Number::Refused(k) => print::refused(out, at, k),
     }
@@ -97,7 +95,7 @@ fn test(file: &[u8; MOST], n: usize, x: i32, y: i32, z: i32, out: &mut Buffer, a
         return print::usage(out, at);
     }
     match htm::holds(&all[0..n], x, y, z) {
-        HeldOf::Gives(held) => print_held(out, at, held),
+        HeldOf::Gives(held) => print_region::held(out, at, held),
         HeldOf::Refused(k) => print::refused(out, at, k),
     }
 }
@@ -116,65 +114,4 @@ fn lines(file: &[u8; MOST], n: usize, out: &mut Buffer, at: usize) -> usize {
         return print::usage(out, at);
     }
     print_cover::lines(out, at, &all[0..n], b'|')
-}
-
-// The answer of the point test.
-fn print_held(out: &mut Buffer, at: usize, held: bool) -> usize {
-    if held {
-        return print::text(out, at, b"yes\n");
-    }
-    print::text(out, at, b"no\n")
-}
-
-// Depth, budget and count, and then the numbers of the rows, five each.
-fn print_rows(out: &mut Buffer, at: usize, header: Header, numbers: &[i32]) -> usize {
-    let end = print::natural(out, at, header.depth as u64, b' ');
-    let end = print::natural(out, end, header.budget as u64, b' ');
-    let end = print::natural(out, end, header.count as u64, then(0, numbers.len()));
-    print_numbers(out, end, numbers)
-}
-
-// The numbers, parted by blanks, and the line's end.
-fn print_numbers(out: &mut Buffer, at: usize, numbers: &[i32]) -> usize {
-    let mut end = at;
-    for i in 0..numbers.len() {
-        end = print_number(out, end, numbers[i], then(i + 1, numbers.len()));
-    }
-    end
-}
-
-// A number of 32 bits, and the byte that follows it.
-fn print_number(out: &mut Buffer, at: usize, n: i32, then: u8) -> usize {
-    print::whole(out, at, n as i64, then)
-}
-
-// What follows when i of n numbers are printed.
-fn then(i: usize, n: usize) -> u8 {
-    if i < n { b' ' } else { b'\n' }
-}
-
-// A file in digits, and the line's end.
-fn print_file(out: &mut Buffer, at: usize, bytes: &[u8]) -> usize {
-    let mut end = at;
-    for i in 0..bytes.len() {
-        end = print_byte(out, end, bytes[i]);
-    }
-    print::byte(out, end, b'\n')
-}
-
-// The two digits of a byte.
-fn print_byte(out: &mut Buffer, at: usize, b: u8) -> usize {
-    let end = print::byte(out, at, digit(b / 16));
-    print::byte(out, end, digit(b % 16))
-}
-
-// The digit of a value below 16.
-pub fn digit(value: u8) -> u8
-    requires { ⌜ value < 16 ⌝ }
-{
-    if value < 10 {
-        b'0' + value
-    } else {
-        b'a' + (value - 10)
-    }
 }

@@ -1,9 +1,9 @@
--- `query_regions::print_file` is safe and ends: the place in `bytes` grows up to their number. Assumes nothing.
+-- `print_region::file` is safe and ends: the place in `bytes` grows up to their number. Assumes nothing.
 use Prim.Native.Nat.{_-_, _≤_}
 use native.Mathlib.Omega.{arith}
 use lib.ListN.{length}
-use Rattle.query_regions.proofs.print_file.Statement.{statement}
-use Rattle.query_regions.proofs.print_file.Tie as tie
+use Rattle.print_region.proofs.file.Statement.{statement}
+use Rattle.print_region.proofs.file.Tie as tie
 
 abbrev Inv-loop : tie.InvT-loop
 Inv-loop out₀ at bytes end₀ i₀ i-end out end i = i ≤ length bytes
@@ -11,8 +11,8 @@ Inv-loop out₀ at bytes end₀ i₀ i-end out end i = i ≤ length bytes
 abbrev μ-loop : tie.MeasureT-loop
 μ-loop out₀ at bytes end₀ i₀ i-end out end i = length bytes - i
 
-pub print-file-spec : {M : Type 1} → statement M
-print-file-spec =
+pub file-spec : {M : Type 1} → statement M
+file-spec =
     tie.close
     (tie.spec
     Inv-loop

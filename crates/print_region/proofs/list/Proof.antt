@@ -1,10 +1,10 @@
--- `query_regions::print_numbers` is safe and ends: the place in `numbers` grows up to their number. Assumes nothing.
+-- `print_region::list` is safe and ends: the place in `numbers` grows up to their number. Assumes nothing.
 use Prim.Native.Nat.{_-_, _≤_}
 use native.Mathlib.Omega.{arith}
 use borrow.Author.Needs.{needs}
 use lib.ListN.{length}
-use Rattle.query_regions.proofs.print_numbers.Statement.{statement}
-use Rattle.query_regions.proofs.print_numbers.Tie as tie
+use Rattle.print_region.proofs.list.Statement.{statement}
+use Rattle.print_region.proofs.list.Tie as tie
 
 abbrev Inv-loop : tie.InvT-loop
 Inv-loop out₀ at numbers end₀ i₀ i-end out end i = i ≤ length numbers
@@ -12,8 +12,8 @@ Inv-loop out₀ at numbers end₀ i₀ i-end out end i = i ≤ length numbers
 abbrev μ-loop : tie.MeasureT-loop
 μ-loop out₀ at numbers end₀ i₀ i-end out end i = length numbers - i
 
-pub print-numbers-spec : {M : Type 1} → statement M
-print-numbers-spec =
+pub list-spec : {M : Type 1} → statement M
+list-spec =
     tie.close
     (tie.spec
     Inv-loop

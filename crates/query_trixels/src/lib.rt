@@ -1,6 +1,5 @@
-// What query answers to a command line.
+// The commands of query about trixels: lookup, name, id, corners. Each is answered from the word at `next` on.
 use answer::Number;
-use check::same;
 use mesh::Corners;
 use mesh::CornersOf;
 use print::Buffer;
@@ -9,38 +8,8 @@ use query_words::NaturalAt;
 use query_words::PointAt;
 use vector::Vec3;
 
-pub fn answer(line: &[u8], out: &mut Buffer, at: usize) -> usize {
-    let word = query_words::word(line, 0);
-    let next = query_words::after(line, 0);
-    if same(word, b"lookup") {
-        return lookup(line, next, out, at);
-    }
-    if same(word, b"name") {
-        return name(line, next, out, at);
-    }
-    if same(word, b"id") {
-        return id(line, next, out, at);
-    }
-    if same(word, b"corners") {
-        return corners(line, next, out, at);
-    }
-    if same(word, b"rows") {
-        return query_regions::rows(line, next, out, at);
-    }
-    if same(word, b"file") {
-        return query_regions::file(line, next, out, at);
-    }
-    if same(word, b"holds") {
-        return query_regions::holds(line, next, out, at);
-    }
-    if same(word, b"cover") {
-        return query_regions::cover(line, next, out, at);
-    }
-    print::usage(out, at)
-}
-
 // lookup X Y Z DEPTH
-fn lookup(line: &[u8], next: usize, out: &mut Buffer, at: usize) -> usize {
+pub fn lookup(line: &[u8], next: usize, out: &mut Buffer, at: usize) -> usize {
     let PointAt::Is {
         x,
         y,
@@ -66,7 +35,7 @@ fn lookup(line: &[u8], next: usize, out: &mut Buffer, at: usize) -> usize {
 }
 
 // name ID
-fn name(line: &[u8], next: usize, out: &mut Buffer, at: usize) -> usize {
+pub fn name(line: &[u8], next: usize, out: &mut Buffer, at: usize) -> usize {
     match query_words::identifier(line, next) {
         Natural::Is(i) => print_name(out, at, i),
         Natural::Not => print::usage(out, at),
@@ -74,7 +43,7 @@ fn name(line: &[u8], next: usize, out: &mut Buffer, at: usize) -> usize {
 }
 
 // id NAME
-fn id(line: &[u8], next: usize, out: &mut Buffer, at: usize) -> usize {
+pub fn id(line: &[u8], next: usize, out: &mut Buffer, at: usize) -> usize {
     let word = query_words::last(line, next);
     if word.len() == 0 {
         return print::usage(out, at);
@@ -86,7 +55,7 @@ fn id(line: &[u8], next: usize, out: &mut Buffer, at: usize) -> usize {
 }
 
 // corners ID
-fn corners(line: &[u8], next: usize, out: &mut Buffer, at: usize) -> usize {
+pub fn corners(line: &[u8], next: usize, out: &mut Buffer, at: usize) -> usize {
     let Natural::Is(i) = query_words::identifier(line, next) else {
         return print::usage(out, at);
     };
