@@ -98,10 +98,10 @@ fn answer(line: &[u8], out: &mut Buffer, at: usize) -> usize {
         return query_trixels::corners(line, next, out, at);
     }
     if same(word, b"rows") {
-        return query_regions::rows(line, next, out, at);
+        return query_files::rows(line, next, out, at);
     }
     if same(word, b"file") {
-        return query_regions::file(line, next, out, at);
+        return query_files::file(line, next, out, at);
     }
     if same(word, b"holds") {
         return query_regions::holds(line, next, out, at);
