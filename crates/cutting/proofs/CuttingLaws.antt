@@ -29,7 +29,7 @@ use Rattle.classify.proofs.ClassLaws.{full-region, outside-region}
 use Rattle.ranges.specs.Ranges.{Range}
 use Rattle.ranges.proofs.Sound.{In, Has, SpacedBy}
 use Rattle.ranges.proofs.ListLaws.{Between, between-widen, between-append, between-spaced, has-left, has-right, has-cases, row, has-row, row-has, between-row, own, row-own}
-use Rattle.cutting.specs.Cover.{Found, descendants, leftOut, takenFull, takenPartial, cutInto, four, parted, visit, visitRoot, cutting, cover, SeenBound}
+use Rattle.cutting.specs.Cover.{Found, descendants, leftOut, takenFull, takenPartial, cutInto, four, parted, visit, visitRoot, cutting, cover, coverOf, SeenBound}
 
 by-class : (c : Class) {X : Type 0} → (c ≡ Outside → X) → (c ≡ Partial → X) → (c ≡ Full → X) → X
 by-class Outside f g h = f refl
@@ -293,5 +293,5 @@ module _ (g : Region) where
       omega (arith, s 0, s 1, s 2, s 3, s 4, s 5, s 6, s 7)
 
 pub seen-bound : SeenBound
-unfolding cover
+unfolding coverOf
 seen-bound f x a = cutting-seen (x .region) (x .depth) (leb-true 1 (x .depth) (and-left (leb 1 (x .depth)) (leb (x .depth) 12) (read-depth f x a)))

@@ -4,7 +4,8 @@
 --   visit n g t i   the cutting of the trixel t with identifier i, n levels above the depth, for the region g
 --   cutting d g     the cutting of the eight roots to the depth d, in identifier order
 --   Cover           the outer and the inner list, and seen
---   cover x         the cover of a file that was read
+--   coverOf d b g   the cover of the region g to the depth d, with the budget b as a header has it
+--   cover x         the cover of a file that was read: by its depth, budget and region
 --   countsOf c      both counts and seen; countsList: as three numbers
 --   bothListed b c  the two lists in a lent list
 --   SeenBound       seen is at most 8(4^depth − 1)/3 (proofs/CuttingLaws)
@@ -92,8 +93,11 @@ pub record Cover : Type 0 where
 abbrev pub listed : ℕ → Found → Cover
 listed b a = record { outer = outerOf b (a .accepted); inner = innerOf b (a .full); seen = a .seen }
 
-unfoldable pub cover : File → Cover
-cover x = listed (budgetOf (x .budget)) (cutting (x .depth) (x .region))
+unfoldable pub coverOf : ℕ → ℕ → Region → Cover
+coverOf d b g = listed (budgetOf b) (cutting d g)
+
+abbrev pub cover : File → Cover
+cover x = coverOf (x .depth) (x .budget) (x .region)
 
 -- ---- the counts, and the lists in a lent list: the outer list at element 0, the inner list at element 2 × b
 

@@ -23,7 +23,7 @@ use Rattle.region.proofs.GoodRegions.{accepted-good}
 use Rattle.region.proofs.FilledLaws.{accepted-filled, accepted-few}
 use Rattle.region_reader.proofs.ReadAnswers.{accepted-total}
 use Rattle.cutting.specs.declared.Counts.{Counts}
-use Rattle.cutting.specs.Cover.{cutting, listed, cover, countsOf, bothListed}
+use Rattle.cutting.specs.Cover.{cutting, listed, cover, coverOf, countsOf, bothListed}
 use Rattle.cutting_walk.specs.Walk.{RowsOf, SomeRows, CoversRows}
 use Rattle.htm.specs.Answers.{coverInto, coverAnswer, bothLists, coverAfter}
 
@@ -78,7 +78,7 @@ module _ (f before : List ℕ) where
 
       pub covered : 4 * budgetOf (d .budget) ≤ length before → {c : Counts} {after : List ℕ} → CoversRows (d .count) decoded (budgetOf (d .budget)) (d .depth) before c after
           → (gives c ≡ coverAnswer f before) × (after ≡ coverAfter f before)
-      unfolding cover
+      unfolding coverOf
       covered h {c} {after} k =
           let x = accepted .0 in
           let a = answered (gives x) (into (gives x) (accepted .1) ∙ ap (λ t. check Space t (gives x)) (le-leb (4 * budgetOf (x .budget)) (length before) (omega (arith, budget)))) in

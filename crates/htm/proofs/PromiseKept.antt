@@ -1,36 +1,37 @@
 -- The promise is kept: demand 3, for every vector and every accepted file, in one theorem.
 -- The path of the point finds its identifier in the cutting's lists (CuttingLaws), and the budget's rules keep what is needed (Sound of ranges). Assumes nothing.
+use Prim.Native.Nat.{ℕ}
 use Rattle.vector.specs.declared.Vec3.{Vec3}
 use Rattle.vector.proofs.VectorLaws.{Long, vector-long}
 use Rattle.mesh.specs.Lookup.{identifier, lookup}
-use Rattle.region.specs.Regions.{holds}
+use Rattle.region.specs.Regions.{Region, holds}
 use Rattle.region.specs.Budgets.{budgetOf}
-use Rattle.region.specs.Reader.{File}
 use Rattle.region.proofs.BudgetLaws.{budget-one}
 use Rattle.region.proofs.ReaderLaws.{read-depth}
 use Rattle.ranges.specs.Lists.{outerOf, innerOf}
 use Rattle.ranges.proofs.Sound.{Has, outer-few, inner-few, inner-only, outer-separate, inner-separate, outer-all}
 use Rattle.ranges.proofs.ListLaws.{some-has, in-exactly-one, separate-proper}
-use Rattle.cutting.specs.Cover.{cutting, cover}
+use Rattle.cutting.specs.Cover.{cutting, coverOf}
 use Rattle.htm.specs.Promise.{Kept, Promise}
 use Rattle.cutting.proofs.CuttingLaws.{accepted-ascends, full-ascends, cutting-accepts, cutting-holds}
 
-kept : (x : File) (p : Vec3) → Long p → Kept (identifier p (x .depth)) (cover x .outer) (cover x .inner) (budgetOf (x .budget)) (holds (x .region) p)
-unfolding cover
-kept x p l =
-    let i = identifier p (x .depth) in
-    let B = budgetOf (x .budget) in
-    let one = budget-one (x .budget) in
-    let A = cutting (x .depth) (x .region) .accepted in
-    let F = cutting (x .depth) (x .region) .full in
-    let up = accepted-ascends (x .region) (x .depth) in
-    let fup = full-ascends (x .region) (x .depth) in
+-- of any depth, budget and region
+pub kept : (d b : ℕ) (g : Region) (p : Vec3) → Long p → Kept (identifier p d) (coverOf d b g .outer) (coverOf d b g .inner) (budgetOf b) (holds g p)
+unfolding coverOf
+kept d b g p l =
+    let i = identifier p d in
+    let B = budgetOf b in
+    let one = budget-one b in
+    let A = cutting d g .accepted in
+    let F = cutting d g .full in
+    let up = accepted-ascends g d in
+    let fup = full-ascends g d in
     record {
       inner-held = λ e.
           let h : Has (innerOf B F) i = some-has i (innerOf B F) e in
-          cutting-holds (x .region) (x .depth) p l (inner-only B one F (h .0) i (h .1));
+          cutting-holds g d p l (inner-only B one F (h .0) i (h .1));
       held-outer = λ e.
-          let a = cutting-accepts (x .region) (x .depth) p l e in
+          let a = cutting-accepts g d p l e in
           let h : Has (outerOf B A) i = outer-all B one A up (a .0) i (a .1) in
           in-exactly-one i (outerOf B A) (h .0) (outer-separate B one A up) (h .1);
       outer-list = separate-proper B (outerOf B A) (outer-separate B one A up) (outer-few B one A);
@@ -39,4 +40,4 @@ kept x p l =
 
 pub promise-kept : Promise
 unfolding lookup
-promise-kept p f x v r = (identifier p (x .depth), rw (read-depth f x r, v), kept x p (vector-long p v))
+promise-kept p f x v r = (identifier p (x .depth), rw (read-depth f x r, v), kept (x .depth) (x .budget) (x .region) p (vector-long p v))
