@@ -1,5 +1,6 @@
 // What is measured once: of a halfspace f, D, G and f·f − D², of a trixel its rays with their heights and the sign of V. The rules stand in
 // classify/specs/Shape, what is kept in specs/Measures.
+use limits::UNSIGNED_K as K;
 use mesh::Trixel;
 use vector::Vec3;
 ghost use mathlib.Core.Path.{_≡_};
@@ -16,8 +17,6 @@ ghost use Rattle.region.specs.Building.{isOffset};
 ghost use Rattle.classify.specs.Shape.{fOf, DOf, GOf, ray0};
 ghost use Rattle.classify_measures.specs.Measures as rule;
 ghost use Rattle.classify_measures.specs.Measures.{upperSquare, heightOf, IsRay, RaysOf};
-
-const K: u64 = 1048576;
 
 // What belongs to a halfspace: f and d, D as `low`, G as `high`, and f·f − D² as `rest`.
 pub struct PreparedHalfspace {

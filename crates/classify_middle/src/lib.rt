@@ -2,21 +2,19 @@
 // what is kept stands in specs/Middle.
 use classify_measures::Ray;
 use classify_measures::TrixelRays;
+use limits::UNSIGNED_K as K;
 use mesh::Trixel;
 use vector::Vec3;
 ghost use mathlib.Core.Path.{_≡_};
-ghost use mathlib.Core.Bool.{true};
 ghost use Prim.Native.Nat.{_-_, _*_, _^_, _≤_};
 ghost use Rattle.algebra.proofs.Sizes.{Upto};
 ghost use Rattle.vector.specs.Numbers.{Kℕ};
 ghost use Rattle.vector.proofs.Sizes.{AtMost, Small};
 ghost use Rattle.vector.specs.Vectors as vectors;
 ghost use Rattle.mesh_trixels.specs.Corners.{SmallTrixel};
-ghost use Rattle.classify.specs.Shape.{positive, ahead, bOf};
+ghost use Rattle.classify.specs.Shape.{bOf};
 ghost use Rattle.classify_measures.specs.Measures.{RaysOf};
 ghost use Rattle.classify_middle.specs.Middle.{rootAbove, clearanceOf, IsBoundingCap, reachAll, greatestReach, Bounded, Spanned, capAhead, capBehind};
-
-const K: u64 = 1048576;
 
 const NEVER: i64 = 4611686018427387904;
 

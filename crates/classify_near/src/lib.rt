@@ -3,6 +3,8 @@ use classify::Class;
 use classify_measures::PreparedHalfspace;
 use classify_measures::TrixelRays;
 use classify_places::Near;
+use limits::CONVEXES;
+use limits::HALFSPACES;
 use mesh::Trixel;
 ghost use mathlib.Core.Path.{_≡_};
 ghost use Prim.Native.Nat.{_+_, _*_, _≤_, _<_};
@@ -191,8 +193,8 @@ pub fn narrowed(
 pub fn class_near(
     t: Trixel,
     s: TrixelRays,
-    xs: &[i64; 3584],
-    ends: &[u64; 64],
+    xs: &[i64; 7 * HALFSPACES],
+    ends: &[u64; CONVEXES],
     n: usize,
     ys: &[i64; 224],
     marks: &[u64; 32],

@@ -2,10 +2,11 @@
 use classify::Class;
 use classify_measures::PreparedHalfspace;
 use classify_middle::BoundingCap;
+use limits::UNSIGNED_K as K;
 use mesh::Trixel;
 use vector::Vec3;
 ghost use mathlib.Core.Path.{_≡_};
-ghost use Prim.Native.Nat.{_+_, _*_, _≤_, _<_, _^_};
+ghost use Prim.Native.Nat.{_+_, _*_, _≤_, _^_};
 ghost use Rattle.classify_places.specs.Near.{Placed, placeIn, closeTo, settledBy};
 ghost use lib.IntN.{natAbs, _-ℤ_};
 ghost use Rattle.algebra.proofs.Sizes.{Upto};
@@ -123,5 +124,5 @@ pub fn close(r: Near, t: Trixel, m: BoundingCap) -> bool
     let b = m.b;
     let p = r.b;
     let n = steps(b, p) + 2 * step(m.reach, r.reach);
-    m.clearance + (1048576 * n) as i64 <= r.margin
+    m.clearance + (K * n) as i64 <= r.margin
 }

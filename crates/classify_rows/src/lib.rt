@@ -1,6 +1,7 @@
 // From rows to prepared halfspaces: the two lists that specs/PreparedLists of classify_region describes.
 use classify_measures::PreparedHalfspace;
-use vector::Vec3;
+use limits::CONVEXES;
+use limits::HALFSPACES;
 ghost use mathlib.Core.Path.{_≡_};
 ghost use Prim.Native.Nat.{_+_, _*_, _≤_, _<_};
 ghost use lib.ListN.{length, getD, drop};
@@ -16,13 +17,9 @@ fn prepared_of(rows: &[i32], k: usize) -> PreparedHalfspace
     requires { ⌜ FitRow (drop k (now rows)) ⌝ }
     ensures { λ r. ⌜ r ≡ rule.prepared (halfspaceAt (drop k (now (rows .entry)))) ⌝ }
 {
-    let x = region_rows::number_at(rows, k + 1);
-    let y = region_rows::number_at(rows, k + 2);
-    let z = region_rows::number_at(rows, k + 3);
-    classify_measures::prepared(
-        Vec3 { x: x, y: y, z: z },
-        region_rows::number_at(rows, k + 4),
-    )
+    let h = region_rows::halfspace_at(rows, k);
+    let n = h.n;
+    classify_measures::prepared(n, h.d)
 }
 
 // The number of the convex of the row that begins at number k.
@@ -72,7 +69,12 @@ fn prepare_rows(rows: &[i32], n: usize, xs: &mut [i64], ends: &mut [u64])
 }
 
 // The same, of arrays with room for the rows of every accepted file.
-pub fn prepare(rows: &[i32; 2560], n: usize, xs: &mut [i64; 3584], ends: &mut [u64; 64])
+pub fn prepare(
+    rows: &[i32; 5 * HALFSPACES],
+    n: usize,
+    xs: &mut [i64; 7 * HALFSPACES],
+    ends: &mut [u64; CONVEXES],
+)
     requires { ⌜ n ≤ 512 ⌝ }
     requires { ⌜ FitRows n (now rows) ⌝ }
     ensures { λ _. ⌜ now (xs .exit) ≡ stored 0 n (now (rows .entry)) (now (xs .entry)) ⌝ }

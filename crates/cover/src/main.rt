@@ -1,9 +1,10 @@
 // The cover of the region file on standard input, as lines on standard output (crate print_cover has their shape). A file that cannot be read to its
 // end has no answer.
+use limits::LONGEST;
 use streams::Input;
 
 // One byte more than the longest region file has, so that a longer one is seen to be longer.
-const BYTES: usize = 10509;
+const BYTES: usize = LONGEST + 1;
 
 fn main() {
     let mut file = [0u8; BYTES];

@@ -7,14 +7,15 @@ use native.Mathlib.Omega.{arith}
 use mathlib.Core.Path.{_≡_, refl, sym, ap, _∙_, subst}
 use mathlib.Core.Bool.{Bool, true, false, cond, true≢false}
 use mathlib.Core.List.{List, [], _∷_, _++_}
-use lib.Dec.{lit<, leb, ltb}
+use lib.Dec.{lit<, ltb}
 use lib.IntN.{pos, natAbs}
-use borrow.Author.Tests.{leb-true, ltb-true, ltb-false}
+use borrow.Author.Tests.{ltb-true, ltb-false}
 use Rattle.algebra.proofs.Ring.{con, _:+_, _:*_}
 use Rattle.algebra.proofs.Claim.{_:≡_, ring}
 use Rattle.algebra.proofs.Inequalities.{`1}
-use Rattle.algebra.proofs.Tests.{split, and-left}
+use Rattle.algebra.proofs.Tests.{split}
 use Rattle.vector.specs.declared.Vec3.{Vec3}
+use Rattle.vector.proofs.DepthLaws.{depth-range}
 use Rattle.vector.proofs.VectorLaws.{Long}
 use Rattle.mesh.specs.declared.Trixel.{Trixel}
 use Rattle.mesh.specs.Trixels.{child, rootTrixel}
@@ -294,4 +295,4 @@ module _ (g : Region) where
 
 pub seen-bound : SeenBound
 unfolding coverOf
-seen-bound f x a = cutting-seen (x .region) (x .depth) (leb-true 1 (x .depth) (and-left (leb 1 (x .depth)) (leb (x .depth) 12) (read-depth f x a)))
+seen-bound f x a = cutting-seen (x .region) (x .depth) (depth-range (x .depth) (read-depth f x a) .0)

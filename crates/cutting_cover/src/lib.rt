@@ -1,8 +1,10 @@
 // The cover of rows: the eight roots one after the other, the end of the inner list, the counts. The rule is `listed` and `cutting` of
 // cutting/specs/Cover.
 use cutting::Counts;
+use limits::CONVEXES;
+use limits::HALFSPACES;
 ghost use mathlib.Core.Path.{_≡_};
-ghost use Prim.Native.Nat.{_+_, _*_, _^_, _≤_, _<_};
+ghost use Prim.Native.Nat.{_*_, _^_, _≤_};
 ghost use lib.ListN.{length, drop};
 ghost use Rattle.answer.specs.Lent.{put};
 ghost use Rattle.classify_region.specs.PreparedLists.{Ready};
@@ -29,8 +31,8 @@ fn power(n: u32) -> u64
 // The eight roots, in identifier order. No halfspaces are known to be open.
 fn visit_roots(
     depth: u32,
-    xs: &[i64; 3584],
-    ends: &[u64; 64],
+    xs: &[i64; 7 * HALFSPACES],
+    ends: &[u64; CONVEXES],
     n: usize,
     budget: usize,
     out: &mut [u64],
@@ -84,8 +86,8 @@ fn end_inner(out: &mut [u64], budget: usize, s: &[u64; 10]) -> usize
 // The cover of the region that was prepared to `xs` and `ends`.
 fn cover_prepared(
     depth: u32,
-    xs: &[i64; 3584],
-    ends: &[u64; 64],
+    xs: &[i64; 7 * HALFSPACES],
+    ends: &[u64; CONVEXES],
     n: usize,
     budget: usize,
     out: &mut [u64],
@@ -106,14 +108,20 @@ fn cover_prepared(
 }
 
 // The cover of the region of n rows: the outer list from element 0 of `out`, the inner list from element 2 × budget.
-pub fn cover(depth: u32, rows: &[i32; 2560], n: usize, budget: usize, out: &mut [u64]) -> Counts
+pub fn cover(
+    depth: u32,
+    rows: &[i32; 5 * HALFSPACES],
+    n: usize,
+    budget: usize,
+    out: &mut [u64],
+) -> Counts
     requires { ⌜ (1 ≤ depth) × (depth ≤ 12) ⌝ }
     requires { ⌜ SomeRows n (now rows) ⌝ }
     requires { ⌜ (1 ≤ budget) × (4 * budget ≤ length (now out)) ⌝ }
     ensures { λ r. ⌜ CoversRows n (now (rows .entry)) budget depth (now (out .entry)) r (now (out .exit)) ⌝ }
 {
-    let mut xs = [0i64; 3584];
-    let mut ends = [0u64; 64];
+    let mut xs = [0i64; 7 * HALFSPACES];
+    let mut ends = [0u64; CONVEXES];
     classify_rows::prepare(rows, n, &mut xs, &mut ends);
     cover_prepared(depth, &xs, &ends, n, budget, out)
 }

@@ -2,6 +2,8 @@
 // found stands in specs/Walk, a trixel as numbers in specs/Kept.
 use classify::Class;
 use classify_measures::TrixelRays;
+use limits::CONVEXES;
+use limits::HALFSPACES;
 use mesh::Trixel;
 use vector::Vec3;
 ghost use mathlib.Core.Path.{_≡_};
@@ -65,8 +67,8 @@ pub fn visit(
     id: u64,
     left: u32,
     span: u64,
-    xs: &[i64; 3584],
-    es: &[u64; 64],
+    xs: &[i64; 7 * HALFSPACES],
+    es: &[u64; CONVEXES],
     n: usize,
     ys: &[i64; 224],
     ms: &[u64; 32],
@@ -130,8 +132,8 @@ fn open_children(
     id: u64,
     left: u32,
     span: u64,
-    xs: &[i64; 3584],
-    es: &[u64; 64],
+    xs: &[i64; 7 * HALFSPACES],
+    es: &[u64; CONVEXES],
     n: usize,
     b: usize,
     out: &mut [u64],
@@ -178,8 +180,8 @@ fn children(
     id: u64,
     left: u32,
     span: u64,
-    xs: &[i64; 3584],
-    es: &[u64; 64],
+    xs: &[i64; 7 * HALFSPACES],
+    es: &[u64; CONVEXES],
     n: usize,
     ys: &[i64; 224],
     ms: &[u64; 32],

@@ -4,11 +4,10 @@ use Prim.Native.Nat.{ℕ, _+_, _*_, _≤_, _<_}
 use native.Mathlib.Omega.{arith}
 use mathlib.Core.Path.{_≡_, sym, ap, subst, _∙_}
 use mathlib.Core.List.{List}
-use lib.Dec.{leb}
 use lib.ListN.{length, drop}
 use lib.IntN.{ℤ}
-use borrow.Author.Tests.{leb-true, le-leb, lt-leb}
-use Rattle.algebra.proofs.Tests.{and-left, and-right}
+use borrow.Author.Tests.{le-leb, lt-leb}
+use Rattle.vector.proofs.DepthLaws.{depth-range}
 use Rattle.answer.specs.Answer.{Answer, refused, gives, check, then, with-value, Space}
 use Rattle.answer.specs.Lent.{put, stored, room}
 use Rattle.answer.proofs.AnswerLaws.{value-gives, value-refused}
@@ -55,7 +54,7 @@ module _ (f before : List ℕ) where
         let x = accepted .0 in
         let t = read-depth f x (accepted .1) in
         let same : x .depth ≡ d .depth = ap (λ z. z .depth) (accepted .2) in
-        subst (λ n. (1 ≤ n) × (n ≤ 12)) same (leb-true 1 (x .depth) (and-left (leb 1 (x .depth)) (leb (x .depth) 12) t), leb-true (x .depth) 12 (and-right (leb 1 (x .depth)) (leb (x .depth) 12) t))
+        subst (λ n. (1 ≤ n) × (n ≤ 12)) same (depth-range (x .depth) t)
 
     -- `decoded` is the array that the file was decoded to
     module _ (zeros decoded : List ℤ) (w : (x : File) → read f ≡ gives x → decoded ≡ put 0 (rows (x .region)) zeros) where

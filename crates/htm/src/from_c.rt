@@ -3,6 +3,7 @@
 use crate::CoverOf;
 use answer::Number;
 use answer::SPACE;
+use limits::HALFSPACES;
 use mesh::Corners;
 use mesh::CornersOf;
 use region::Header;
@@ -146,7 +147,7 @@ pub extern "C" fn htm_holds(file: &[u8], x: i32, y: i32, z: i32) -> i64
 fn without_room(file: &[u8]) -> i64
     ensures { λ r. ⌜ (r ≡ statusOf (refusalOf (now (file .entry)))) × Upto (2 ^ 32) r ⌝ }
 {
-    let mut rows = [0i32; 2560];
+    let mut rows = [0i32; 5 * HALFSPACES];
     let said = region_reader::decode(file, &mut rows);
     match said {
         HeaderOf::Gives(_) => minus(SPACE),

@@ -3,12 +3,12 @@
 use answer::Number;
 use answer::SPACE;
 use cutting::Counts;
+use limits::HALFSPACES;
 use mesh::CornersOf;
 use region::HeaderOf;
 use region::HeldOf;
 use vector::Vec3;
 ghost use mathlib.Core.Path.{_≡_};
-ghost use Prim.Native.Nat.{_^_, _<_};
 ghost use Rattle.answer.specs.Calls.{numberOf};
 ghost use Rattle.vector.specs.Vectors.{vec};
 ghost use Rattle.mesh.specs.Lookup as mesh_lookup;
@@ -16,7 +16,6 @@ ghost use Rattle.mesh.specs.Names.{identifierOf};
 ghost use Rattle.mesh.specs.Identifiers as identifiers;
 ghost use Rattle.mesh.specs.Answers.{cornersGiven, nameAnswer, nameAfter};
 ghost use Rattle.region.specs.Answers.{headerGiven, readAnswer, readAfter, writeAnswer, writeAfter, heldGiven, pointTest};
-ghost use Rattle.region.specs.Budgets.{budgetOf};
 ghost use Rattle.htm.specs.Answers.{coverGiven, coverAnswer, coverAfter};
 
 pub mod from_c;
@@ -90,24 +89,17 @@ pub fn holds(file: &[u8], x: i32, y: i32, z: i32) -> HeldOf
     region_points::point_test(file, pointing(x, y, z))
 }
 
-// The budget that is counted with: 0 means 64.
-pub fn budget_of(written: u32) -> usize
-    ensures { λ r. ⌜ (r ≡ budgetOf written) × (r < 2 ^ 32) ⌝ }
-{
-    if written == 0 { 64 } else { written as usize }
-}
-
 // The cover of a region file: the outer list from element 0 of `out`, the inner list from element 2 × budget, pairs low and high; both counts and
 // seen. The file's refusals, then 10 where `out` has fewer than 4 × budget elements.
 pub fn cover(file: &[u8], out: &mut [u64]) -> CoverOf
     ensures { λ r. ⌜ coverGiven r ≡ coverAnswer (now (file .entry)) (now (out .entry)) ⌝ }
     ensures { λ r. ⌜ now (out .exit) ≡ coverAfter (now (file .entry)) (now (out .entry)) ⌝ }
 {
-    let mut rows = [0i32; 2560];
+    let mut rows = [0i32; 5 * HALFSPACES];
     let said = region_reader::decode(file, &mut rows);
     match said {
         HeaderOf::Gives(h) => {
-            let budget = budget_of(h.budget);
+            let budget = limits::budget_of(h.budget);
             if out.len() < 4 * budget {
                 return CoverOf::Refused(SPACE);
             }

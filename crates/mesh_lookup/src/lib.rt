@@ -7,7 +7,7 @@ use mesh::Corners;
 use vector::Vec3;
 ghost use mathlib.Core.Path.{_≡_};
 ghost use mathlib.Core.Bool.{cond};
-ghost use Prim.Native.Nat.{_+_, _*_, _≤_, _<_};
+ghost use Prim.Native.Nat.{_≤_, _<_};
 ghost use lib.IntN.{pos};
 ghost use lib.Signed.{leZ};
 ghost use Rattle.answer.specs.Calls.{numberOf};
@@ -192,10 +192,7 @@ fn identifier(p: Vec3, depth: u32) -> u64
 pub fn lookup(p: Vec3, depth: u32) -> Number
     ensures { λ r. ⌜ numberOf r ≡ rule.lookup p depth ⌝ }
 {
-    if depth < 1 {
-        return Number::Refused(DEPTH);
-    }
-    if 12 < depth {
+    if !limits::is_depth(depth) {
         return Number::Refused(DEPTH);
     }
     if vector_products::is_vector(p) {

@@ -5,11 +5,14 @@ use native.Mathlib.Nat.{pow-suc}
 use native.Mathlib.Omega.{arith}
 use mathlib.Core.Path.{_≡_, refl, sym, ap, subst, _∙_}
 use mathlib.Core.Bool.{Bool, true, false, cond}
-use lib.Dec.{eqb}
-use borrow.Author.Tests.{eq-eqb, ne-eqb, lt-ltb, le-ltb, lt-leb, le-leb}
+use lib.Dec.{eqb, ltb}
+use borrow.Author.Tests.{eq-eqb, ne-eqb, ltb-true, ltb-false, lt-ltb, le-ltb, lt-leb, le-leb}
+use Rattle.algebra.proofs.Tests.{split}
 use Rattle.answer.specs.Answer.{refused, gives, Name}
 use Rattle.vector.specs.declared.Vec3.{Vec3}
+use Rattle.vector.specs.Numbers.{isDepth}
 use Rattle.vector.specs.Vectors.{plus, unit}
+use Rattle.vector.proofs.DepthLaws.{depth-range, depth-beyond}
 use Rattle.mesh.specs.declared.Trixel.{Trixel}
 use Rattle.mesh.specs.declared.Corners.{Corners}
 use Rattle.mesh.specs.declared.Cut.{Cut}
@@ -100,20 +103,20 @@ trixel-child n i f = let s : suc (n - 1) ≡ n = omega arith in ap (λ m. trixel
 -- ---- the answer, by the depth
 
 module _ (i d : ℕ) (is : d ≡ depthOf i) where
-  pub corners-none : d ≡ 0 → refused Name ≡ corners i
+  pub corners-none : isDepth d ≡ false → refused Name ≡ corners i
   unfolding corners
-  corners-none e = rw (le-ltb 0 (depthOf i) (omega arith))
+  corners-none e =
+      split (ltb 0 d)
+      (λ t. rw (lt-ltb 0 (depthOf i) (omega (arith, ltb-true 0 d t)), lt-leb (depthOf i) 12 (omega (arith, depth-beyond d e (ltb-true 0 d t)))))
+      (λ f. rw (le-ltb 0 (depthOf i) (omega (arith, ltb-false 0 d f))))
 
-  pub corners-deep : 12 < d → refused Name ≡ corners i
+  pub corners-given : (c : Corners) → isDepth d ≡ true → c ≡ cornersOf (trixel (d - 1) i) → gives c ≡ corners i
   unfolding corners
-  corners-deep h = rw (lt-ltb 0 (depthOf i) (omega arith), lt-leb (depthOf i) 12 (omega arith))
-
-  pub corners-given : (c : Corners) → (d ≡ 0 → ⊥) → d ≤ 12 → c ≡ cornersOf (trixel (d - 1) i) → gives c ≡ corners i
-  unfolding corners
-  corners-given c f h e =
+  corners-given c t e =
+      let h = depth-range d t in
       rw (lt-ltb 0 (depthOf i) (omega arith), le-leb (depthOf i) 12 (omega arith)) (ap gives e ∙ ap (λ m. gives (cornersOf (trixel (m - 1) i))) is)
 
-  pub level-range : (d ≡ 0 → ⊥) → (8 * 4 ^ (d - 1) ≤ i) × (i < 16 * 4 ^ (d - 1))
+  pub level-range : 1 ≤ d → (8 * 4 ^ (d - 1) ≤ i) × (i < 16 * 4 ^ (d - 1))
   level-range f =
       let t : identifierAt (depthOf i) i ≡ true = depth-found i (lt-ltb 0 (depthOf i) (omega arith)) in
       let at : identifierAt d i ≡ true = subst (λ m. identifierAt m i ≡ true) (sym is) t in

@@ -1,13 +1,15 @@
 // Trixels in code: roots, midpoints, cuts and children, with their normals and by corners alone; the corners of an identifier. The rules stand in
 // mesh/specs/Trixels and Identifiers, what is said of corners alone in specs/Corners.
 use answer::NAME;
+use limits::K;
+use limits::MINUS_K;
 use mesh::Corners;
 use mesh::CornersOf;
 use mesh::Cut;
 use mesh::Trixel;
 use vector::Vec3;
 ghost use mathlib.Core.Path.{_≡_};
-ghost use Prim.Native.Nat.{_*_, _-_, _^_, _≤_, _<_};
+ghost use Prim.Native.Nat.{_*_, _^_, _≤_, _<_};
 ghost use Rattle.vector.proofs.Sizes.{Small};
 ghost use Rattle.vector.specs.Vectors.{unit, plus};
 ghost use Rattle.mesh.specs.Trixels as rule;
@@ -15,10 +17,6 @@ ghost use Rattle.mesh.specs.Identifiers as identifiers;
 ghost use Rattle.mesh_trixels.specs.Corners.{tripleOf, bare, SmallCorners, SmallTrixel, SmallCut};
 ghost use Rattle.mesh.specs.Answers.{cornersGiven};
 ghost use Rattle.vector.specs.Vectors as vectors;
-
-const K: i64 = 1048576;
-
-const MINUS_K: i64 = -1048576;
 
 // Three corners.
 pub fn triple(a: Vec3, b: Vec3, c: Vec3) -> Corners
@@ -127,10 +125,7 @@ pub fn corners_of(id: u64) -> CornersOf
     ensures { λ r. ⌜ cornersGiven r ≡ identifiers.corners id ⌝ }
 {
     let depth = mesh_names::depth_of(id);
-    if depth == 0 {
-        return CornersOf::Refused(NAME);
-    }
-    if 12 < depth {
+    if !limits::is_depth(depth) {
         return CornersOf::Refused(NAME);
     }
     CornersOf::Gives(corners_below(id, depth - 1))

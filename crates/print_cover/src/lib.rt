@@ -1,6 +1,7 @@
 // The lines of a cover, for program cover and for the command of query.
 use cutting::Counts;
 use htm::CoverOf;
+use limits::LARGEST_BUDGET;
 use print::Buffer;
 use region::Header;
 use region::HeaderOf;
@@ -9,8 +10,8 @@ ghost use Rattle.answer.specs.Answer.{gives};
 ghost use Rattle.region.specs.Reader.{File, Accepted};
 ghost use Rattle.region.specs.Answers.{headerGiven};
 
-// Two lists of pairs, each within the largest budget, 2048.
-const ELEMENTS: usize = 8192;
+// Two lists of pairs, each within the largest budget.
+const ELEMENTS: usize = 4 * LARGEST_BUDGET as usize;
 
 pub fn lines(out: &mut Buffer, at: usize, file: &[u8], part: u8) -> usize {
     let mut lists = [0u64; ELEMENTS];
@@ -76,7 +77,7 @@ fn labelled(out: &mut Buffer, at: usize, label: &[u8], n: u64) -> usize {
 
 // The element of the lent list at which the inner list begins: twice the budget.
 fn inner_start(budget: u32) -> usize {
-    print::least(htm::budget_of(budget) as u64 * 2, ELEMENTS)
+    print::least(limits::budget_of(budget) as u64 * 2, ELEMENTS)
 }
 
 // The pairs of so many ranges from an element on.

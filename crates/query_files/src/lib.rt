@@ -1,15 +1,14 @@
 // The commands of query that turn region files into rows and back: rows, file. Each is answered from the word at `next` on.
 use answer::Number;
+use limits::HALFSPACES;
+use limits::LONGEST;
 use print::Buffer;
 use query_words::MOST;
 use query_words::NaturalAt;
 use region::HeaderOf;
 
-// The most bytes of a region file.
-const BYTES: usize = 10508;
-
 // The most numbers in the rows of a region file.
-const ROWS: usize = 2560;
+const ROWS: usize = 5 * HALFSPACES;
 
 // rows HEX
 pub fn rows(line: &[u8], next: usize, out: &mut Buffer, at: usize) -> usize {
@@ -60,10 +59,10 @@ fn write(
     if all.len() < n {
         return print::usage(out, at);
     }
-    let mut bytes = [0u8; BYTES];
+    let mut bytes = [0u8; LONGEST];
     match htm::write(depth, budget, &all[0..n], &mut bytes) {
         Number::Gives(count) => {
-            let k = print::least(count, BYTES);
+            let k = print::least(count, LONGEST);
             print_region::file(out, at, &bytes[0..k])
         },
         Number::Refused(k) => print::refused(out, at, k),

@@ -8,7 +8,7 @@ ghost use lib.ListN.{length};
 ghost use Rattle.ranges.specs.Lists.{gaps, joinAt, size};
 ghost use Rattle.ranges.proofs.Pushing.{outerPush, outerFull, innerFull, innerClose, innerPush, innerEnd};
 ghost use Rattle.ranges.specs.Ranges.{range, rangesIn};
-ghost use Rattle.ranges_stored.specs.Stored.{sizesIn, written, Writes, Hinted, nothingYet, stateOf, Keeps};
+ghost use Rattle.ranges_stored.specs.Stored.{sizesIn, written, Writes, Hinted, stateOf, Keeps};
 
 // How many ranges stand in a list, and what is known of their gaps or sizes.
 pub struct Pushed {
@@ -92,19 +92,6 @@ pub fn outer_push(
     }
     let next = outer_full(list, n, low, high, hint);
     Pushed { n: n, hint: next }
-}
-
-// Before the first range.
-pub fn nothing_yet() -> Pending
-    ensures { λ r. ⌜ r ≡ nothingYet ⌝ }
-{
-    Pending {
-        n: 0,
-        some: false,
-        low: 0,
-        high: 0,
-        hint: ranges_stored::no_hint(),
-    }
 }
 
 // One range more, which grows no more, where the list is full, n being the budget: the shortest is dropped, the new one or another. The answer is

@@ -14,13 +14,15 @@ use Rattle.vector.specs.Numbers.{Kℕ, isDepth}
 use Rattle.vector.specs.Vectors.{vec, isVector}
 use Rattle.vector.proofs.SizeLaws.{between-upto}
 use Rattle.vector.proofs.VectorLaws.{vector-small}
-use Rattle.answer.specs.Answer.{Answer, gives, check, then, with-value, Long, Torn, Kind, Order, Depth, Budget, Crowd, Vector, Offset}
+use Rattle.answer.specs.Answer.{gives, check, then, with-value, Long, Torn, Order, Depth, Budget, Crowd, Vector, Offset}
 use Rattle.region.specs.declared.Halfspace.{Halfspace}
 use Rattle.region.specs.Regions.{Convex, Region}
 use Rattle.region.specs.Budgets.{isBudget}
 use Rattle.region.specs.Building.{isOffset, lastConvex, total, withConvex, withHalfspace, begun, filled, fewConvexes, add}
 use Rattle.region.specs.Bytes.{signedOf, signed, bitsOf, signedBytes}
-use Rattle.region.specs.Reader.{File, lengthOf, kindOf, payload, after, whole, known, framed, header, withRegion, halfspaceOf, recordIn, recordsIn, read, Accepted}
+use Rattle.region.specs.declared.Record.{Record}
+use Rattle.region.specs.Records.{recordOf}
+use Rattle.region.specs.Reader.{File, lengthOf, kindOf, payload, after, recordAt, headerIn, header, withRegion, halfspaceOf, partIn, recordIn, recordsIn, read, Accepted}
 use Rattle.region.specs.Writer.{headerBytes, convexBytes, halfspaceBytes, endBytes, halfspacesBytes, convexesBytes, fileOf}
 use Rattle.region.proofs.AddLaws.{Fine}
 
@@ -50,17 +52,22 @@ halfspace-back h rest f =
     let o = between-upto (h .d) (f .offset) in
     λ i. record { n = vec (signed-back (h .n .x) [] (b .x) i) (signed-back (h .n .y) [] (b .y) i) (signed-back (h .n .z) [] (b .z) i); d = signed-back (h .d) [] o i }
 
-framed-through : (rest : List ℕ) (a : Answer File) → whole rest ≡ true → known (kindOf rest) (lengthOf rest) ≡ true → framed rest a ≡ a
-framed-through rest a w k = ap (λ t. check Torn t (check Kind (known (kindOf rest) (lengthOf rest)) a)) w ∙ ap (λ t. check Kind t a) k
+-- a record that is whole, of a known kind and length
+module _ (rest : List ℕ) (r : Record) (least : 4 ≤ lengthOf rest) (most : lengthOf rest ≤ length rest) (known : recordOf (kindOf rest) (lengthOf rest) ≡ gives r) where
+  at-record : recordAt rest ≡ gives r
+  at-record =
+      let four = le-leb 4 (length rest) (omega arith) in
+      ap (λ t. check Torn t (recordOf (kindOf rest) (lengthOf rest)))
+      (and-both four (and-both (le-leb 4 (lengthOf rest) least) (le-leb (lengthOf rest) (length rest) most))) ∙ known
 
-whole-halfspace : (h : Halfspace) (rest : List ℕ) → whole (halfspaceBytes h ++ rest) ≡ true
-whole-halfspace h rest = and-both (le-leb 4 (length (halfspaceBytes h ++ rest)) (omega arith)) (and-both refl (le-leb 20 (length (halfspaceBytes h ++ rest)) (omega arith)))
+  in-record : (x : File) → recordIn x rest ≡ partIn x r (payload rest) (after rest)
+  unfolding recordIn
+  in-record x = ap (λ a. then a (λ r. partIn x r (payload rest) (after rest))) at-record
 
 halfspace-record : (x : File) (h : Halfspace) (rest : List ℕ) → Fine h
     → recordIn x (halfspaceBytes h ++ rest) ≡ check Order (begun (x .region)) (with-value (withRegion x) (add (x .region) h))
-unfolding recordIn
 halfspace-record x h rest b =
-    framed-through (halfspaceBytes h ++ rest) _ (whole-halfspace h rest) refl
+    in-record (halfspaceBytes h ++ rest) Record.Halfspace (omega arith) (omega arith) refl x
     ∙ ap (λ k. check Order (begun (x .region)) (with-value (withRegion x) (add (x .region) k))) (halfspace-back h rest b)
 
 -- ---- a region and its last convex
@@ -137,13 +144,9 @@ AllFull (c ∷ cs) = AllFine c × (1 ≤ length c) × (length c ≤ 100) × AllF
 abbrev closed : Region → Bool
 closed g = cond (begun g) (filled g) true
 
-whole-convex : (rest : List ℕ) → whole (convexBytes ++ rest) ≡ true
-whole-convex rest = and-both (le-leb 4 (length (convexBytes ++ rest)) (omega arith)) (and-both refl (le-leb 4 (length (convexBytes ++ rest)) (omega arith)))
-
 convex-step : (d b : ℕ) (g : Region) (rest : List ℕ) → closed g ≡ true → length g < 64 → recordIn (file d b g) (convexBytes ++ rest) ≡ gives (file d b (g ++ [] ∷ []))
-unfolding recordIn
 convex-step d b g rest c l =
-    framed-through (convexBytes ++ rest) _ (whole-convex rest) refl
+    in-record (convexBytes ++ rest) Record.Convex (omega arith) (omega arith) refl (file d b g)
     ∙ ap (λ u. check Order u (check Crowd (fewConvexes (withConvex g)) (gives (file d b (withConvex g))))) c
     ∙ ap (λ u. check Crowd u (gives (file d b (withConvex g)))) (le-leb (length (withConvex g)) 64 (omega (arith, length-append g ([] ∷ []))))
 
@@ -178,13 +181,10 @@ end-step d b n g k f = ap (λ a. then a (λ y. gives y)) (ap (λ t. check Order 
 
 -- ---- the header
 
-whole-header : (d b : ℕ) (rest : List ℕ) → whole (headerBytes d b ++ rest) ≡ true
-whole-header d b rest = and-both (le-leb 4 (length (headerBytes d b ++ rest)) (omega arith)) (and-both refl (le-leb 8 (length (headerBytes d b ++ rest)) (omega arith)))
-
 header-step : (d b : ℕ) (rest : List ℕ) → isDepth d ≡ true → isBudget b ≡ true → header (headerBytes d b ++ rest) ≡ gives (file d b [])
 unfolding header
 header-step d b rest t u =
-    framed-through (headerBytes d b ++ rest) _ (whole-header d b rest) refl
+    ap (λ a. then a (λ r. headerIn r (payload (headerBytes d b ++ rest)))) (at-record (headerBytes d b ++ rest) Record.Header (omega arith) (omega arith) refl)
     ∙ ap₂ (λ x y. check Depth (isDepth x) (check Budget (isBudget y) (gives (file x y [])))) (two-bytes d) (two-bytes b)
     ∙ ap (λ x. check Depth x (check Budget (isBudget b) (gives (file d b [])))) t
     ∙ ap (λ x. check Budget x (gives (file d b []))) u

@@ -1,8 +1,8 @@
--- The rows of a region that is read lead back to it: the row of a halfspace is added as its record was, and a convex begins with its first row.
--- Assumes nothing.
+-- The rows of a region that is read lead back to it: the row of a halfspace is added as its record was, and a convex begins with its first row. So what an
+-- accepted file says is within all limits, and may be written. Assumes nothing.
 use Prim.Native.Nat.{ℕ, suc, _+_, _-_, _/_, _%_, _≤_, _<_}
 use native.Mathlib.Omega.{arith}
-use mathlib.Core.Path.{_≡_, refl, sym, ap, _∙_}
+use mathlib.Core.Path.{_≡_, refl, sym, ap, subst, _∙_}
 use mathlib.Core.Bool.{true, cond}
 use mathlib.Core.List.{List, [], _∷_, _++_, append-assoc, append-nil}
 use lib.ListN.{length, length-append}
@@ -11,10 +11,14 @@ use borrow.Author.Tests.{ltb-true, lt-ltb, le-leb, eq-eqb, ne-eqb}
 use Rattle.answer.specs.Answer.{gives, then}
 use Rattle.region.specs.declared.Halfspace.{Halfspace}
 use Rattle.region.specs.Regions.{Region}
-use Rattle.region.specs.Building.{lastConvex, total, withConvex, begun, filled, fewConvexes, add}
-use Rattle.region.proofs.RegionLaws.{convex-length, convex-last, rows-length}
+use Rattle.region.specs.Building.{lastConvex, total, withConvex, withHalfspace, begun, filled, fewConvexes, add}
 use Rattle.region.specs.Rows.{row, rowsFrom, rows, rowIn, rowsIn, regionOf}
-use Rattle.region.proofs.WriteBack.{Open, row-grown, open-of}
+use Rattle.region.specs.Reader.{File, Accepted}
+use Rattle.region.proofs.RegionLaws.{convex-length, convex-last, rows-length}
+use Rattle.region.proofs.AddLaws.{added}
+use Rattle.region.proofs.ReaderLaws.{accepted-keeps, accepted-ends}
+use Rattle.region.proofs.ReadBack.{Limited}
+use Rattle.region.proofs.WriteBack.{Open, row-grown, open-of, region-back}
 
 -- the rows of g lead from no region to g, whatever rows follow
 pub record Leads (g : Region) : Type 0 where
@@ -54,23 +58,28 @@ goes-on g h b few = rw (ne-eqb (length g - 1) (length g) (λ e. omega arith), lt
 
 -- ---- the region read so far: its rows lead to it, or it has a last convex more, with no halfspace yet
 
-pub data Listed : Region → Type 0 where
+data Listed : Region → Type 0 where
   full : (g : Region) → Leads g → Listed g
   fresh : (g : Region) → Leads g → fewConvexes (withConvex g) ≡ true → Listed (withConvex g)
 
-pub listed-none : Listed []
+listed-none : Listed []
 listed-none = full [] leads-none
 
 not-filled : (g : Region) → filled (withConvex g) ≡ true → ⊥
 not-filled g e = omega (arith, ltb-true 0 (length (lastConvex (withConvex g))) e, ap length (convex-last g))
 
-pub listed-convex : (g : Region) → Listed g → cond (begun g) (filled g) true ≡ true → fewConvexes (withConvex g) ≡ true → Listed (withConvex g)
+listed-convex : (g : Region) → Listed g → cond (begun g) (filled g) true ≡ true → fewConvexes (withConvex g) ≡ true → Listed (withConvex g)
 listed-convex g (full _ l) c few = fresh g l few
 listed-convex _ (fresh g l few) c _ = absurd (not-filled g (rw (lt-ltb 0 (length (withConvex g)) (omega (arith, convex-length g))) at c))
 
-pub listed-halfspace : (g r : Region) (h : Halfspace) → Listed g → 0 < length g → add g h ≡ gives r → Listed r
+listed-halfspace : (g r : Region) (h : Halfspace) → Listed g → 0 < length g → add g h ≡ gives r → Listed r
 listed-halfspace g r h (full _ l) b e = full r (leads-more g r (length g - 1) h l (goes-on g h b (l .within .convexes) ∙ e))
 listed-halfspace _ r h (fresh g l few) b e = full r (leads-more g r (length g) h l (opens g h few ∙ e))
+
+listed-more : (g r : Region) (h : Halfspace) → Listed g → add g h ≡ gives r → Listed r
+unfolding withHalfspace
+listed-more [] r h l e = subst Listed (added [] r h e .is) listed-none
+listed-more (c ∷ cs) r h l e = listed-halfspace (c ∷ cs) r h l (omega arith) e
 
 -- ---- at the end
 
@@ -80,7 +89,7 @@ last-total [] = omega arith
 last-total (c ∷ []) = omega arith
 last-total (c ∷ d ∷ cs) = omega (arith, last-total (d ∷ cs))
 
-pub region-of-rows : (g : Region) → Listed g → filled g ≡ true → regionOf (rows g) ≡ gives g
+region-of-rows : (g : Region) → Listed g → filled g ≡ true → regionOf (rows g) ≡ gives g
 unfolding regionOf rowsIn
 region-of-rows g (full _ l) f =
     let n = rows-length g in
@@ -88,3 +97,12 @@ region-of-rows g (full _ l) f =
     rw (lt-ltb 0 (length (rows g)) p, eq-eqb (length (rows g) % 5) 0 (omega arith))
     (ap (rowsIn (length (rows g) / 5) []) (sym (append-nil (rows g))) ∙ l .led (length (rows g) / 5) 0 [] (omega arith))
 region-of-rows _ (fresh g l few) f = absurd (not-filled g f)
+
+pub accepted-rows : (f : List ℕ) (x : File) → Accepted f x → regionOf (rows (x .region)) ≡ gives (x .region)
+accepted-rows f x a =
+    let listed = accepted-keeps (λ y. Listed (y .region))
+    (λ y t l. listed-convex (y .region) l (t .0) (t .1)) (λ y g h e l. listed-more (y .region) g h l e) (λ y h. subst Listed (sym (h .region)) listed-none) f x a in
+    region-of-rows (x .region) listed (accepted-ends f x a .1)
+
+pub accepted-limited : (f : List ℕ) (x : File) → Accepted f x → Limited (x .region)
+accepted-limited f x a = region-back (rows (x .region)) (x .region) (accepted-rows f x a) .0

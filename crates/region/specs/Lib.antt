@@ -3,6 +3,7 @@ pub mod Budgets
 pub mod Building
 pub mod Bytes
 pub mod Rows
+pub mod Records
 pub mod Reader
 pub mod Writer
 pub mod RoundTrip

@@ -6,18 +6,20 @@
 -- In what follows `rest` is the file from the record on that is read next.
 use Prim.Native.Nat.{ℕ, zero, suc, _-_}
 use mathlib.Core.Path.{_≡_}
-use mathlib.Core.Bool.{Bool, true, false, cond, _&&_, _||_}
+use mathlib.Core.Bool.{Bool, true, false, cond, _&&_}
 use mathlib.Core.List.{List, []}
 use lib.Dec.{leb, eqb}
 use lib.ListN.{length, take, drop}
 use Rattle.vector.specs.Numbers.{isDepth}
 use Rattle.vector.specs.Vectors.{vec}
-use Rattle.answer.specs.Answer.{Answer, refused, gives, check, then, with-value, Long, Torn, Kind, Order, Depth, Budget, Crowd}
+use Rattle.answer.specs.Answer.{Answer, refused, gives, check, then, with-value, Long, Torn, Order, Depth, Budget, Crowd}
 use Rattle.region.specs.declared.Halfspace.{Halfspace}
 use Rattle.region.specs.Regions.{Region}
 use Rattle.region.specs.Budgets.{isBudget}
 use Rattle.region.specs.Building.{withConvex, begun, filled, fewConvexes, add}
 use Rattle.region.specs.Bytes.{word, signed}
+use Rattle.region.specs.declared.Record.{Record}
+use Rattle.region.specs.Records.{recordOf}
 
 pub record File : Type 0 where
   pub depth : ℕ
@@ -42,20 +44,23 @@ after rest = drop (lengthOf rest) rest
 abbrev pub whole : List ℕ → Bool
 whole rest = leb 4 (length rest) && (leb 4 (lengthOf rest) && leb (lengthOf rest) (length rest))
 
--- 3: a kind from 1 to 4, with its length
-abbrev pub known : ℕ → ℕ → Bool
-known kind len = (eqb kind 1 && eqb len 8) || (eqb kind 2 && eqb len 4) || (eqb kind 3 && eqb len 20) || (eqb kind 4 && eqb len 4)
-
-abbrev pub framed : List ℕ → Answer File → Answer File
-framed rest a = check Torn (whole rest) (check Kind (known (kindOf rest) (lengthOf rest)) a)
+-- what the record is, or the refusal 2 or 3
+abbrev pub recordAt : List ℕ → Answer Record
+recordAt rest = check Torn (whole rest) (recordOf (kindOf rest) (lengthOf rest))
 
 -- ---- kind 1: the header, first and only there
 
 abbrev pub headerOf : List ℕ → Answer File
 headerOf s = check Depth (isDepth (word s 0)) (check Budget (isBudget (word s 2)) (gives (record { depth = word s 0; budget = word s 2; region = [] })))
 
+abbrev pub headerIn : Record → List ℕ → Answer File
+headerIn Record.Header s = headerOf s
+headerIn Record.Convex s = refused Order
+headerIn Record.Halfspace s = refused Order
+headerIn Record.End s = refused Order
+
 unfoldable pub header : List ℕ → Answer File
-header rest = framed rest (check Order (eqb (kindOf rest) 1) (headerOf (payload rest)))
+header rest = then (recordAt rest) (λ r. headerIn r (payload rest))
 
 -- ---- the other kinds
 
@@ -79,12 +84,15 @@ halfspaceIn x s = check Order (begun (x .region)) (with-value (withRegion x) (ad
 abbrev pub endIn : File → List ℕ → Answer File
 endIn x following = check Order (begun (x .region) && (filled (x .region) && eqb (length following) 0)) (gives x)
 
+-- a record with its payload, and what follows it
+abbrev pub partIn : File → Record → List ℕ → List ℕ → Answer File
+partIn x Record.Header s following = refused Order
+partIn x Record.Convex s following = convexIn x
+partIn x Record.Halfspace s following = halfspaceIn x s
+partIn x Record.End s following = endIn x following
+
 unfoldable pub recordIn : File → List ℕ → Answer File
-recordIn x rest =
-    framed rest
-    (cond (eqb (kindOf rest) 1) (refused Order)
-    (cond (eqb (kindOf rest) 2) (convexIn x)
-    (cond (eqb (kindOf rest) 3) (halfspaceIn x (payload rest)) (endIn x (after rest)))))
+recordIn x rest = then (recordAt rest) (λ r. partIn x r (payload rest) (after rest))
 
 -- ---- record by record to the end. The first argument bounds the records; a file has fewer of them than bytes.
 

@@ -7,23 +7,28 @@ use lib.IntN.{ℤ}
 use Rattle.vector.specs.Numbers.{isDepth}
 use Rattle.answer.specs.Answer.{Answer, check, with-value, Depth, Budget}
 use Rattle.region.specs.declared.Halfspace.{Halfspace}
+use Rattle.region.specs.declared.Record.{Record}
 use Rattle.region.specs.Regions.{Convex, Region}
 use Rattle.region.specs.Budgets.{isBudget}
 use Rattle.region.specs.Bytes.{wordBytes, signedBytes}
+use Rattle.region.specs.Records.{kind, size}
 use Rattle.region.specs.Rows.{regionOf}
 
--- length, kind, payload
+-- length and kind, then the payload
+abbrev pub begin : Record → List ℕ
+begin r = wordBytes (size r) ++ wordBytes (kind r)
+
 abbrev pub headerBytes : ℕ → ℕ → List ℕ
-headerBytes d b = wordBytes 8 ++ wordBytes 1 ++ wordBytes d ++ wordBytes b
+headerBytes d b = begin Record.Header ++ wordBytes d ++ wordBytes b
 
 abbrev pub convexBytes : List ℕ
-convexBytes = wordBytes 4 ++ wordBytes 2
+convexBytes = begin Record.Convex
 
 abbrev pub halfspaceBytes : Halfspace → List ℕ
-halfspaceBytes h = wordBytes 20 ++ wordBytes 3 ++ signedBytes (h .n .x) ++ signedBytes (h .n .y) ++ signedBytes (h .n .z) ++ signedBytes (h .d)
+halfspaceBytes h = begin Record.Halfspace ++ signedBytes (h .n .x) ++ signedBytes (h .n .y) ++ signedBytes (h .n .z) ++ signedBytes (h .d)
 
 abbrev pub endBytes : List ℕ
-endBytes = wordBytes 4 ++ wordBytes 4
+endBytes = begin Record.End
 
 unfoldable pub halfspacesBytes : Convex → List ℕ
 halfspacesBytes [] = []

@@ -12,11 +12,10 @@ use borrow.Author.Tests.{lt-ltb, le-ltb, eq-eqb, ne-eqb}
 use Rattle.answer.specs.Answer.{refused, gives, then, with-value, Order}
 use Rattle.answer.proofs.AnswerLaws.{value-gives, value-refused}
 use Rattle.region.specs.Regions.{Region}
-use Rattle.region.specs.Building.{lastConvex, total}
 use Rattle.region.specs.Rows.{rowIn, halfspaceAt, rowsIn, regionOf}
-use Rattle.region_checks.specs.declared.Counts.{Counts}
-use Rattle.region_checks.specs.Counts.{countsOf}
-use Rattle.region_checks.proofs.CountLaws.{taken, taken-few}
+use Rattle.region_counts.specs.declared.Counts.{Counts}
+use Rattle.region_counts.specs.Counts.{countsOf}
+use Rattle.region_checks.proofs.NumberLaws.{taken, taken-few}
 
 -- the rows of rs before element i make a region with the counts k
 pub record Checking (rs : List ℤ) (k : Counts) (i : ℕ) : Type 0 where
@@ -27,9 +26,8 @@ pub record Checking (rs : List ℤ) (k : Counts) (i : ℕ) : Type 0 where
   pub few : length region ≤ 64
   pub same : rowsIn (length rs / 5) [] rs ≡ rowsIn left region (drop i rs)
 
-pub start : (rs : List ℤ) → length rs % 5 ≡ 0 → Checking rs (record { convexes = 0; last = 0; all = 0 }) 0
-unfolding lastConvex total
-start rs e = record { region = []; left = length rs / 5; place = omega arith; counts = refl; few = omega arith; same = refl }
+pub start : (rs : List ℤ) → length rs % 5 ≡ 0 → (k : Counts) → k ≡ countsOf [] → Checking rs k 0
+start rs e k q = record { region = []; left = length rs / 5; place = omega arith; counts = sym q; few = omega arith; same = refl }
 
 -- the row from element i on, and the rows after it
 pub next-row : (n : ℕ) (g : Region) (rs : List ℤ) (i : ℕ)

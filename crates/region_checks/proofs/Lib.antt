@@ -1,2 +1,2 @@
 pub mod CheckingPass
-pub mod CountLaws
+pub mod NumberLaws

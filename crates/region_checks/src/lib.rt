@@ -1,65 +1,32 @@
 // Rows that are to be written, checked one after the other for 4, 7, 8 and 9, and counted. The rule stands in region/specs/Rows, the counts in
-// specs/Counts.
-use answer::CROWD;
-use answer::OFFSET;
+// region_counts/specs/Counts, the convex of a row in specs/Opening.
 use answer::ORDER;
-use answer::VECTOR;
 use region::Halfspace;
-use vector::Vec3;
+use region_counts::Counts;
+use region_counts::CountsOf;
 ghost use mathlib.Core.Path.{_≡_};
 ghost use mathlib.Core.Bool.{_&&_, _||_};
 ghost use mathlib.Core.List.{[]};
-ghost use Prim.Native.Nat.{_+_, _/_, _%_, _≤_, _<_};
+ghost use Prim.Native.Nat.{_+_, _/_, _%_, _≤_};
 ghost use lib.Dec.{ltb};
 ghost use lib.IntN.{pos, _+ℤ_};
-ghost use lib.ListN.{length, drop};
+ghost use lib.ListN.{length};
 ghost use Rattle.answer.specs.Answer.{with-value};
 ghost use Rattle.vector.specs.Numbers.{eqZ};
 ghost use Rattle.region.specs.Regions.{Region};
-ghost use Rattle.region.specs.Building as rule;
-ghost use Rattle.region.specs.Rows.{halfspaceAt, rowIn, rowsIn, regionOf};
-ghost use Rattle.region_checks.specs.Counts.{countsOf, countsGiven, opensConvex};
-
-// The counts of a region: its convexes, the halfspaces in the last one, and those in all.
-pub struct Counts {
-    pub convexes: usize,
-    pub last: usize,
-    pub all: usize,
-}
-
-// The counts of the region of rows, or the number of the first check that failed.
-pub enum CountsOf {
-    Gives(Counts),
-    Refused(u32),
-}
-
-// The halfspace of the row that begins at element i.
-pub fn halfspace_at(rows: &[i32], i: usize) -> Halfspace
-    requires { ⌜ i + 5 ≤ length (now rows) ⌝ }
-    ensures { λ r. ⌜ r ≡ halfspaceAt (drop i (now (rows .entry))) ⌝ }
-{
-    let n = Vec3 {
-        x: rows[i + 1] as i64,
-        y: rows[i + 2] as i64,
-        z: rows[i + 3] as i64,
-    };
-    Halfspace {
-        n: n,
-        d: rows[i + 4] as i64,
-    }
-}
+ghost use Rattle.region.specs.Rows.{rowIn, rowsIn, regionOf};
+ghost use Rattle.region_counts.specs.Counts.{countsOf, countsGiven};
+ghost use Rattle.region_checks.specs.Opening.{opensConvex};
 
 // Whether a row's number c is k.
-pub fn is_number(c: i32, k: usize) -> bool
-    requires { ⌜ k ≤ 64 ⌝ }
+pub fn is_number(c: i32, k: u16) -> bool
     ensures { λ t. ⌜ t ≡ eqZ c (pos k) ⌝ }
 {
     c == k as i32
 }
 
 // Whether a row's number c is the next convex's or the last one's, where there are n convexes.
-fn belongs(c: i32, n: usize) -> bool
-    requires { ⌜ n ≤ 64 ⌝ }
+fn belongs(c: i32, n: u16) -> bool
     ensures { λ t. ⌜ t ≡ (eqZ c (pos n) || (ltb 0 n && eqZ (c +ℤ pos 1) (pos n))) ⌝ }
 {
     if is_number(c, n) {
@@ -71,58 +38,29 @@ fn belongs(c: i32, n: usize) -> bool
     is_number(c, n - 1)
 }
 
-// The counts with the convex that the row with the number c belongs to.
-fn opened(at: Counts, c: i32) -> Counts
-    requires { ⌜ at .convexes ≤ 64 ⌝ }
-    ensures { λ r. ⌜ r ≡ opensConvex at c ⌝ }
+// The counts with the convex that the row with the number c belongs to, or the refusal 7.
+fn opened(k: Counts, c: i32) -> CountsOf
+    ensures { λ r. ⌜ countsGiven r ≡ opensConvex k c ⌝ }
 {
-    if is_number(c, at.convexes) {
-        return Counts {
-            convexes: at.convexes + 1,
-            last: 0,
-            all: at.all,
-        };
+    if is_number(c, k.convexes) {
+        return region_counts::with_convex(k);
     }
-    at
-}
-
-// The counts with a halfspace more in the last convex, or the first refusal: 7, 8, 9.
-pub fn with_halfspace(at: Counts, h: Halfspace) -> CountsOf
-    ensures { λ r. ⌜ ((g : Region) → countsOf g ≡ at → 0 < length g → countsGiven r ≡ with-value countsOf (rule.add g h)) ⌝ }
-{
-    if 99 < at.last {
-        return CountsOf::Refused(CROWD);
-    }
-    if 511 < at.all {
-        return CountsOf::Refused(CROWD);
-    }
-    let n = h.n;
-    if !vector_products::is_vector(n) {
-        return CountsOf::Refused(VECTOR);
-    }
-    if !region_contents::is_offset(h.d) {
-        return CountsOf::Refused(OFFSET);
-    }
-    CountsOf::Gives(Counts {
-        convexes: at.convexes,
-        last: at.last + 1,
-        all: at.all + 1,
-    })
+    CountsOf::Gives(k)
 }
 
 // The counts with a row more, or the first refusal: 4, 7, 8, 9.
-fn with_row(at: Counts, c: i32, h: Halfspace) -> CountsOf
-    requires { ⌜ at .convexes ≤ 64 ⌝ }
-    ensures { λ r. ⌜ ((g : Region) → countsOf g ≡ at → countsGiven r ≡ with-value countsOf (rowIn g c h)) ⌝ }
+fn with_row(k: Counts, c: i32, h: Halfspace) -> CountsOf
+    requires { ⌜ k .convexes ≤ 64 ⌝ }
+    ensures { λ r. ⌜ ((g : Region) → countsOf g ≡ k → countsGiven r ≡ with-value countsOf (rowIn g c h)) ⌝ }
 {
-    if !belongs(c, at.convexes) {
+    if !belongs(c, k.convexes) {
         return CountsOf::Refused(ORDER);
     }
-    let o = opened(at, c);
-    if 64 < o.convexes {
-        return CountsOf::Refused(CROWD);
+    let o = opened(k, c);
+    match o {
+        CountsOf::Gives(with) => region_counts::with_halfspace(with, h),
+        CountsOf::Refused(n) => CountsOf::Refused(n),
     }
-    with_halfspace(o, h)
 }
 
 // The counts of rows in whole fives, or the first refusal of a row.
@@ -130,14 +68,10 @@ fn count_rows(rows: &[i32]) -> CountsOf
     requires { ⌜ length (now rows) % 5 ≡ 0 ⌝ }
     ensures { λ r. ⌜ countsGiven r ≡ with-value countsOf (rowsIn (length (now (rows .entry)) / 5) [] (now (rows .entry))) ⌝ }
 {
-    let mut at = Counts {
-        convexes: 0,
-        last: 0,
-        all: 0,
-    };
+    let mut at = region_counts::none();
     let mut i = 0;
     while i < rows.len() {
-        let r = with_row(at, rows[i], halfspace_at(rows, i));
+        let r = with_row(at, rows[i], region_rows::halfspace_at(rows, i));
         let CountsOf::Gives(next) = r else {
             return r;
         };

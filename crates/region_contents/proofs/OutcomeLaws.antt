@@ -1,26 +1,30 @@
 -- What a record makes of the reader's state and of the rows, by its answer: the counts decide every check as the region itself does, since they are
 -- the region's counts, and a record that is accepted leaves the counts and the rows of the region with it. Assumes nothing.
-use Prim.Native.Nat.{ℕ, _+_, _-_, _*_, _<_}
+use Prim.Native.Nat.{ℕ, _-_, _*_, _<_}
 use native.Mathlib.Omega.{arith}
 use mathlib.Core.Path.{_≡_, refl, sym, ap, subst, _∙_}
 use mathlib.Core.Bool.{Bool, true, false, cond, _&&_}
-use mathlib.Core.List.{List, [], _∷_}
+use mathlib.Core.List.{List}
 use lib.Dec.{ltb, eqb}
-use lib.ListN.{length, length-append}
+use lib.ListN.{length}
 use lib.IntN.{ℤ}
-use borrow.Author.Tests.{ltb-true, ltb-false, le-leb, lt-leb}
-use Rattle.answer.specs.Answer.{Answer, refused, gives, check, with-value, Order, Crowd, Vector, Offset}
+use borrow.Author.Tests.{lt-ltb, le-ltb}
+use Rattle.answer.specs.Answer.{Answer, refused, gives, check, with-value, Order, Crowd}
 use Rattle.answer.specs.Lent.{put}
-use Rattle.answer.proofs.AnswerLaws.{refused-gives, check-gives, same-value}
-use Rattle.vector.specs.Vectors.{isVector}
+use Rattle.answer.proofs.AnswerLaws.{refused-gives, check-gives, same-value, value-gives, value-refused}
 use Rattle.region.specs.declared.Halfspace.{Halfspace}
-use Rattle.region.specs.Building.{lastConvex, total, withConvex, withHalfspace, begun, filled, fewConvexes, isOffset, add}
+use Rattle.region.specs.Regions.{Region}
+use Rattle.region.specs.Building.{withConvex, begun, filled, fewConvexes, add}
 use Rattle.region.specs.Rows.{row, rows}
-use Rattle.region.specs.Reader.{File, withRegion, convexIn, endIn}
-use Rattle.region.proofs.RegionLaws.{convex-length, convex-last, convex-total, convex-rows, halfspace-length, halfspace-last, halfspace-total}
+use Rattle.region.specs.Reader.{File, withRegion, convexIn, halfspaceOf, halfspaceIn, endIn}
+use Rattle.region.proofs.AddLaws.{added}
+use Rattle.region.proofs.RegionLaws.{convex-rows}
+use Rattle.region_counts.specs.declared.Counts.{Counts}
+use Rattle.region_counts.specs.Counts.{countsOf, oneConvexMore, oneHalfspaceMore}
+use Rattle.region_counts.proofs.CountLaws.{convex-counts, halfspace-counts}
 use Rattle.region_contents.specs.declared.State.{State}
 use Rattle.region_contents.specs.declared.Outcome.{Outcome}
-use Rattle.region_contents.specs.Contents.{stateOf, outcomeAt, outcomeOf, Stands, Taken}
+use Rattle.region_contents.specs.Contents.{outcomeGiven, outcomeAt, outcomeOf, Stands, Taken}
 use Rattle.region_contents.proofs.RowLaws.{row-more}
 
 -- ---- an answer that is taken
@@ -43,33 +47,26 @@ module _ {before : List ℤ} {end : Bool} {next : ℕ} {a : Answer File} {rs : L
 
 -- ---- a convex
 
-module _ (s : State) (next : ℕ) (x : File) (e : s ≡ stateOf (s .at) (x .region)) where
-  abbrev opened : Bool → Bool → Answer File
-  opened b c = check Order b (check Crowd c (gives (withRegion x (withConvex (x .region)))))
+module _ (next : ℕ) (x : File) (k : Counts) (e : k ≡ countsOf (x .region)) where
+  abbrev opened : Bool → Answer File
+  opened t = check Order t (check Crowd (fewConvexes (withConvex (x .region))) (gives (withRegion x (withConvex (x .region)))))
 
-  convex-is : (b c : Bool) → cond (ltb 0 (s .convexes)) (ltb 0 (s .last)) true ≡ b → fewConvexes (withConvex (x .region)) ≡ c → opened b c ≡ convexIn x
-  convex-is b c eb ec =
-      let p = subst (λ t. cond (ltb 0 (t .convexes)) (ltb 0 (t .last)) true ≡ b) e eb in
-      λ i. opened (sym p i) (sym ec i)
+  convex-is : (t : Bool) → cond (ltb 0 (k .convexes)) (ltb 0 (k .last)) true ≡ t → opened t ≡ convexIn x
+  convex-is t h = ap opened (sym (subst (λ k. cond (ltb 0 (k .convexes)) (ltb 0 (k .last)) true ≡ t) e h))
 
-  pub convex-order : cond (ltb 0 (s .convexes)) (ltb 0 (s .last)) true ≡ false → Outcome.Refused Order ≡ outcomeOf false next (convexIn x)
-  convex-order h = ap (outcomeOf false next) (convex-is false _ h refl)
+  pub convex-order : cond (ltb 0 (k .convexes)) (ltb 0 (k .last)) true ≡ false → Outcome.Refused Order ≡ outcomeOf false next (convexIn x)
+  convex-order h = ap (outcomeOf false next) (convex-is false h)
 
-  -- the convexes with one more
-  grown : length (withConvex (x .region)) ≡ s .convexes + 1
-  grown = omega (arith, convex-length (x .region), ap (λ t. t .convexes) e)
+  crowded : (t : Bool) (g : Region) → outcomeGiven next (check Crowd t (gives (countsOf g))) ≡ outcomeOf false next (check Crowd t (gives (withRegion x g)))
+  crowded true g = refl
+  crowded false g = refl
 
-  module _ (h : cond (ltb 0 (s .convexes)) (ltb 0 (s .last)) true ≡ true) where
-    pub convex-crowd : ltb (s .convexes) 64 ≡ false → Outcome.Refused Crowd ≡ outcomeOf false next (convexIn x)
-    convex-crowd c = ap (outcomeOf false next) (convex-is true false h (lt-leb (length (withConvex (x .region))) 64 (omega (arith, grown, ltb-false (s .convexes) 64 c))))
-
-    pub convex-more : s .convexes < 64
-        → Outcome.More (record { at = next; convexes = s .convexes + 1; last = 0; total = s .total }) ≡ outcomeOf false next (convexIn x)
-    convex-more c =
-        let l : 0 ≡ length (lastConvex (withConvex (x .region))) = ap length (sym (convex-last (x .region))) in
-        let t : s .total ≡ total (withConvex (x .region)) = ap (λ v. v .total) e ∙ sym (convex-total (x .region)) in
-        (λ i. Outcome.More (record { at = next; convexes = sym grown i; last = l i; total = t i }))
-        ∙ ap (outcomeOf false next) (convex-is true true h (le-leb (length (withConvex (x .region))) 64 (omega (arith, grown))))
+  pub convex-more : cond (ltb 0 (k .convexes)) (ltb 0 (k .last)) true ≡ true → outcomeGiven next (oneConvexMore k) ≡ outcomeOf false next (convexIn x)
+  convex-more h =
+      ap (λ k. outcomeGiven next (oneConvexMore k)) e
+      ∙ ap (outcomeGiven next) (convex-counts (x .region))
+      ∙ crowded (fewConvexes (withConvex (x .region))) (withConvex (x .region))
+      ∙ ap (outcomeOf false next) (convex-is true h)
 
 convex-kept : (x y : File) → convexIn x ≡ gives y → rows (y .region) ≡ rows (x .region)
 convex-kept x y e =
@@ -84,61 +81,58 @@ convex-taken {before = before} x st e = record { outcome = e; rows = λ y q. st 
 
 -- ---- a halfspace
 
+-- the halfspace is that of the payload
+pub halfspace-read : {before rs : List ℤ} {next : ℕ} {o : Outcome} (x : File) (payload : List ℕ) (h : Halfspace) → h ≡ halfspaceOf payload
+    → Taken before false next (check Order (begun (x .region)) (with-value (withRegion x) (add (x .region) h))) o rs → Taken before false next (halfspaceIn x payload) o rs
+halfspace-read x payload h e t = taken-as refl refl (ap (λ h. check Order (begun (x .region)) (with-value (withRegion x) (add (x .region) h))) e) t
+
 module _ (s : State) (next : ℕ) (h : Halfspace) (x : File) (before rs : List ℤ) (st : Stands before (x .region) s rs) where
   abbrev answer : Answer File
   answer = check Order (begun (x .region)) (with-value (withRegion x) (add (x .region) h))
 
-  abbrev pass : Bool → Bool → Bool → Bool → Answer File
-  pass b r v d = check Order b (with-value (withRegion x) (check Crowd r (check Vector v (check Offset d (gives (withHalfspace (x .region) h))))))
+  abbrev convexes : length (x .region) ≡ s .counts .convexes
+  convexes = sym (ap (λ k. k .convexes) (st .counts))
 
-  passed : (b r v d : Bool) → ltb 0 (s .convexes) ≡ b → (ltb (s .last) 100 && ltb (s .total) 512) ≡ r → isVector (h .n) ≡ v → isOffset (h .d) ≡ d
-      → answer ≡ pass b r v d
-  unfolding add
-  passed b r v d eb er ev ed =
-      let p = subst (λ t. ltb 0 (t .convexes) ≡ b) (st .state) eb in
-      let q = subst (λ t. (ltb (t .last) 100 && ltb (t .total) 512) ≡ r) (st .state) er in
-      λ i. pass (p i) (q i) (ev i) (ed i)
+  pub halfspace-order : s .counts .convexes ≡ 0 → Taken before false next answer (Outcome.Refused Order) rs
+  halfspace-order e = taken-refused Order (ap (λ t. check Order t (with-value (withRegion x) (add (x .region) h))) (le-ltb 0 (length (x .region)) (omega (arith, convexes))))
 
-  pub halfspace-order : ltb 0 (s .convexes) ≡ false → Taken before false next answer (Outcome.Refused Order) rs
-  halfspace-order e = taken-refused Order (passed false _ _ _ e refl refl refl)
+  module _ (b : 0 < s .counts .convexes) where
+    begun-region : 0 < length (x .region)
+    begun-region = omega (arith, convexes)
 
-  pub halfspace-crowd : ltb 0 (s .convexes) ≡ true → (ltb (s .last) 100 && ltb (s .total) 512) ≡ false → Taken before false next answer (Outcome.Refused Crowd) rs
-  halfspace-crowd e r = taken-refused Crowd (passed true false _ _ e r refl refl)
+    answered : (a : Answer Region) → add (x .region) h ≡ a → answer ≡ with-value (withRegion x) a
+    answered a e = λ i. check Order (lt-ltb 0 (length (x .region)) begun-region i) (with-value (withRegion x) (e i))
 
-  module _ (e : ltb 0 (s .convexes) ≡ true) (r : (ltb (s .last) 100 && ltb (s .total) 512) ≡ true) where
-    pub halfspace-vector : isVector (h .n) ≡ false → Taken before false next answer (Outcome.Refused Vector) rs
-    halfspace-vector v = taken-refused Vector (passed true true false _ e r v refl)
+    counted : oneHalfspaceMore (s .counts) h ≡ with-value countsOf (add (x .region) h)
+    counted = ap (λ k. oneHalfspaceMore k h) (st .counts) ∙ halfspace-counts (x .region) h begun-region
 
-    pub halfspace-offset : isVector (h .n) ≡ true → isOffset (h .d) ≡ false → Taken before false next answer (Outcome.Refused Offset) rs
-    halfspace-offset v d = taken-refused Offset (passed true true true false e r v d)
+    pub halfspace-refused : (n : ℕ) → refused n ≡ oneHalfspaceMore (s .counts) h → Taken before false next answer (Outcome.Refused n) rs
+    halfspace-refused n e = taken-refused n (answered (refused n) (value-refused countsOf (add (x .region) h) n (sym (e ∙ counted))))
 
-    pub halfspace-more : isVector (h .n) ≡ true → isOffset (h .d) ≡ true
-        → (s′ : State) → s′ ≡ record { at = next; convexes = s .convexes; last = s .last + 1; total = s .total + 1 }
-        → (rs′ : List ℤ) → rs′ ≡ put (5 * s .total) (row (s .convexes - 1) h) rs → Taken before false next answer (Outcome.More s′) rs′
-    halfspace-more v d s′ f rs′ w =
+    pub halfspace-more : (k : Counts) → gives k ≡ oneHalfspaceMore (s .counts) h
+        → (rs′ : List ℤ) → rs′ ≡ put (5 * s .counts .all) (row (s .counts .convexes - 1) h) rs
+        → Taken before false next answer (Outcome.More (record { at = next; counts = k })) rs′
+    halfspace-more k e rs′ w =
         let g = x .region in
-        let b : 0 < length g = omega (arith, ltb-true 0 (s .convexes) e, ap (λ t. t .convexes) (st .state)) in
-        let n : s .convexes ≡ length (withHalfspace g h) = ap (λ t. t .convexes) (st .state) ∙ sym (halfspace-length g h) in
-        let l : s .last + 1 ≡ length (lastConvex (withHalfspace g h)) = omega (arith, ap (λ t. t .last) (st .state), ap length (halfspace-last g h b), length-append (lastConvex g) (h ∷ [])) in
-        let t : s .total + 1 ≡ total (withHalfspace g h) = omega (arith, ap (λ t. t .total) (st .state), halfspace-total g h b) in
-        taken-gives (withRegion x (withHalfspace g h)) _ (passed true true true true e r v d)
-        (ap Outcome.More f ∙ (λ i. Outcome.More (record { at = next; convexes = n i; last = l i; total = t i })))
+        let v = value-gives countsOf (add g h) k (sym (e ∙ counted)) in
+        taken-gives (withRegion x (v .0)) _ (answered (gives (v .0)) (v .1)) (ap (λ k. Outcome.More (record { at = next; counts = k })) (sym (v .2)))
         (w
-        ∙ (λ i. put (5 * (st .state i) .total) (row ((st .state i) .convexes - 1) h) (st .rows i))
-        ∙ row-more g h before b)
+        ∙ (λ i. put (5 * (st .counts i) .all) (row ((st .counts i) .convexes - 1) h) (st .rows i))
+        ∙ row-more g h before begun-region
+        ∙ ap (λ g. put 0 (rows g) before) (added g (v .0) h (v .1) .is))
 
 -- ---- the end
 
-module _ (s : State) (next : ℕ) (x : File) (left : List ℕ) (following : ℕ) (e : s ≡ stateOf (s .at) (x .region)) (f : length left ≡ following) where
-  ends : (b : Bool) → (ltb 0 (s .convexes) && (ltb 0 (s .last) && eqb following 0)) ≡ b
+module _ (k : Counts) (next : ℕ) (x : File) (left : List ℕ) (following : ℕ) (e : k ≡ countsOf (x .region)) (f : length left ≡ following) where
+  ends : (b : Bool) → (ltb 0 (k .convexes) && (ltb 0 (k .last) && eqb following 0)) ≡ b
       → begun (x .region) && (filled (x .region) && eqb (length left) 0) ≡ b
-  ends b h = subst (λ n. begun (x .region) && (filled (x .region) && eqb n 0) ≡ b) (sym f) (subst (λ t. (ltb 0 (t .convexes) && (ltb 0 (t .last) && eqb following 0)) ≡ b) e h)
+  ends b h = subst (λ n. begun (x .region) && (filled (x .region) && eqb n 0) ≡ b) (sym f) (subst (λ k. (ltb 0 (k .convexes) && (ltb 0 (k .last) && eqb following 0)) ≡ b) e h)
 
-  pub end-refused : (ltb 0 (s .convexes) && (ltb 0 (s .last) && eqb following 0)) ≡ false → Outcome.Refused Order ≡ outcomeOf true next (endIn x left)
+  pub end-refused : (ltb 0 (k .convexes) && (ltb 0 (k .last) && eqb following 0)) ≡ false → Outcome.Refused Order ≡ outcomeOf true next (endIn x left)
   end-refused h = ap (λ t. outcomeOf true next (check Order t (gives x))) (sym (ends false h))
 
-  pub end-done : (ltb 0 (s .convexes) && (ltb 0 (s .last) && eqb following 0)) ≡ true → Outcome.Done (s .total) ≡ outcomeOf true next (endIn x left)
-  end-done h = ap (λ t. Outcome.Done (t .total)) e ∙ ap (λ t. outcomeOf true next (check Order t (gives x))) (sym (ends true h))
+  pub end-done : (ltb 0 (k .convexes) && (ltb 0 (k .last) && eqb following 0)) ≡ true → Outcome.Done (k .all) ≡ outcomeOf true next (endIn x left)
+  end-done h = ap (λ k. Outcome.Done (k .all)) e ∙ ap (λ t. outcomeOf true next (check Order t (gives x))) (sym (ends true h))
 
 end-kept : (x y : File) (left : List ℕ) → endIn x left ≡ gives y → rows (y .region) ≡ rows (x .region)
 end-kept x y left e = ap (λ z. rows (z .region)) (sym (same-value x y (check-gives Order (begun (x .region) && (filled (x .region) && eqb (length left) 0)) (gives x) y e)))

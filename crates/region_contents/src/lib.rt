@@ -1,33 +1,28 @@
-// What the records of a region file add up to: convexes, halfspaces and the end, each checked for 4 and 7 to 9, with the rows in an array. The rules
-// stand in region/specs/Reader and Building, the state between records in specs/Contents.
-use answer::CROWD;
-use answer::OFFSET;
+// The payload readers of the records after the first: a header again, a convex, a halfspace and the end, each checked for 4 and 7 to 9, with the rows in
+// an array. The rules stand in region/specs/Reader and Building, the state between records in specs/Contents.
 use answer::ORDER;
-use answer::VECTOR;
 use region::Halfspace;
+use region_counts::Counts;
+use region_counts::CountsOf;
 ghost use mathlib.Core.Path.{_≡_};
 ghost use mathlib.Core.Bool.{true, false, cond, _&&_};
 ghost use mathlib.Core.List.{List};
 ghost use Prim.Native.Nat.{ℕ, _+_, _*_, _-_, _≤_, _<_};
 ghost use lib.Dec.{ltb, eqb};
 ghost use lib.ListN.{length};
+ghost use Rattle.answer.specs.Answer.{Order};
 ghost use Rattle.answer.specs.Lent.{put};
-ghost use Rattle.vector.specs.Vectors.{isVector};
-ghost use Rattle.region.specs.Bytes as bytes;
-ghost use Rattle.region.specs.Building.{isOffset};
 ghost use Rattle.region.specs.Rows.{row};
-ghost use Rattle.region.specs.Rows as region;
 ghost use Rattle.region.specs.Reader.{File, convexIn, endIn};
-ghost use Rattle.region_contents.specs.Contents.{stateOf, outcomeOf, HalfspaceTaken};
+ghost use Rattle.region.proofs.AddLaws.{Fine};
+ghost use Rattle.region_counts.specs.Counts.{countsOf, countsGiven};
+ghost use Rattle.region_contents.specs.declared.Outcome.{Outcome};
+ghost use Rattle.region_contents.specs.Contents.{outcomeGiven, outcomeOf, HalfspaceTaken};
 
-const K: i64 = 1048576;
-
-// The place of the next record, and the region so far by its counts: convexes, halfspaces in the last one, halfspaces in all.
+// The place of the next record, and the counts of the region so far.
 pub struct State {
     pub at: usize,
-    pub convexes: u16,
-    pub last: u16,
-    pub total: u16,
+    pub counts: Counts,
 }
 
 // After a record: more of them follow, the end has come and there are so many rows, or a check has failed.
@@ -37,136 +32,108 @@ pub enum Outcome {
     Refused(u32),
 }
 
-// 4: no convex has begun, or the last one has a halfspace.
-fn may_begin(s: State) -> bool
-    ensures { λ t. ⌜ t ≡ cond (ltb 0 (s .convexes)) (ltb 0 (s .last)) true ⌝ }
+// The state at the next record with these counts, or the refusal.
+fn counted(next: usize, c: CountsOf) -> Outcome
+    ensures { λ r. ⌜ r ≡ outcomeGiven next (countsGiven c) ⌝ }
 {
-    if s.convexes == 0 {
+    match c {
+        CountsOf::Gives(k) => Outcome::More(State {
+            at: next,
+            counts: k,
+        }),
+        CountsOf::Refused(n) => Outcome::Refused(n),
+    }
+}
+
+// 4: no convex has begun, or the last one has a halfspace.
+fn may_begin(k: Counts) -> bool
+    ensures { λ t. ⌜ t ≡ cond (ltb 0 (k .convexes)) (ltb 0 (k .last)) true ⌝ }
+{
+    if k.convexes == 0 {
         return true;
     }
-    0 < s.last
+    0 < k.last
 }
 
-// 7: fewer than 64 convexes, so that one more may begin.
-fn few_convexes(s: State) -> bool
-    ensures { λ t. ⌜ t ≡ ltb (s .convexes) 64 ⌝ }
+// The payload of kind 1 after the first record: a header again, which is refused unread.
+pub fn header_again(payload: &[u8]) -> Outcome
+    ensures { λ r. ⌜ r ≡ Outcome.Refused Order ⌝ }
 {
-    s.convexes < 64
+    Outcome::Refused(ORDER)
 }
 
-// The state after a new convex.
-fn with_convex(s: State, next: usize) -> State
-    requires { ⌜ s .convexes < 64 ⌝ }
-    ensures { λ r. ⌜ r ≡ record { at = next; convexes = s .convexes + 1; last = 0; total = s .total } ⌝ }
+// The payload of kind 2, which is empty: a convex begins.
+pub fn convex_payload(payload: &[u8], s: State, next: usize) -> Outcome
+    requires { ⌜ length (now payload) ≡ 0 ⌝ }
+    ensures { λ r. ⌜ ((x : File) → s .counts ≡ countsOf (x .region) → r ≡ outcomeOf false next (convexIn x)) ⌝ }
 {
-    State {
-        at: next,
-        convexes: s.convexes + 1,
-        last: 0,
-        total: s.total,
-    }
-}
-
-// Kind 2: a convex begins.
-pub fn convex_in(s: State, next: usize) -> Outcome
-    ensures { λ r. ⌜ ((x : File) → s ≡ stateOf (s .at) (x .region) → r ≡ outcomeOf false next (convexIn x)) ⌝ }
-{
-    if !may_begin(s) {
+    let k = s.counts;
+    if !may_begin(k) {
         return Outcome::Refused(ORDER);
     }
-    if !few_convexes(s) {
-        return Outcome::Refused(CROWD);
-    }
-    Outcome::More(with_convex(s, next))
-}
-
-// 7: one halfspace more stays within 100 of the convex and 512 in all, in the last convex and in all.
-fn below_limits(s: State) -> bool
-    ensures { λ t. ⌜ t ≡ (ltb (s .last) 100 && ltb (s .total) 512) ⌝ }
-{
-    if 100 <= s.last {
-        return false;
-    }
-    s.total < 512
-}
-
-// 9: an offset from −K to K.
-pub fn is_offset(d: i64) -> bool
-    ensures { λ t. ⌜ t ≡ isOffset d ⌝ }
-{
-    -K <= d && d <= K
+    counted(next, region_counts::with_convex(k))
 }
 
 // The row of a halfspace in the last convex, written after the rows so far.
-fn write_row(s: State, h: Halfspace, rows: &mut [i32])
-    requires { ⌜ (isVector (h .n) ≡ true) × (isOffset (h .d) ≡ true) ⌝ }
-    requires { ⌜ (0 < s .convexes) × (5 * s .total + 5 ≤ length (now rows)) ⌝ }
-    ensures { λ _. ⌜ now (rows .exit) ≡ put (5 * s .total) (row (s .convexes - 1) h) (now (rows .entry)) ⌝ }
+fn write_row(k: Counts, h: Halfspace, rows: &mut [i32])
+    requires { ⌜ Fine h ⌝ }
+    requires { ⌜ (0 < k .convexes) × (5 * k .all + 5 ≤ length (now rows)) ⌝ }
+    ensures { λ _. ⌜ now (rows .exit) ≡ put (5 * k .all) (row (k .convexes - 1) h) (now (rows .entry)) ⌝ }
 {
-    let k = s.convexes - 1;
-    let at = 5 * (s.total as usize);
+    let number = k.convexes - 1;
+    let at = 5 * (k.all as usize);
     let n = h.n;
-    rows[at] = k as i32;
+    rows[at] = number as i32;
     rows[at + 1] = n.x as i32;
     rows[at + 2] = n.y as i32;
     rows[at + 3] = n.z as i32;
     rows[at + 4] = h.d as i32;
 }
 
-// The state after a new halfspace.
-pub fn with_halfspace(s: State, next: usize) -> State
-    requires { ⌜ (s .last < 100) × (s .total < 512) ⌝ }
-    ensures { λ r. ⌜ r ≡ record { at = next; convexes = s .convexes; last = s .last + 1; total = s .total + 1 } ⌝ }
+// The payload of kind 3: a halfspace, in a convex. Its row is written.
+pub fn halfspace_payload(payload: &[u8], s: State, next: usize, rows: &mut [i32]) -> Outcome
+    requires { ⌜ (16 ≤ length (now payload)) × (length (now rows) ≡ 2560) ⌝ }
+    ensures { λ r. ⌜ HalfspaceTaken s next (now (payload .entry)) (now (rows .entry)) r (now (rows .exit)) ⌝ }
 {
-    State {
-        at: next,
-        convexes: s.convexes,
-        last: s.last + 1,
-        total: s.total + 1,
-    }
-}
-
-// Kind 3: a halfspace, in a convex. Its row is written.
-pub fn halfspace_in(s: State, next: usize, h: Halfspace, rows: &mut [i32]) -> Outcome
-    requires { ⌜ length (now rows) ≡ 2560 ⌝ }
-    ensures { λ r. ⌜ HalfspaceTaken s next h (now (rows .entry)) r (now (rows .exit)) ⌝ }
-{
-    if s.convexes == 0 {
+    let h = region_records::halfspace_of(payload);
+    let k = s.counts;
+    if k.convexes == 0 {
         return Outcome::Refused(ORDER);
     }
-    if !below_limits(s) {
-        return Outcome::Refused(CROWD);
+    let c = region_counts::with_halfspace(k, h);
+    match c {
+        CountsOf::Gives(with) => {
+            write_row(k, h, rows);
+            Outcome::More(State {
+                at: next,
+                counts: with,
+            })
+        }
+        CountsOf::Refused(n) => Outcome::Refused(n),
     }
-    let n = h.n;
-    if !vector_products::is_vector(n) {
-        return Outcome::Refused(VECTOR);
-    }
-    if !is_offset(h.d) {
-        return Outcome::Refused(OFFSET);
-    }
-    write_row(s, h, rows);
-    Outcome::More(with_halfspace(s, next))
 }
 
 // 4: a convex has begun, the last one has a halfspace, and no byte follows.
-fn may_end(s: State, following: usize) -> bool
-    ensures { λ t. ⌜ t ≡ (ltb 0 (s .convexes) && (ltb 0 (s .last) && eqb following 0)) ⌝ }
+fn may_end(k: Counts, following: usize) -> bool
+    ensures { λ t. ⌜ t ≡ (ltb 0 (k .convexes) && (ltb 0 (k .last) && eqb following 0)) ⌝ }
 {
-    if s.convexes == 0 {
+    if k.convexes == 0 {
         return false;
     }
-    if s.last == 0 {
+    if k.last == 0 {
         return false;
     }
     following == 0
 }
 
-// Kind 4: the end, which so many bytes follow.
-pub fn end_in(s: State, following: usize) -> Outcome
-    ensures { λ r. ⌜ ((x : File) (next : ℕ) (left : List ℕ) → s ≡ stateOf (s .at) (x .region) → length left ≡ following → r ≡ outcomeOf true next (endIn x left)) ⌝ }
+// The payload of kind 4, which is empty: the end, which so many bytes follow.
+pub fn end_payload(payload: &[u8], s: State, following: usize) -> Outcome
+    requires { ⌜ length (now payload) ≡ 0 ⌝ }
+    ensures { λ r. ⌜ ((x : File) (next : ℕ) (left : List ℕ) → s .counts ≡ countsOf (x .region) → length left ≡ following → r ≡ outcomeOf true next (endIn x left)) ⌝ }
 {
-    if may_end(s, following) {
-        return Outcome::Done(s.total as u32);
+    let k = s.counts;
+    if may_end(k, following) {
+        return Outcome::Done(k.all as u32);
     }
     Outcome::Refused(ORDER)
 }

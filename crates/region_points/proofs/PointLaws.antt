@@ -13,15 +13,14 @@ use Rattle.algebra.specs.Lists.{every, some}
 use Rattle.algebra.proofs.Tests.{split}
 use Rattle.vector.specs.declared.Vec3.{Vec3}
 use Rattle.vector.specs.Numbers.{eqZ}
-use Rattle.vector.specs.Vectors.{vec}
 use Rattle.region.specs.declared.Halfspace.{Halfspace}
-use Rattle.region.specs.Regions.{Convex, Region, holdsHalfspace, holdsConvex, holds, halfspaceFrom}
+use Rattle.region.specs.Regions.{Convex, Region, holdsHalfspace, holdsConvex, holds}
 use Rattle.region.specs.Building.{total}
 use Rattle.region.proofs.FilledLaws.{Filled}
 use Rattle.region.specs.Rows.{row, convexRows, rowsFrom, rows, halfspaceAt}
 use Rattle.region.proofs.WriteBack.{eqZ-eq}
 use Rattle.region_points.specs.declared.Scan.{Scan}
-use Rattle.region_points.specs.Points.{halfspaceIn, state, scanned, scan, rowsHold}
+use Rattle.region_points.specs.Points.{state, scanned, scan, rowsHold}
 
 -- ---- Booleans
 
@@ -123,21 +122,19 @@ scan-start p n rs =
     record { upto = omega arith; left = ap (λ m. scan p m (state (pos 0) true false) rs) e }
 
 module _ (p : Vec3) (n : ℕ) (rs : List ℤ) (i : ℕ) (s : Scan) (now : Scanning p n rs i s) where
-  pub scan-next : {c : ℤ} {here : Bool} → i < n → c ≡ getD rs (5 * i) (pos 0) → here ≡ holdsHalfspace (halfspaceIn rs (5 * i)) p → Scanning p n rs (i + 1) (scanned s c here)
+  pub scan-next : {c : ℤ} {here : Bool} → i < n → c ≡ getD rs (5 * i) (pos 0) → here ≡ holdsHalfspace (halfspaceAt (drop (5 * i) rs)) p → Scanning p n rs (i + 1) (scanned s c here)
   unfolding scan
   scan-next {c} {here} h ec eh =
       let e : suc (n - (i + 1)) ≡ n - i = omega arith in
-      let at : (k : ℕ) → getD rs (5 * i + k) (pos 0) ≡ getD (drop (5 * i) rs) k (pos 0) = λ k. sym (getD-drop (5 * i) rs k (pos 0)) in
       let five : 5 * (i + 1) ≡ 5 * i + 5 = omega arith in
       let zero : 5 * i ≡ 5 * i + 0 = omega arith in
-      let number : c ≡ getD (drop (5 * i) rs) 0 (pos 0) = ec ∙ ap (λ m. getD rs m (pos 0)) zero ∙ at 0 in
-      let half : halfspaceIn rs (5 * i) ≡ halfspaceAt (drop (5 * i) rs) = λ j. halfspaceFrom (vec (at 1 j) (at 2 j) (at 3 j)) (at 4 j) in
+      let number : c ≡ getD (drop (5 * i) rs) 0 (pos 0) = ec ∙ ap (λ m. getD rs m (pos 0)) zero ∙ sym (getD-drop (5 * i) rs 0 (pos 0)) in
       record {
         upto = omega arith;
         left =
             ap (λ m. scan p (n - (i + 1)) (scanned s c here) (drop m rs)) five
             ∙ ap (scan p (n - (i + 1)) (scanned s c here)) (sym (drop-drop 5 (5 * i) rs))
-            ∙ (λ j. scan p (n - (i + 1)) (scanned s (number j) ((eh ∙ ap (λ q. holdsHalfspace q p) half) j)) (drop 5 (drop (5 * i) rs)))
+            ∙ (λ j. scan p (n - (i + 1)) (scanned s (number j) (eh j)) (drop 5 (drop (5 * i) rs)))
             ∙ ap (λ m. scan p m s (drop (5 * i) rs)) e
             ∙ now .left;
       }

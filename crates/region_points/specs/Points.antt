@@ -1,24 +1,18 @@
 -- A point against rows, one after the other, as the point test scans them. Document 01, 'Regions': a convex holds a point when all its halfspaces do, a
 -- region when at least one of its convexes does. That the scan of a region's rows is the region's own answer: proofs/PointLaws.
---   halfspaceIn rs k       the halfspace of the row that begins at number k of rs
 --   scanned s number h    one row more, of the convex `number`; h says whether its halfspace holds the point
 --   scan p n s rs         n rows more of rs, after the state s: the convex of the last row, whether it holds p so far, whether an earlier one does
 --   rowsHold p n rs       n rows from the beginning
-use Prim.Native.Nat.{ℕ, zero, suc, _+_}
+use Prim.Native.Nat.{ℕ, zero, suc}
 use mathlib.Core.Bool.{Bool, true, false, cond, _&&_, _||_}
 use mathlib.Core.List.{List}
 use lib.ListN.{getD, drop}
 use lib.IntN.{ℤ, pos}
 use Rattle.vector.specs.declared.Vec3.{Vec3}
 use Rattle.vector.specs.Numbers.{eqZ}
-use Rattle.vector.specs.Vectors.{vec}
-use Rattle.region.specs.declared.Halfspace.{Halfspace}
-use Rattle.region.specs.Regions.{halfspaceFrom, holdsHalfspace}
+use Rattle.region.specs.Regions.{holdsHalfspace}
 use Rattle.region.specs.Rows.{halfspaceAt}
 use Rattle.region_points.specs.declared.Scan.{Scan}
-
-abbrev pub halfspaceIn : List ℤ → ℕ → Halfspace
-halfspaceIn rs k = halfspaceFrom (vec (getD rs (k + 1) (pos 0)) (getD rs (k + 2) (pos 0)) (getD rs (k + 3) (pos 0))) (getD rs (k + 4) (pos 0))
 
 abbrev pub state : ℤ → Bool → Bool → Scan
 state number all any = record { number = number; all = all; any = any }

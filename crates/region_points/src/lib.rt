@@ -1,20 +1,22 @@
 // The point test: a point against the rows of a file, one after the other. The rule is `pointTest` of region/specs/Answers, the scan in specs/Points.
 use answer::VECTOR;
+use limits::HALFSPACES;
+use limits::K;
+use region::Halfspace;
 use region::HeaderOf;
 use region::HeldOf;
 use vector::Vec3;
 ghost use mathlib.Core.Path.{_≡_};
 ghost use mathlib.Core.Bool.{_&&_, _||_};
-ghost use Prim.Native.Nat.{_+_, _*_, _^_, _≤_, _<_};
-ghost use lib.ListN.{length};
+ghost use Prim.Native.Nat.{_+_, _*_, _^_, _≤_};
+ghost use lib.ListN.{length, drop};
 ghost use Rattle.algebra.proofs.Sizes.{Upto};
 ghost use Rattle.vector.proofs.Sizes.{AtMost, Small};
-ghost use Rattle.region.specs.Regions.{halfspaceFrom, holdsHalfspace};
+ghost use Rattle.region.specs.Regions.{holdsHalfspace};
+ghost use Rattle.region.specs.Rows.{halfspaceAt};
 ghost use Rattle.region.specs.Answers.{heldGiven, pointTest};
 ghost use Rattle.region_points.specs.Points as points;
-ghost use Rattle.region_points.specs.Points.{halfspaceIn, scanned, rowsHold};
-
-const K: i64 = 1048576;
+ghost use Rattle.region_points.specs.Points.{scanned, rowsHold};
 
 // The convex that is scanned: its number, whether it holds the point so far, and whether an earlier one does.
 pub struct Scan {
@@ -24,30 +26,22 @@ pub struct Scan {
 }
 
 // Whether a halfspace holds p: n·p > d·K, strictly.
-fn holds_halfspace(n: Vec3, d: i64, p: Vec3) -> bool
-    requires { ⌜ AtMost (2 ^ 31) n ⌝ }
-    requires { ⌜ Upto (2 ^ 31) d ⌝ }
+fn holds_halfspace(h: Halfspace, p: Vec3) -> bool
+    requires { ⌜ AtMost (2 ^ 31) (h .n) × Upto (2 ^ 31) (h .d) ⌝ }
     requires { ⌜ Small p ⌝ }
-    ensures { λ t. ⌜ t ≡ holdsHalfspace (halfspaceFrom n d) p ⌝ }
+    ensures { λ t. ⌜ t ≡ holdsHalfspace h p ⌝ }
 {
-    d * K < vector_products::dot(p, n)
+    let n = h.n;
+    h.d * K < vector_products::dot(p, n)
 }
 
 // Whether the halfspace of row i holds p.
 fn row_holds(rows: &[i32], i: usize, p: Vec3) -> bool
     requires { ⌜ 5 * i + 5 ≤ length (now rows) ⌝ }
     requires { ⌜ Small p ⌝ }
-    ensures { λ t. ⌜ t ≡ holdsHalfspace (halfspaceIn (now (rows .entry)) (5 * i)) p ⌝ }
+    ensures { λ t. ⌜ t ≡ holdsHalfspace (halfspaceAt (drop (5 * i) (now (rows .entry)))) p ⌝ }
 {
-    let at = 5 * i;
-    let x = region_rows::number_at(rows, at + 1);
-    let y = region_rows::number_at(rows, at + 2);
-    let z = region_rows::number_at(rows, at + 3);
-    holds_halfspace(
-        Vec3 { x: x, y: y, z: z },
-        region_rows::number_at(rows, at + 4),
-        p,
-    )
+    holds_halfspace(region_rows::halfspace_at(rows, 5 * i), p)
 }
 
 fn both(a: bool, b: bool) -> bool
@@ -104,7 +98,7 @@ fn rows_hold(rows: &[i32], count: usize, p: Vec3) -> bool
 }
 
 // Whether the region of the first `count` rows of an array holds p.
-fn array_holds(rows: &[i32; 2560], count: usize, p: Vec3) -> bool
+fn array_holds(rows: &[i32; 5 * HALFSPACES], count: usize, p: Vec3) -> bool
     requires { ⌜ 5 * count ≤ 2560 ⌝ }
     requires { ⌜ Small p ⌝ }
     ensures { λ t. ⌜ t ≡ rowsHold p count (now (rows .entry)) ⌝ }
@@ -116,7 +110,7 @@ fn array_holds(rows: &[i32; 2560], count: usize, p: Vec3) -> bool
 pub fn point_test(file: &[u8], p: Vec3) -> HeldOf
     ensures { λ r. ⌜ heldGiven r ≡ pointTest (now (file .entry)) p ⌝ }
 {
-    let mut rows = [0i32; 2560];
+    let mut rows = [0i32; 5 * HALFSPACES];
     let said = region_reader::decode(file, &mut rows);
     match said {
         HeaderOf::Gives(h) => {

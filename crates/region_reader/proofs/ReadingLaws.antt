@@ -5,7 +5,7 @@ use native.Mathlib.Nat.{add-zero, add-suc}
 use native.Mathlib.Omega.{arith}
 use mathlib.Core.Path.{_≡_, refl, sym, ap, _∙_}
 use mathlib.Core.Bool.{Bool, true, false}
-use mathlib.Core.List.{List}
+use mathlib.Core.List.{List, []}
 use lib.Dec.{eqb}
 use lib.ListN.{length, drop, length-drop}
 use lib.IntN.{ℤ}
@@ -13,11 +13,13 @@ use Rattle.answer.specs.Answer.{Answer, refused, gives, then, with-value}
 use Rattle.answer.specs.Lent.{put}
 use Rattle.answer.proofs.AnswerLaws.{refused-gives, same-value}
 use Rattle.region.specs.declared.Header.{Header}
-use Rattle.region.specs.Building.{lastConvex, total}
+use Rattle.region.specs.Building.{total}
 use Rattle.region.specs.Rows.{rowsFrom, rows}
 use Rattle.region.specs.Reader.{File, lengthOf, kindOf, after, recordIn, recordsIn}
 use Rattle.region.specs.Answers.{headerOf}
 use Rattle.region.proofs.ReaderLaws.{record-keeps, record-whole, one-more}
+use Rattle.region_counts.specs.declared.Counts.{Counts}
+use Rattle.region_counts.specs.Counts.{countsOf}
 use Rattle.region_contents.specs.declared.State.{State}
 use Rattle.region_contents.specs.declared.Outcome.{Outcome}
 use Rattle.region_contents.specs.Contents.{stateOf, outcomeOf, Stands, Taken}
@@ -94,15 +96,15 @@ pub record Reading (f : List ℕ) (h : Header) (before rs : List ℤ) (s : State
   pub stands : Stands before (file .region) s rs
   pub same : recordsIn (length (drop (s .at) f)) file (drop (s .at) f) ≡ recordsAfter h f
 
-pub reading-none : (f : List ℕ) (h : Header) (before : List ℤ) → 8 ≤ length f → Reading f h before before (record { at = 8; convexes = 0; last = 0; total = 0 })
-unfolding lastConvex total rows rowsFrom
-reading-none f h before l = record {
+pub reading-none : (f : List ℕ) (h : Header) (before : List ℤ) → 8 ≤ length f → (k : Counts) → k ≡ countsOf [] → Reading f h before before (record { at = 8; counts = k })
+unfolding rows rowsFrom
+reading-none f h before l k e = record {
   file = headedFile h;
   depth = refl;
   budget = refl;
   within = l;
   room = refl;
-  stands = record { state = refl; rows = refl };
+  stands = record { counts = e; rows = refl };
   same = enough (headedFile h) (drop 8 f) (length (drop 8 f)) (length f) (omega arith) (omega (arith, length-drop 8 f));
 }
 
@@ -143,7 +145,7 @@ module _ (f : List ℕ) (h : Header) (before rs : List ℤ) (s : State) (d : Rea
           budget = kept y (found .gave) .1;
           within = reading-further .1;
           room = l ∙ d .room;
-          stands = record { state = found .state ∙ ap (λ n. stateOf n (y .region)) (sym place); rows = taken .rows y (found .gave) };
+          stands = record { counts = ap (λ t. t .counts) (found .state); rows = taken .rows y (found .gave) };
           same =
               ap (λ t. recordsIn (length t) y t) (sym p)
               ∙ enough y left (length left) (length rest) (omega arith) (omega (arith, length-drop (lengthOf rest) rest))

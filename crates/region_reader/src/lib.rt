@@ -1,27 +1,27 @@
 // The reader of region files: one pass over the records, and the call that copies the rows. The rules stand in region/specs/Reader and Answers, what
 // a pass gives in specs/Reading.
 use answer::LONG;
-use answer::ORDER;
 use answer::SPACE;
+use limits::HALFSPACES;
+use limits::LONGEST;
 use region::Header;
 use region::HeaderOf;
+use region::Record;
 use region_contents::Outcome;
 use region_contents::State;
 use region_records::Frame;
 ghost use mathlib.Core.Path.{_≡_};
-ghost use Prim.Native.Nat.{_+_, _*_, _-_, _≤_, _<_};
+ghost use Prim.Native.Nat.{_-_, _≤_};
 ghost use lib.ListN.{length, take};
 ghost use Rattle.answer.specs.Answer.{gives, with-value};
 ghost use Rattle.answer.specs.Lent.{put};
 ghost use Rattle.region.specs.Rows as region;
-ghost use Rattle.region.specs.Reader.{File, header};
+ghost use Rattle.region.specs.Reader.{File};
 ghost use Rattle.region.specs.Reader as rule;
 ghost use Rattle.region.specs.Answers.{headerOf, headerGiven, readAnswer, readAfter};
 ghost use Rattle.region_reader.specs.Reading.{Recorded, recordsAfter};
 
-const LONGEST: usize = 10508;
-
-// The record at the state's place, by its kind.
+// The record at the state's place: its payload is handed on, as that part of the file, to the payload reader of its kind.
 fn record_in(file: &[u8], s: State, rows: &mut [i32]) -> Outcome
     requires { ⌜ s .at ≤ length (now file) ⌝ }
     requires { ⌜ length (now rows) ≡ 2560 ⌝ }
@@ -31,24 +31,15 @@ fn record_in(file: &[u8], s: State, rows: &mut [i32]) -> Outcome
     let frame = region_records::frame_at(file, at);
     match frame {
         Frame::Refused(n) => Outcome::Refused(n),
-        Frame::Of(len, kind) => {
-            let from = at + 4;
-            let to = at + len as usize;
-            if kind == 1 {
-                return Outcome::Refused(ORDER);
+        Frame::Of(len, record) => {
+            let payload = &file[at + 4..at + len];
+            let next = at + len;
+            match record {
+                Record::Header => region_contents::header_again(payload),
+                Record::Convex => region_contents::convex_payload(payload, s, next),
+                Record::Halfspace => region_contents::halfspace_payload(payload, s, next, rows),
+                Record::End => region_contents::end_payload(payload, s, file.len() - next),
             }
-            if kind == 2 {
-                return region_contents::convex_in(s, to);
-            }
-            if kind == 3 {
-                return region_contents::halfspace_in(
-                    s,
-                    to,
-                    region_records::halfspace_payload(&file[from..to]),
-                    rows,
-                );
-            }
-            region_contents::end_in(s, file.len() - to)
         }
     }
 }
@@ -60,11 +51,10 @@ fn records_in(file: &[u8], h: Header, rows: &mut [i32]) -> HeaderOf
     ensures { λ r. ⌜ headerGiven r ≡ with-value headerOf (recordsAfter h (now (file .entry))) ⌝ }
     ensures { λ r. ⌜ ((x : File) → recordsAfter h (now (file .entry)) ≡ gives x → now (rows .exit) ≡ put 0 (region.rows (x .region)) (now (rows .entry))) ⌝ }
 {
+    let none = region_counts::none();
     let mut s = State {
         at: 8,
-        convexes: 0,
-        last: 0,
-        total: 0,
+        counts: none,
     };
     loop {
         let o = record_in(file, s, rows);
@@ -88,7 +78,7 @@ fn records_in(file: &[u8], h: Header, rows: &mut [i32]) -> HeaderOf
 
 // The one pass over a file that reader, point test and cover share: count, depth and budget, with the rows at the beginning of `rows`, where 512 rows
 // of five have room; or the refusal of the first failed check, and then nothing is said of `rows`.
-pub fn decode(file: &[u8], rows: &mut [i32; 2560]) -> HeaderOf
+pub fn decode(file: &[u8], rows: &mut [i32; 5 * HALFSPACES]) -> HeaderOf
     ensures { λ r. ⌜ headerGiven r ≡ with-value headerOf (rule.read (now (file .entry))) ⌝ }
     ensures { λ r. ⌜ ((x : File) → rule.read (now (file .entry)) ≡ gives x → now (rows .exit) ≡ put 0 (region.rows (x .region)) (now (rows .entry))) ⌝ }
 {
@@ -115,7 +105,7 @@ fn copy(from: &[i32], n: usize, to: &mut [i32])
 }
 
 // The same from an array of 512 rows.
-fn copy_rows(from: &[i32; 2560], n: usize, to: &mut [i32])
+fn copy_rows(from: &[i32; 5 * HALFSPACES], n: usize, to: &mut [i32])
     requires { ⌜ (n ≤ 2560) × (n ≤ length (now to)) ⌝ }
     ensures { λ _. ⌜ now (to .exit) ≡ put 0 (take n (now (from .entry))) (now (to .entry)) ⌝ }
 {
@@ -128,7 +118,7 @@ pub fn read(file: &[u8], rows: &mut [i32]) -> HeaderOf
     ensures { λ r. ⌜ headerGiven r ≡ readAnswer (now (file .entry)) (now (rows .entry)) ⌝ }
     ensures { λ r. ⌜ now (rows .exit) ≡ readAfter (now (file .entry)) (now (rows .entry)) ⌝ }
 {
-    let mut decoded = [0i32; 2560];
+    let mut decoded = [0i32; 5 * HALFSPACES];
     let said = decode(file, &mut decoded);
     match said {
         HeaderOf::Gives(h) => {

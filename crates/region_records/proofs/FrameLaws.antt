@@ -1,23 +1,24 @@
--- A record's length and kind, where they stand in the file: the checks 2 and 3, and what a record is by its kind once they have passed.
+-- A record's length and kind, where they stand in the file: the checks 2 and 3, and what a record makes once they have passed.
 -- Reading byte k of what is left is reading byte `at + k` of the file. Assumes nothing.
 use Prim.Native.Nat.{ℕ, _+_, _*_, _-_, _≤_, _<_}
 use native.Mathlib.Nat.{add-zero}
 use native.Mathlib.Omega.{arith}
 use mathlib.Core.Path.{_≡_, refl, sym, ap, _∙_}
-use mathlib.Core.Bool.{Bool, true, false, cond, _&&_, true≢false, false≢true}
+use mathlib.Core.Bool.{Bool, true, false, cond, _&&_}
 use mathlib.Core.List.{List}
 use lib.Dec.{leb, eqb}
 use lib.ListN.{length, take, drop, getD, length-drop}
 use lib.Seq.{getD-drop, drop-drop}
-use borrow.Author.Tests.{leb-true, lt-leb, le-leb, eqb-true, eq-eqb, ne-eqb}
-use Rattle.algebra.proofs.Tests.{and-left, and-right, and-then, and-else, split}
-use Rattle.answer.specs.Answer.{Answer, refused, gives, check, Torn, Kind, Order}
-use Rattle.answer.proofs.AnswerLaws.{check-passed, check-gives}
+use borrow.Author.Tests.{leb-true, lt-leb, le-leb}
+use Rattle.algebra.proofs.Tests.{and-left, and-right, and-then, and-else}
+use Rattle.answer.specs.Answer.{Answer, refused, gives, check, then, Torn, Kind}
+use Rattle.region.specs.declared.Record.{Record}
 use Rattle.region.specs.Bytes.{word}
-use Rattle.region.specs.Reader.{File, lengthOf, kindOf, payload, after, whole, known, framed, headerOf, header, convexIn, halfspaceIn, endIn, recordIn}
-use Rattle.region.proofs.ReaderLaws.{kept-whole, framed-gives}
+use Rattle.region.specs.Records.{kind, is, recordOf}
+use Rattle.region.specs.Reader.{File, lengthOf, kindOf, payload, after, whole, recordAt, headerIn, header, partIn, recordIn}
+use Rattle.region.proofs.ReaderLaws.{Begins, begins, header-read}
 use Rattle.region_records.specs.declared.Frame.{Frame}
-use Rattle.region_records.specs.Frames.{frameOf}
+use Rattle.region_records.specs.Frames.{frameBy, frameOf}
 
 -- ---- the file from a place on
 
@@ -75,153 +76,84 @@ module _ (f : List ℕ) (at : ℕ) where
 
 -- ---- 3
 
-pub known-1 : (len : ℕ) → known 1 len ≡ eqb len 8
-known-1 len = split (eqb len 8) (λ e. rw e) (λ e. rw e)
-
-pub known-2 : (len : ℕ) → known 2 len ≡ eqb len 4
-known-2 len = split (eqb len 4) (λ e. rw e) (λ e. rw e)
-
-pub known-3 : (len : ℕ) → known 3 len ≡ eqb len 20
-known-3 len = split (eqb len 20) (λ e. rw e) (λ e. rw e)
-
-pub known-4 : (len : ℕ) → known 4 len ≡ eqb len 4
-known-4 len = refl
-
-pub known-none : (kind len : ℕ) → (kind ≡ 1 → ⊥) → (kind ≡ 2 → ⊥) → (kind ≡ 3 → ⊥) → (kind ≡ 4 → ⊥) → false ≡ known kind len
-known-none kind len n1 n2 n3 n4 = rw (ne-eqb kind 1 n1, ne-eqb kind 2 n2, ne-eqb kind 3 n3, ne-eqb kind 4 n4)
+pub by-tests : (n len : ℕ) (a b c d : Bool) → is n len Record.Header ≡ a → is n len Record.Convex ≡ b → is n len Record.Halfspace ≡ c → is n len Record.End ≡ d
+    → cond a (gives Record.Header) (cond b (gives Record.Convex) (cond c (gives Record.Halfspace) (cond d (gives Record.End) (refused Kind)))) ≡ recordOf n len
+by-tests n len a b c d ea eb ec ed =
+    λ i. cond (sym ea i) (gives Record.Header) (cond (sym eb i) (gives Record.Convex) (cond (sym ec i) (gives Record.Halfspace) (cond (sym ed i) (gives Record.End) (refused Kind))))
 
 -- ---- the frame
 
-frame-is : (rest : List ℕ) (w k : Bool) → whole rest ≡ w → known (kindOf rest) (lengthOf rest) ≡ k
-    → frameOf rest ≡ cond w (cond k (Frame.Of (lengthOf rest) (kindOf rest)) (Frame.Refused Kind)) (Frame.Refused Torn)
-frame-is rest w k e g = λ i. cond (e i) (cond (g i) (Frame.Of (lengthOf rest) (kindOf rest)) (Frame.Refused Kind)) (Frame.Refused Torn)
-
 pub frame-torn : (rest : List ℕ) → whole rest ≡ false → Frame.Refused Torn ≡ frameOf rest
-frame-torn rest e = sym (frame-is rest false (known (kindOf rest) (lengthOf rest)) e refl)
+frame-torn rest e = ap (λ w. frameBy (lengthOf rest) (check Torn w (recordOf (kindOf rest) (lengthOf rest)))) (sym e)
 
-module _ (f : List ℕ) (at len kind : ℕ) (el : len ≡ word f at) (ek : kind ≡ word f (at + 2)) (w : whole (drop at f) ≡ true) where
-  same-known : known (kindOf (drop at f)) (lengthOf (drop at f)) ≡ known kind len
-  same-known i = known ((kind-at f at ∙ sym ek) i) ((length-at f at ∙ sym el) i)
-
-  pub frame-unknown : known kind len ≡ false → Frame.Refused Kind ≡ frameOf (drop at f)
-  frame-unknown e = sym (frame-is (drop at f) true false w (same-known ∙ e))
-
-  pub frame-known : known kind len ≡ true → Frame.Of len kind ≡ frameOf (drop at f)
-  frame-known e =
-      (λ i. Frame.Of ((el ∙ sym (length-at f at)) i) ((ek ∙ sym (kind-at f at)) i))
-      ∙ sym (frame-is (drop at f) true true w (same-known ∙ e))
+pub frame-is : (f : List ℕ) (at len kind : ℕ) → len ≡ word f at → kind ≡ word f (at + 2) → whole (drop at f) ≡ true
+    → (a : Answer Record) → a ≡ recordOf kind len → frameBy len a ≡ frameOf (drop at f)
+frame-is f at len kind el ek w a e =
+    let rest = drop at f in
+    let l : len ≡ lengthOf rest = el ∙ sym (length-at f at) in
+    let k : kind ≡ kindOf rest = ek ∙ sym (kind-at f at) in
+    (λ i. frameBy (l i) ((e ∙ (λ j. recordOf (k j) (l j))) i))
+    ∙ ap (λ w. frameBy (lengthOf rest) (check Torn w (recordOf (kindOf rest) (lengthOf rest)))) (sym w)
 
 -- ---- what a frame says
 
-pub record Framed (rest : List ℕ) (len kind : ℕ) : Type 0 where
+pub record Framed (rest : List ℕ) (len : ℕ) (r : Record) : Type 0 where
   pub len-is : len ≡ lengthOf rest
-  pub kind-is : kind ≡ kindOf rest
-  pub is-whole : whole rest ≡ true
-  pub is-known : known kind len ≡ true
+  pub record-is : recordAt rest ≡ gives r
 
-framed-says : (rest : List ℕ) (len kind : ℕ) (w k : Bool) → whole rest ≡ w → known (kindOf rest) (lengthOf rest) ≡ k
-    → Frame.Of len kind ≡ cond w (cond k (Frame.Of (lengthOf rest) (kindOf rest)) (Frame.Refused Kind)) (Frame.Refused Torn) → Framed rest len kind
-framed-says rest len kind true true e g q =
-    let l : len ≡ lengthOf rest = cc in
-    let n : kind ≡ kindOf rest = cc in
-    record { len-is = l; kind-is = n; is-whole = e; is-known = (λ i. known (n i) (l i)) ∙ g }
-framed-says rest len kind true false e g q = let z : _≡_ {A = ℕ} 0 1 = cc in absurd (omega arith)
-framed-says rest len kind false k e g q = let z : _≡_ {A = ℕ} 0 1 = cc in absurd (omega arith)
+by-answer : (rest : List ℕ) (len : ℕ) (r : Record) (a : Answer Record) → recordAt rest ≡ a → Frame.Of len r ≡ frameBy (lengthOf rest) a → Framed rest len r
+by-answer rest len r (refused n) e q = let z : _≡_ {A = ℕ} 0 1 = cc in absurd (omega arith)
+by-answer rest len r (gives p) e q = let l : len ≡ lengthOf rest = cc in let s : r ≡ p = cc in record { len-is = l; record-is = e ∙ ap gives (sym s) }
 
-pub frame-says : (rest : List ℕ) (len kind : ℕ) → Frame.Of len kind ≡ frameOf rest → Framed rest len kind
-frame-says rest len kind q = framed-says rest len kind (whole rest) (known (kindOf rest) (lengthOf rest)) refl refl q
+pub frame-says : (rest : List ℕ) (len : ℕ) (r : Record) → Frame.Of len r ≡ frameOf rest → Framed rest len r
+frame-says rest len r q = by-answer rest len r (recordAt rest) refl q
 
-refused-says : (n : ℕ) (w k : Bool) (len kind : ℕ) (a : Answer File)
-    → Frame.Refused n ≡ cond w (cond k (Frame.Of len kind) (Frame.Refused Kind)) (Frame.Refused Torn) → check Torn w (check Kind k a) ≡ refused n
-refused-says n true true len kind a q = let z : _≡_ {A = ℕ} 0 1 = cc in absurd (omega arith)
-refused-says n true false len kind a q = cc
-refused-says n false k len kind a q = cc
+no-record : (rest : List ℕ) (n : ℕ) (a : Answer Record) → Frame.Refused n ≡ frameBy (lengthOf rest) a → a ≡ refused n
+no-record rest n (refused m) q = cc
+no-record rest n (gives r) q = let z : _≡_ {A = ℕ} 0 1 = cc in absurd (omega arith)
 
 module _ (rest : List ℕ) (n : ℕ) (q : Frame.Refused n ≡ frameOf rest) where
-  frame-refused : (a : Answer File) → framed rest a ≡ refused n
-  frame-refused a = refused-says n (whole rest) (known (kindOf rest) (lengthOf rest)) (lengthOf rest) (kindOf rest) a q
-
   pub header-refused : header rest ≡ refused n
   unfolding header
-  header-refused = frame-refused _
+  header-refused = ap (λ a. then a (λ r. headerIn r (payload rest))) (no-record rest n (recordAt rest) q)
 
   pub record-refused : (x : File) → recordIn x rest ≡ refused n
   unfolding recordIn
-  record-refused x = frame-refused _
+  record-refused x = ap (λ a. then a (λ r. partIn x r (payload rest) (after rest))) (no-record rest n (recordAt rest) q)
 
 -- ---- where a record ends
 
-module _ (f : List ℕ) (at len kind : ℕ) (r : Framed (drop at f) len kind) (h : at ≤ length f) where
+module _ (f : List ℕ) (at len : ℕ) (r : Record) (d : Framed (drop at f) len r) (h : at ≤ length f) where
+  framed-begins : Begins (drop at f) r
+  framed-begins = begins (drop at f) r (d .record-is)
+
+  pub begins-least : 4 ≤ len
+  begins-least = omega (arith, d .len-is, framed-begins .least)
+
   pub end-within : at + len ≤ length f
-  end-within = omega (arith, r .len-is, whole-says (drop at f) (r .is-whole), length-drop at f)
+  end-within = omega (arith, d .len-is, framed-begins .most, length-drop at f)
 
   pub left-after : length (after (drop at f)) ≡ length f - (at + len)
-  left-after = omega (arith, r .len-is, length-drop (lengthOf (drop at f)) (drop at f), length-drop at f)
+  left-after = omega (arith, d .len-is, length-drop (lengthOf (drop at f)) (drop at f), length-drop at f)
 
--- ---- a record by its kind
+-- ---- a record by what it is
 
-module _ (rest : List ℕ) (len kind : ℕ) (r : Framed rest len kind) where
-  framed-on : (a : Answer File) → framed rest a ≡ a
-  framed-on a =
-      let k : known (kindOf rest) (lengthOf rest) ≡ true = (λ i. known (sym (r .kind-is) i) (sym (r .len-is) i)) ∙ r .is-known in
-      λ i. check Torn (r .is-whole i) (check Kind (k i) a)
-
-  is : (n : ℕ) → kind ≡ n → eqb (kindOf rest) n ≡ true
-  is n e = eq-eqb (kindOf rest) n (sym (r .kind-is) ∙ e)
-
-  is-not : (n : ℕ) → (kind ≡ n → ⊥) → eqb (kindOf rest) n ≡ false
-  is-not n e = ne-eqb (kindOf rest) n (λ q. e (r .kind-is ∙ q))
-
-  pub no-header : (kind ≡ 1 → ⊥) → header rest ≡ refused Order
+module _ (rest : List ℕ) (r : Record) (e : recordAt rest ≡ gives r) where
+  pub header-by : header rest ≡ headerIn r (payload rest)
   unfolding header
-  no-header e = framed-on _ ∙ ap (λ t. check Order t (headerOf (payload rest))) (is-not 1 e)
+  header-by = ap (λ a. then a (λ r. headerIn r (payload rest))) e
 
-  pub header-first : kind ≡ 1 → header rest ≡ headerOf (payload rest)
-  unfolding header
-  header-first e = framed-on _ ∙ ap (λ t. check Order t (headerOf (payload rest))) (is 1 e)
+  pub record-by : (x : File) → recordIn x rest ≡ partIn x r (payload rest) (after rest)
+  unfolding recordIn
+  record-by x = ap (λ a. then a (λ r. partIn x r (payload rest) (after rest))) e
 
-  pub of-kind-1 : kind ≡ 1 → len ≡ 8
-  of-kind-1 e = eqb-true len 8 (sym (known-1 len) ∙ ap (λ k. known k len) (sym e) ∙ r .is-known)
-
-  pub of-kind-3 : kind ≡ 3 → len ≡ 20
-  of-kind-3 e = eqb-true len 20 (sym (known-3 len) ∙ ap (λ k. known k len) (sym e) ∙ r .is-known)
-
-  module _ (x : File) where
-    by-kind : (k1 k2 k3 : Bool) → eqb (kindOf rest) 1 ≡ k1 → eqb (kindOf rest) 2 ≡ k2 → eqb (kindOf rest) 3 ≡ k3
-        → recordIn x rest ≡ cond k1 (refused Order) (cond k2 (convexIn x) (cond k3 (halfspaceIn x (payload rest)) (endIn x (after rest))))
-    unfolding recordIn
-    by-kind k1 k2 k3 e1 e2 e3 =
-        framed-on _ ∙ (λ i. cond (e1 i) (refused Order) (cond (e2 i) (convexIn x) (cond (e3 i) (halfspaceIn x (payload rest)) (endIn x (after rest)))))
-
-    pub header-again : kind ≡ 1 → recordIn x rest ≡ refused Order
-    header-again e = by-kind true _ _ (is 1 e) refl refl
-
-    pub convex-record : kind ≡ 2 → recordIn x rest ≡ convexIn x
-    convex-record e = by-kind false true _ (is-not 1 (λ q. omega (arith, e, q))) (is 2 e) refl
-
-    pub halfspace-record : kind ≡ 3 → recordIn x rest ≡ halfspaceIn x (payload rest)
-    halfspace-record e = by-kind false false true (is-not 1 (λ q. omega (arith, e, q))) (is-not 2 (λ q. omega (arith, e, q))) (is 3 e)
-
-    pub end-record : (kind ≡ 1 → ⊥) → (kind ≡ 2 → ⊥) → (kind ≡ 3 → ⊥) → recordIn x rest ≡ endIn x (after rest)
-    end-record n1 n2 n3 = by-kind false false false (is-not 1 n1) (is-not 2 n2) (is-not 3 n3)
-
-  pub is-end : (kind ≡ 1 → ⊥) → (kind ≡ 2 → ⊥) → (kind ≡ 3 → ⊥) → eqb (kindOf rest) 4 ≡ true
-  is-end n1 n2 n3 = split (eqb (kindOf rest) 4) (λ e. e)
-      (λ e. let z : false ≡ true = known-none kind len n1 n2 n3 (λ q. let t : true ≡ false = sym (is 4 q) ∙ e in absurd (true≢false t)) ∙ r .is-known in absurd (false≢true z))
-
-  pub is-no-end : (n : ℕ) → kind ≡ n → n < 4 → eqb (kindOf rest) 4 ≡ false
-  is-no-end n e l = is-not 4 (λ q. omega (arith, e, q))
+  pub is-end : eqb (kindOf rest) 4 ≡ eqb (kind r) 4
+  is-end = ap (λ k. eqb k 4) (begins rest r e .its-kind)
 
 -- ---- an accepted header
 
 pub header-length : (f : List ℕ) (x : File) → header f ≡ gives x → lengthOf f ≡ 8
-unfolding header
-header-length f x e =
-    let a = check Order (eqb (kindOf f) 1) (headerOf (payload f)) in
-    let k = check-passed Kind (known (kindOf f) (lengthOf f)) a x (check-gives Torn (whole f) _ x e) in
-    let o = check-passed Order (eqb (kindOf f) 1) (headerOf (payload f)) x (framed-gives f a x e) in
-    eqb-true (lengthOf f) 8 (sym (known-1 (lengthOf f)) ∙ ap (λ n. known n (lengthOf f)) (sym (eqb-true (kindOf f) 1 o)) ∙ k)
+header-length f x e = header-read f x e .0 .its-size
 
 pub header-whole : (f : List ℕ) (x : File) → header f ≡ gives x → 8 ≤ length f
-unfolding header
-header-whole f x e = omega (arith, whole-says f (kept-whole f _ x e), header-length f x e)
+header-whole f x e = let b = header-read f x e .0 in omega (arith, b)

@@ -1,11 +1,21 @@
--- The frame of a record: its length and its kind. Document 01, 'Regions'.
---   frameOf rest           the length and the kind of the record that `rest` begins with, or the refusal 2 or 3
+-- The frame of a record: its length, and what it is. Document 01, 'Regions'.
+--   recordGiven r          what was answered
+--   frameOf rest           the length of the record that `rest` begins with and what it is, or the refusal 2 or 3
 use Prim.Native.Nat.{ℕ}
-use mathlib.Core.Bool.{cond}
 use mathlib.Core.List.{List}
-use Rattle.answer.specs.Answer.{Torn, Kind}
-use Rattle.region.specs.Reader.{lengthOf, kindOf, whole, known}
+use Rattle.answer.specs.Answer.{Answer, refused, gives}
+use Rattle.region.specs.declared.Record.{Record}
+use Rattle.region.specs.Reader.{lengthOf, recordAt}
+use Rattle.region_records.specs.declared.RecordOf.{RecordOf}
 use Rattle.region_records.specs.declared.Frame.{Frame}
 
+abbrev pub recordGiven : RecordOf → Answer Record
+recordGiven (RecordOf.Gives r) = gives r
+recordGiven (RecordOf.Refused n) = refused n
+
+abbrev pub frameBy : ℕ → Answer Record → Frame
+frameBy len (gives r) = Frame.Of len r
+frameBy len (refused n) = Frame.Refused n
+
 abbrev pub frameOf : List ℕ → Frame
-frameOf rest = cond (whole rest) (cond (known (kindOf rest) (lengthOf rest)) (Frame.Of (lengthOf rest) (kindOf rest)) (Frame.Refused Kind)) (Frame.Refused Torn)
+frameOf rest = frameBy (lengthOf rest) (recordAt rest)

@@ -1,5 +1,5 @@
-// Records of a region file in code: length and kind, checked for 2 and 3; the payloads of a header and of a halfspace. The rules stand in
-// region/specs/Reader and Bytes, the frame of a record in specs/Frames.
+// Records of a region file in code: kinds and lengths, checked for 2 and 3; the first record with its payload reader, and the numbers of a halfspace. The
+// rules stand in region/specs/Records, Reader and Bytes, the frame of a record in specs/Frames.
 use answer::BUDGET;
 use answer::DEPTH;
 use answer::KIND;
@@ -8,23 +8,28 @@ use answer::TORN;
 use region::Halfspace;
 use region::Header;
 use region::HeaderOf;
+use region::Record;
 use vector::Vec3;
 ghost use mathlib.Core.Path.{_≡_};
-ghost use mathlib.Core.Bool.{false, _&&_};
-ghost use Prim.Native.Nat.{_+_, _*_, _-_, _≤_, _<_};
+ghost use Prim.Native.Nat.{_+_, _-_, _≤_, _<_};
 ghost use lib.ListN.{length, drop};
 ghost use Rattle.answer.specs.Answer.{with-value};
-ghost use Rattle.vector.specs.Numbers.{isDepth};
 ghost use Rattle.region.specs.Bytes as bytes;
-ghost use Rattle.region.specs.Budgets.{isBudget};
-ghost use Rattle.region.specs.Reader.{whole, known, header, halfspaceOf};
+ghost use Rattle.region.specs.Records.{kind, size, is, recordOf};
+ghost use Rattle.region.specs.Reader.{whole, header, halfspaceOf};
 ghost use Rattle.region.specs.Reader as rule;
 ghost use Rattle.region.specs.Answers.{headerOf, headerGiven};
-ghost use Rattle.region_records.specs.Frames.{frameOf};
+ghost use Rattle.region_records.specs.Frames.{recordGiven, frameOf};
 
-// A record's length and kind, or the refusal 2 or 3.
+// What a record is, or the refusal 3.
+pub enum RecordOf {
+    Gives(Record),
+    Refused(u32),
+}
+
+// The length of a record in bytes and what it is, or the refusal 2 or 3.
 pub enum Frame {
-    Of(u32, u32),
+    Of(usize, Record),
     Refused(u32),
 }
 
@@ -66,26 +71,57 @@ fn is_whole(file: &[u8], at: usize) -> bool
     4 <= len && len <= left
 }
 
-// 3: a kind from 1 to 4, with its length.
-fn is_known(kind: u32, len: u32) -> bool
-    ensures { λ t. ⌜ t ≡ known kind len ⌝ }
+// The kind of a record.
+pub fn kind_of(r: Record) -> u32
+    ensures { λ n. ⌜ (n ≡ kind r) × (n < 65536) ⌝ }
 {
-    if kind == 1 {
-        return len == 8;
+    match r {
+        Record::Header => 1,
+        Record::Convex => 2,
+        Record::Halfspace => 3,
+        Record::End => 4,
     }
-    if kind == 2 {
-        return len == 4;
-    }
-    if kind == 3 {
-        return len == 20;
-    }
-    if kind == 4 {
-        return len == 4;
-    }
-    false
 }
 
-// The length and the kind of the record at `at`, or the refusal 2 or 3.
+// The length of a record in bytes.
+pub fn size_of(r: Record) -> u32
+    ensures { λ n. ⌜ (n ≡ size r) × (n < 65536) ⌝ }
+{
+    match r {
+        Record::Header => 8,
+        Record::Convex => 4,
+        Record::Halfspace => 20,
+        Record::End => 4,
+    }
+}
+
+// Whether a record of this kind and length is r.
+fn is_record(kind: u32, len: u32, r: Record) -> bool
+    ensures { λ t. ⌜ t ≡ is kind len r ⌝ }
+{
+    kind == kind_of(r) && len == size_of(r)
+}
+
+// What a record of this kind and length is, or the refusal 3.
+fn record_of(kind: u32, len: u32) -> RecordOf
+    ensures { λ r. ⌜ recordGiven r ≡ recordOf kind len ⌝ }
+{
+    if is_record(kind, len, Record::Header) {
+        return RecordOf::Gives(Record::Header);
+    }
+    if is_record(kind, len, Record::Convex) {
+        return RecordOf::Gives(Record::Convex);
+    }
+    if is_record(kind, len, Record::Halfspace) {
+        return RecordOf::Gives(Record::Halfspace);
+    }
+    if is_record(kind, len, Record::End) {
+        return RecordOf::Gives(Record::End);
+    }
+    RecordOf::Refused(KIND)
+}
+
+// The length of the record at `at` and what it is, or the refusal 2 or 3.
 pub fn frame_at(file: &[u8], at: usize) -> Frame
     requires { ⌜ at ≤ length (now file) ⌝ }
     ensures { λ r. ⌜ r ≡ frameOf (drop at (now (file .entry))) ⌝ }
@@ -94,25 +130,11 @@ pub fn frame_at(file: &[u8], at: usize) -> Frame
         return Frame::Refused(TORN);
     }
     let len = word(file, at);
-    let kind = word(file, at + 2);
-    if !is_known(kind, len) {
-        return Frame::Refused(KIND);
+    let found = record_of(word(file, at + 2), len);
+    match found {
+        RecordOf::Gives(r) => Frame::Of(len as usize, r),
+        RecordOf::Refused(n) => Frame::Refused(n),
     }
-    Frame::Of(len, kind)
-}
-
-// 5: a depth from 1 to 12.
-fn is_depth(d: u32) -> bool
-    ensures { λ t. ⌜ t ≡ isDepth d ⌝ }
-{
-    1 <= d && d <= 12
-}
-
-// 6: a budget of at most 2048.
-fn is_budget(b: u32) -> bool
-    ensures { λ t. ⌜ t ≡ isBudget b ⌝ }
-{
-    b <= 2048
 }
 
 // The payload of kind 1: depth and budget.
@@ -122,10 +144,10 @@ fn header_payload(s: &[u8]) -> HeaderOf
 {
     let depth = word(s, 0);
     let budget = word(s, 2);
-    if !is_depth(depth) {
+    if !limits::is_depth(depth) {
         return HeaderOf::Refused(DEPTH);
     }
-    if !is_budget(budget) {
+    if !limits::is_budget(budget) {
         return HeaderOf::Refused(BUDGET);
     }
     HeaderOf::Gives(Header {
@@ -139,21 +161,21 @@ fn header_payload(s: &[u8]) -> HeaderOf
 pub fn header_in(file: &[u8]) -> HeaderOf
     ensures { λ r. ⌜ headerGiven r ≡ with-value headerOf (header (now (file .entry))) ⌝ }
 {
-    let frame = frame_at(file, 0);
+    let at = 0;
+    let frame = frame_at(file, at);
     match frame {
         Frame::Refused(n) => HeaderOf::Refused(n),
-        Frame::Of(len, kind) => {
-            if kind != 1 {
-                return HeaderOf::Refused(ORDER);
-            }
-            let to = len as usize;
-            header_payload(&file[4..to])
-        }
+        Frame::Of(len, record) => match record {
+            Record::Header => header_payload(&file[at + 4..at + len]),
+            Record::Convex => HeaderOf::Refused(ORDER),
+            Record::Halfspace => HeaderOf::Refused(ORDER),
+            Record::End => HeaderOf::Refused(ORDER),
+        },
     }
 }
 
-// The payload of kind 3: x, y, z and d.
-pub fn halfspace_payload(s: &[u8]) -> Halfspace
+// The halfspace of a payload of kind 3: x, y, z and d.
+pub fn halfspace_of(s: &[u8]) -> Halfspace
     requires { ⌜ 16 ≤ length (now s) ⌝ }
     ensures { λ r. ⌜ r ≡ halfspaceOf (now (s .entry)) ⌝ }
 {

@@ -19,8 +19,8 @@ use Rattle.region.specs.Writer.{headerBytes, endBytes, convexesBytes, fileOf, w
 use Rattle.region.specs.Answers.{writeInto, writeAnswer, writeAfter}
 use Rattle.region.proofs.ReadBack.{file-length}
 use Rattle.region.proofs.WriteBack.{region-back}
-use Rattle.region_checks.specs.declared.Counts.{Counts}
-use Rattle.region_checks.specs.Counts.{countsOf}
+use Rattle.region_counts.specs.declared.Counts.{Counts}
+use Rattle.region_counts.specs.Counts.{countsOf}
 use Rattle.region_writer.specs.Writing.{Room}
 use Rattle.answer.proofs.PutLaws.{put-put}
 

@@ -28,7 +28,7 @@ use Rattle.region.proofs.FileBack.{convex-bytes, halfspace-bytes}
 use Rattle.region_writer.specs.declared.Place.{Place}
 use Rattle.region_writer.specs.Writing.{rowBytes, Room}
 use Rattle.answer.proofs.PutLaws.{put-length, put-put}
-use Rattle.region_checks.proofs.CountLaws.{Taken, taken, taken-length, taken-few}
+use Rattle.region_checks.proofs.NumberLaws.{Taken, taken, taken-length, taken-few}
 use Rattle.region_checks.proofs.CheckingPass.{next-row}
 
 -- ---- the bytes of a region and of one row more

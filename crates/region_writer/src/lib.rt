@@ -5,12 +5,12 @@ use answer::DEPTH;
 use answer::Number;
 use answer::SPACE;
 use region::Halfspace;
-use region_checks::Counts;
-use region_checks::CountsOf;
+use region::Record;
+use region_counts::Counts;
+use region_counts::CountsOf;
 ghost use mathlib.Core.Path.{_≡_};
 ghost use mathlib.Core.Bool.{cond};
-ghost use mathlib.Core.List.{_++_};
-ghost use Prim.Native.Nat.{_+_, _*_, _/_, _%_, _≤_, _<_};
+ghost use Prim.Native.Nat.{_+_, _*_, _≤_, _<_};
 ghost use lib.IntN.{pos};
 ghost use lib.ListN.{length};
 ghost use Rattle.algebra.proofs.Sizes.{Upto};
@@ -22,14 +22,14 @@ ghost use Rattle.vector.proofs.Sizes.{Small};
 ghost use Rattle.region.specs.Regions.{Region};
 ghost use Rattle.region.specs.Bytes.{wordBytes, bitsOf, signedBytes};
 ghost use Rattle.region.specs.Rows.{regionOf};
-ghost use Rattle.region.specs.Writer.{halfspaceBytes, convexesBytes, fileOf};
+ghost use Rattle.region.specs.Writer.{begin, halfspaceBytes, convexesBytes, fileOf};
 ghost use Rattle.region.specs.Answers.{writeAnswer, writeAfter};
 ghost use Rattle.region_writer.specs.Writing.{rowBytes, Room};
 
 // Where the next record goes, and how many convexes are written.
 pub struct Place {
     pub at: usize,
-    pub convexes: usize,
+    pub convexes: u16,
 }
 
 // 16 bits at place `at`.
@@ -64,12 +64,12 @@ fn put_signed(out: &mut [u8], at: usize, z: i64)
 }
 
 // Length and kind of a record at place `at`.
-fn put_kind(out: &mut [u8], at: usize, len: u32, kind: u32)
-    requires { ⌜ (at + 4 ≤ length (now out)) × (len < 65536) × (kind < 65536) ⌝ }
-    ensures { λ r. ⌜ now (out .exit) ≡ put at (wordBytes len ++ wordBytes kind) (now (out .entry)) ⌝ }
+fn put_kind(out: &mut [u8], at: usize, r: Record)
+    requires { ⌜ at + 4 ≤ length (now out) ⌝ }
+    ensures { λ _. ⌜ now (out .exit) ≡ put at (begin r) (now (out .entry)) ⌝ }
 {
-    put_word(out, at, len);
-    put_word(out, at + 2, kind);
+    put_word(out, at, region_records::size_of(r));
+    put_word(out, at + 2, region_records::kind_of(r));
 }
 
 // A halfspace's record at place `at`.
@@ -80,7 +80,7 @@ fn put_halfspace(out: &mut [u8], at: usize, h: Halfspace)
     ensures { λ r. ⌜ now (out .exit) ≡ put at (halfspaceBytes h) (now (out .entry)) ⌝ }
 {
     let n = h.n;
-    put_kind(out, at, 20, 3);
+    put_kind(out, at, Record::Halfspace);
     put_signed(out, at + 4, n.x);
     put_signed(out, at + 8, n.y);
     put_signed(out, at + 12, n.z);
@@ -98,7 +98,7 @@ fn put_row(out: &mut [u8], p: Place, c: i32, h: Halfspace) -> Place
 {
     let at = p.at;
     if region_checks::is_number(c, p.convexes) {
-        put_kind(out, at, 4, 2);
+        put_kind(out, at, Record::Convex);
         put_halfspace(out, at + 4, h);
         return Place {
             at: at + 24,
@@ -120,7 +120,7 @@ fn put_rows(rows: &[i32], out: &mut [u8]) -> usize
     let mut p = Place { at: 8, convexes: 0 };
     let mut i = 0;
     while i < rows.len() {
-        p = put_row(out, p, rows[i], region_checks::halfspace_at(rows, i));
+        p = put_row(out, p, rows[i], region_rows::halfspace_at(rows, i));
         i += 5;
     }
     p.at
@@ -132,11 +132,11 @@ fn put_file(depth: u32, budget: u32, rows: &[i32], out: &mut [u8])
     requires { ⌜ Room (now rows) (length (now out)) ⌝ }
     ensures { λ r. ⌜ ((g : Region) → regionOf (now (rows .entry)) ≡ gives g → now (out .exit) ≡ put 0 (fileOf depth budget g) (now (out .entry))) ⌝ }
 {
-    put_kind(out, 0, 8, 1);
+    put_kind(out, 0, Record::Header);
     put_word(out, 4, depth);
     put_word(out, 6, budget);
     let at = put_rows(rows, out);
-    put_kind(out, at, 4, 4);
+    put_kind(out, at, Record::End);
 }
 
 // The length of a file: header and end, a record for each convex and one for each halfspace.
@@ -144,7 +144,7 @@ fn file_length(c: Counts) -> usize
     requires { ⌜ (c .convexes ≤ 64) × (c .all ≤ 512) ⌝ }
     ensures { λ r. ⌜ r ≡ 12 + 4 * c .convexes + 20 * c .all ⌝ }
 {
-    12 + 4 * c.convexes + 20 * c.all
+    12 + 4 * (c.convexes as usize) + 20 * (c.all as usize)
 }
 
 // The region file of rows, depth and budget, written at the beginning of `out`: its length, or the first refusal (5, 6, then no rows and whole
@@ -153,13 +153,10 @@ pub fn write(depth: u32, budget: u32, rows: &[i32], out: &mut [u8]) -> Number
     ensures { λ r. ⌜ numberOf r ≡ writeAnswer depth budget (now (rows .entry)) (now (out .entry)) ⌝ }
     ensures { λ r. ⌜ now (out .exit) ≡ writeAfter depth budget (now (rows .entry)) (now (out .entry)) ⌝ }
 {
-    if depth < 1 {
+    if !limits::is_depth(depth) {
         return Number::Refused(DEPTH);
     }
-    if 12 < depth {
-        return Number::Refused(DEPTH);
-    }
-    if 2048 < budget {
+    if !limits::is_budget(budget) {
         return Number::Refused(BUDGET);
     }
     match region_checks::checked(rows) {

@@ -1,3 +1,4 @@
+pub mod DepthLaws
 pub mod GreatestLaws
 pub mod QuotLaws
 pub mod RootLaws

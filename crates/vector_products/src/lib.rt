@@ -1,8 +1,9 @@
 // Sums, products and the vector rule in code, and vectors in lists of numbers. The rules stand in vector/specs, the numbers of a list in specs/Stored.
+use limits::K;
 use vector::Vec3;
 ghost use mathlib.Core.Path.{_≡_};
 ghost use mathlib.Core.Bool.{_&&_};
-ghost use Prim.Native.Nat.{_+_, _-_, _*_, _/_, _^_, _≤_, _<_};
+ghost use Prim.Native.Nat.{_+_, _-_, _*_, _^_, _≤_};
 ghost use lib.IntN.{pos, negℤ, natAbs, _+ℤ_, _-ℤ_, _*ℤ_};
 ghost use Rattle.algebra.proofs.Sizes.{Upto};
 ghost use Rattle.vector.specs.Numbers.{K, between};
@@ -10,8 +11,6 @@ ghost use Rattle.vector.proofs.Sizes.{AtMost, Small};
 ghost use Rattle.vector.specs.Vectors as rule;
 ghost use lib.ListN.{length};
 ghost use Rattle.vector_products.specs.Stored.{vecIn, withVec};
-
-const K: i64 = 1048576;
 
 // a + b
 pub fn sum(a: Vec3, b: Vec3) -> Vec3

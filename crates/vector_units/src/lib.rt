@@ -1,10 +1,11 @@
 // Unit and Scale in code: one reciprocal for three quotients. The rules are `unit` and `scale` of vector/specs/Vectors.
+use limits::UNSIGNED_K as K;
 use vector::Vec3;
 ghost use mathlib.Core.Path.{_≡_};
-ghost use Prim.Native.Nat.{max, _+_, _-_, _*_, _/_, _^_, _≤_, _<_};
+ghost use Prim.Native.Nat.{max, _-_, _*_, _/_, _^_, _≤_, _<_};
 ghost use lib.IntN.{pos, natAbs, _*ℤ_};
 ghost use Rattle.algebra.proofs.Sizes.{Upto};
-ghost use Rattle.vector.specs.Numbers.{K, quot, root};
+ghost use Rattle.vector.specs.Numbers.{K, quot};
 ghost use Rattle.vector.proofs.Sizes.{AtMost, Small};
 ghost use Rattle.vector.specs.Vectors as rule;
 
@@ -135,5 +136,5 @@ fn quotient(a: u64, n: u64, r: u64) -> u64
     ensures { λ q. ⌜ q ≤ 2 ^ 20 ⌝ }
 {
     let q = a * r / 8796093022208;
-    if 1048576 * a - q * n >= n { q + 1 } else { q }
+    if K * a - q * n >= n { q + 1 } else { q }
 }

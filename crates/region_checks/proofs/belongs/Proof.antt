@@ -7,7 +7,7 @@ use lib.IntN.{pos}
 use borrow.Author.Tests.{lt-ltb, le-ltb}
 use mir.Facts.{toZ-ofZ}
 use Rattle.vector.specs.Numbers.{eqZ}
-use Rattle.region_checks.proofs.CountLaws.{number-before}
+use Rattle.region_checks.proofs.NumberLaws.{number-before}
 use Rattle.region_checks.proofs.belongs.Statement.{statement}
 use Rattle.region_checks.proofs.belongs.Tie as tie
 
@@ -26,9 +26,9 @@ pub belongs-spec : {M : Type 1} → statement M
 belongs-spec =
     tie.close
     (tie.spec
-    (λ c κs. omega arith)
+    (λ c κs. tt)
     (λ c. rw (next (c .before) _ (c .if1 .taken)))
     (λ c. rw (next (c .before .before) _ (c .before .if1 .left), le-ltb 0 (c .before .before .before .args .n) (omega arith)))
     (λ c. omega arith)
-    (λ c κs. omega arith)
+    (λ c κs. tt)
     last)

@@ -9,7 +9,7 @@ use mir.Facts.{toZ-ofZ}
 use Rattle.answer.specs.Answer.{with-value}
 use Rattle.region.specs.Regions.{Region}
 use Rattle.region.specs.Rows.{rowIn, halfspaceAt}
-use Rattle.region_checks.specs.Counts.{countsOf, countsGiven}
+use Rattle.region_counts.specs.Counts.{countsOf, countsGiven}
 use Rattle.region_checks.proofs.CheckingPass.{Checking, start, few-counted, done, whole-row, row-refused, row-passed}
 use Rattle.region_checks.proofs.count_rows.Statement.{statement}
 use Rattle.region_checks.proofs.count_rows.Tie as tie
@@ -21,12 +21,12 @@ abbrev μ-loop : tie.MeasureT-loop
 μ-loop rows at₀ i₀ at i = length rows - i
 
 -- what the row from element i on answered
-row : (c : tie.After-with-row Inv-loop μ-loop) → let l = c .before .before .before .before in let rs = l .before .args .rows .now in
+row : (c : tie.After-with-row Inv-loop μ-loop) → let l = c .before .before .before .before in let rs = l .before .before .args .rows .now in
     (g : Region) → countsOf g ≡ l .loop .at → countsGiven (c .with-row .result) ≡ with-value countsOf (rowIn g (getD rs (l .loop .i) (pos 0)) (halfspaceAt (drop (l .loop .i) rs)))
 row c g e =
     let l = c .before .before .before .before in
-    let number = toZ-ofZ {w = w32} {z = getD (l .before .args .rows .now) (l .loop .i) (pos 0)} (record { sfits = c .before .before .with-row-arg .given }) in
-    c .with-row .ensures g e ∙ (λ j. with-value countsOf (rowIn g (number j) (c .before .halfspace-at .ensures j)))
+    let number = toZ-ofZ {w = w32} {z = getD (l .before .before .args .rows .now) (l .loop .i) (pos 0)} (record { sfits = c .before .before .with-row-arg .given }) in
+    c .with-row .ensures g e ∙ (λ j. with-value countsOf (rowIn g (number j) (c .before .halfspace-at .ensures .0 j)))
 
 refused : tie.Need-returns Inv-loop μ-loop
 refused c =
@@ -47,7 +47,8 @@ count-rows-spec =
     (tie.spec
     Inv-loop
     μ-loop
-    (λ c. start _ (c .pre))
+    (λ c κs. tt)
+    (λ c. start _ (c .before .pre) _ (c .none .ensures))
     (λ c. omega arith)
     (λ c. omega arith)
     (λ c κs. whole-row (c .before .before .loop .inv) (c .before .loop-test .taken))

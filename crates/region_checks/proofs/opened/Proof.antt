@@ -1,5 +1,4 @@
 -- The code's test is the rule's: a convex begins where the number is the next one. Assumes nothing.
-use native.Mathlib.Omega.{arith}
 use mathlib.Core.Path.{_≡_, sym, ap, _∙_}
 use mathlib.Core.Bool.{Bool}
 use lib.IntN.{pos}
@@ -8,14 +7,14 @@ use Rattle.vector.specs.Numbers.{eqZ}
 use Rattle.region_checks.proofs.opened.Statement.{statement}
 use Rattle.region_checks.proofs.opened.Tie as tie
 
-next : (c : tie.After-is-number) (t : Bool) → c .is-number .result ≡ t → eqZ (c .before .args .c) (pos (c .before .args .at .convexes)) ≡ t
-next c t e = ap (λ z. eqZ z (pos (c .before .args .at .convexes))) (sym (toZ-ofZ (c .before .fits .c))) ∙ sym (c .is-number .ensures) ∙ e
+next : (c : tie.After-is-number) (t : Bool) → c .is-number .result ≡ t → eqZ (c .before .args .c) (pos (c .before .args .k .convexes)) ≡ t
+next c t e = ap (λ z. eqZ z (pos (c .before .args .k .convexes))) (sym (toZ-ofZ (c .before .fits .c))) ∙ sym (c .is-number .ensures) ∙ e
 
 pub opened-spec : {M : Type 1} → statement M
 opened-spec =
     tie.close
     (tie.spec
-    (λ c κs. omega arith)
-    (λ c. omega arith)
-    (λ c. rw (next (c .before .before) _ (c .before .if1 .taken)))
+    (λ c κs. tt)
+    (λ c κs. tt)
+    (λ c. rw (next (c .before .before) _ (c .before .if1 .taken)) (c .with-convex .ensures))
     (λ c. rw (next (c .before) _ (c .if1 .left))))

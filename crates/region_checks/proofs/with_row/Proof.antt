@@ -1,34 +1,48 @@
 -- The code makes the checks of a row in the rule's order, by the counts: the number, the convexes, then the halfspace. Assumes nothing.
-use native.Mathlib.Omega.{arith}
 use mathlib.Core.Path.{_≡_, sym, ap, _∙_}
 use mathlib.Core.Bool.{Bool}
 use borrow.Author.Tests.{not-true, not-false}
 use mir.Facts.{toZ-ofZ}
-use Rattle.region_checks.specs.Counts.{countsGiven, opensConvex}
-use Rattle.region_checks.proofs.CountLaws.{belongsTo, no-number, convex-too-many, row-added}
+use Rattle.answer.specs.Answer.{Answer, then, with-value}
+use Rattle.region.specs.Regions.{Region}
+use Rattle.region.specs.Rows.{rowIn}
+use Rattle.region_counts.specs.declared.Counts.{Counts}
+use Rattle.region_counts.specs.Counts.{countsOf, countsGiven, oneHalfspaceMore}
+use Rattle.region_checks.specs.Opening.{opensConvex}
+use Rattle.region_checks.proofs.NumberLaws.{belongsTo, no-number, row-added}
 use Rattle.region_checks.proofs.with_row.Statement.{statement}
 use Rattle.region_checks.proofs.with_row.Tie as tie
 
-number : (c : tie.After-belongs) (t : Bool) → c .belongs .result ≡ t → belongsTo (c .before .args .at .convexes) (c .before .args .c) ≡ t
-number c t e = ap (belongsTo (c .before .args .at .convexes)) (sym (toZ-ofZ (c .before .fits .c))) ∙ sym (c .belongs .ensures) ∙ e
+number : (c : tie.After-belongs) (t : Bool) → c .belongs .result ≡ t → belongsTo (c .before .args .k .convexes) (c .before .args .c) ≡ t
+number c t e = ap (belongsTo (c .before .args .k .convexes)) (sym (toZ-ofZ (c .before .fits .c))) ∙ sym (c .belongs .ensures) ∙ e
 
-opens : (c : tie.After-opened) → c .opened .result ≡ opensConvex (c .before .before .before .args .at) (c .before .before .before .args .c)
-opens c = c .opened .ensures ∙ ap (opensConvex (c .before .before .before .args .at)) (toZ-ofZ (c .before .before .before .fits .c))
+opens : (c : tie.After-opened) → countsGiven (c .opened .result) ≡ opensConvex (c .before .before .before .args .k) (c .before .before .before .args .c)
+opens c = c .opened .ensures ∙ ap (opensConvex (c .before .before .before .args .k)) (toZ-ofZ (c .before .before .before .fits .c))
+
+-- what was answered with the row's convex, with the row's halfspace then
+goes-on : (c : tie.After-opened) → let a = c .before .before .before .args in
+    (r : Answer Counts) → r ≡ then (countsGiven (c .opened .result)) (λ o. oneHalfspaceMore o (a .h)) → (g : Region) → countsOf g ≡ a .k → r ≡ with-value countsOf (rowIn g (a .c) (a .h))
+goes-on c r e g q =
+    let a = c .before .before .before .args in
+    e
+    ∙ ap (λ o. then o (λ k. oneHalfspaceMore k (a .h))) (opens c)
+    ∙ row-added (a .k) (a .c) (a .h) (number (c .before .before) _ (not-false _ (c .before .if1 .left))) (c .before .before .before .pre) g q
 
 pub with-row-spec : {M : Type 1} → statement M
 with-row-spec =
     tie.close
     (tie.spec
-    (λ c κs. omega arith)
-    (λ c. let a = c .before .before .args in no-number (a .at) (a .c) (a .h) (number (c .before) _ (not-true _ (c .if1 .taken))))
-    (λ c κs. omega arith)
-    (λ c.
-    let o = c .before .before in
-    let a = o .before .before .before .args in
-    convex-too-many (a .at) (a .c) (a .h) (number (o .before .before) _ (not-false _ (o .before .if1 .left))) (omega (arith, ap (λ k. k .convexes) (opens o))))
     (λ c κs. tt)
+    (λ c. let a = c .before .before .args in no-number (a .k) (a .c) (a .h) (number (c .before) _ (not-true _ (c .if1 .taken))))
+    (λ c κs. tt)
+    (λ c. c .match .keys1)
+    (λ c κs. tt)
+    (λ c. c .match .keys2)
     (λ c.
-    let o = c .before .before .before in
-    let a = o .before .before .before .args in
-    row-added (a .at) (a .c) (a .h) (number (o .before .before) _ (not-false _ (o .before .if1 .left))) (omega (arith, ap (λ k. k .convexes) (opens o)))
-    (countsGiven (c .with-halfspace .result)) (λ g e b. c .with-halfspace .ensures g (e ∙ sym (opens o)) b)))
+    let t = c .before .before in
+    let o = t .before .before in
+    goes-on o _ (c .with-halfspace .ensures ∙ ap (λ r. then (countsGiven r) (λ k. oneHalfspaceMore k (o .before .before .before .args .h))) (sym (t .o .given .1))))
+    (λ c.
+    let t = c .before in
+    let o = t .before .before in
+    goes-on o _ (ap (λ r. then (countsGiven r) (λ k. oneHalfspaceMore k (o .before .before .before .args .h))) (sym (t .o2 .given .1)))))

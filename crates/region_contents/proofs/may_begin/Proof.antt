@@ -8,5 +8,5 @@ pub may-begin-spec : {M : Type 1} → statement M
 may-begin-spec =
     tie.close
     (tie.spec
-    (λ c. rw (le-ltb 0 (c .before .before .args .s .convexes) (omega arith)))
-    (λ c. rw (lt-ltb 0 (c .before .before .before .args .s .convexes) (omega arith))))
+    (λ c. rw (le-ltb 0 (c .before .before .args .k .convexes) (omega arith)))
+    (λ c. rw (lt-ltb 0 (c .before .before .before .args .k .convexes) (omega arith))))

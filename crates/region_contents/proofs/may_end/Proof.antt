@@ -8,6 +8,6 @@ pub may-end-spec : {M : Type 1} → statement M
 may-end-spec =
     tie.close
     (tie.spec
-    (λ c. rw (le-ltb 0 (c .before .before .args .s .convexes) (omega arith)))
-    (λ c. rw (lt-ltb 0 (c .before .before .before .before .args .s .convexes) (omega arith), le-ltb 0 (c .before .before .before .before .args .s .last) (omega arith)))
-    (λ c. rw (lt-ltb 0 (c .before .before .before .before .args .s .convexes) (omega arith), lt-ltb 0 (c .before .before .before .before .args .s .last) (omega arith))))
+    (λ c. rw (le-ltb 0 (c .before .before .args .k .convexes) (omega arith)))
+    (λ c. rw (lt-ltb 0 (c .before .before .before .before .args .k .convexes) (omega arith), le-ltb 0 (c .before .before .before .before .args .k .last) (omega arith)))
+    (λ c. rw (lt-ltb 0 (c .before .before .before .before .args .k .convexes) (omega arith), lt-ltb 0 (c .before .before .before .before .args .k .last) (omega arith))))

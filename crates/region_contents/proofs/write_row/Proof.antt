@@ -14,17 +14,17 @@ use Rattle.region_contents.proofs.write_row.Statement.{statement}
 use Rattle.region_contents.proofs.write_row.Tie as tie
 
 small : (c : tie.Start) → Small (c .args .h .n)
-small c = vector-small (c .args .h .n) (c .pre .0 .0)
+small c = vector-small (c .args .h .n) (c .pre .0 .vector)
 
 offset : (c : tie.Start) → Upto Kℕ (c .args .h .d)
-offset c = between-upto (c .args .h .d) (c .pre .0 .1)
+offset c = between-upto (c .args .h .d) (c .pre .0 .offset)
 
 stored : tie.Need-returns
 stored c =
     let s = c .before .before .before .before .before .before .before .before .before .before .before in
     let v = s .args in
-    let at = 5 * v .s .total in
-    let k = number-same (v .s .convexes - 1) (omega (arith, c .before .before .before .before .before .before .before .before .before .before .struct-known .given)) in
+    let at = 5 * v .k .all in
+    let k = number-same (v .k .convexes - 1) (omega (arith, c .before .before .before .before .before .before .before .before .before .before .struct-known .given)) in
     let n = small s in
     (λ i. set (set (set (set (set (now (v .rows)) at (k i)) (at + 1) (narrow-same (n .x) i)) (at + 2) (narrow-same (n .y) i)) (at + 3) (narrow-same (n .z) i)) (at + 4) (narrow-same (offset s) i))
     ∙ row-stored (now (v .rows)) at _ _ _ _ _ (s .pre .1 .1)

@@ -14,9 +14,9 @@ pub holds-halfspace-spec : {M : Type 1} → statement M
 holds-halfspace-spec =
     tie.close
     (tie.spec
-    (λ c. fits-mul (held (c .pre .1 .0) tt) (lit 1048576 tt) tt)
-    (λ c κs. (c .pre .1 .1, at-most-mono (lit≤ tt) (c .pre .0)))
+    (λ c. let s = c .before .before .before in fits-mul (held (s .pre .0 .1) tt) (lit 1048576 tt) tt)
+    (λ c κs. let s = c .before .before .before in (s .pre .1, at-most-mono (lit≤ tt) (s .pre .0 .0)))
     (λ c.
-    let s = c .before in
-    same-lt (is-mul (held (s .pre .1 .0) tt) (lit 1048576 tt) tt) (held (c .dot .ensures .1) tt)
-    ∙ ap (ltZ (s .args .d *ℤ K)) (c .dot .ensures .0 ∙ dot-comm (s .args .p) (s .args .n))))
+    let s = c .before .before .before .before in
+    same-lt (is-mul (held (s .pre .0 .1) tt) (lit 1048576 tt) tt) (held (c .dot .ensures .1) tt)
+    ∙ ap (ltZ (s .args .h .d *ℤ K)) (c .dot .ensures .0 ∙ dot-comm (s .args .p) (s .args .h .n))))

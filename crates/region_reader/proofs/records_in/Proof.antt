@@ -18,7 +18,7 @@ less : tie.Need-loop-less Inv-loop μ-loop
 less c =
     let r = c .before .before .before .before in
     let l = r .before .before in
-    let a = l .before .before .args in
+    let a = l .before .before .before .args in
     let n = reading-further (now (a .file)) (a .h) (now (a .rows)) (l .loop .rows) (l .loop .s) (l .loop .inv .1) (r .record-in .result) _ (r .record-in .ensures) (c .before .o .given .0 .0) (c .before .o .given .1) in
     omega arith
 
@@ -26,7 +26,7 @@ more : tie.Need-loop-again Inv-loop μ-loop
 more c =
     let r = c .before .before .before .before in
     let l = r .before .before in
-    let a = l .before .before .args in (
+    let a = l .before .before .before .args in (
       l .loop .inv .0,
       reading-more (now (a .file)) (a .h) (now (a .rows)) (l .loop .rows) (l .loop .s) (l .loop .inv .1) (r .record-in .result) _ (r .record-in .ensures) (c .before .o .given .0 .0) (c .before .o .given .1) (r .record-in .kept .1 .1 .0),
     )
@@ -35,14 +35,14 @@ done : tie.Need-returns Inv-loop μ-loop
 done c =
     let r = c .before .before .before .before in
     let l = r .before .before in
-    let a = l .before .before .args in
+    let a = l .before .before .before .args in
     reading-done (now (a .file)) (a .h) (now (a .rows)) (l .loop .rows) (l .loop .s) (l .loop .inv .1) (r .record-in .result) _ (r .record-in .ensures) (c .before .o2 .given .0 .0) (c .before .o2 .given .1)
 
 refused : tie.Need-returns-2 Inv-loop μ-loop
 refused c =
     let r = c .before .before .before .before in
     let l = r .before .before in
-    let a = l .before .before .args in
+    let a = l .before .before .before .args in
     reading-refused (now (a .file)) (a .h) (now (a .rows)) (l .loop .rows) (l .loop .s) (l .loop .inv .1) (r .record-in .result) _ (r .record-in .ensures) (c .before .o3 .given .0 .0) (c .before .o3 .given .1)
 
 pub records-in-spec : {M : Type 1} → statement M
@@ -51,7 +51,8 @@ records-in-spec =
     (tie.spec
     Inv-loop
     μ-loop
-    (λ c. let a = c .before .args in (c .before .pre .1, reading-none (now (a .file)) (a .h) (now (a .rows)) (c .before .pre .0)))
+    (λ c κs. tt)
+    (λ c. let s = c .before .before in let a = s .args in (s .pre .1, reading-none (now (a .file)) (a .h) (now (a .rows)) (s .pre .0) _ (c .none .ensures)))
     (λ c κs. let l = c .before .loop in (l .inv .1 .within, l .inv .1 .room ∙ l .inv .0))
     (λ c. c .match .keys1)
     less

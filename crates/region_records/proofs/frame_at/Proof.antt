@@ -1,17 +1,29 @@
 -- `region_records::frame_at` checks 2, then 3, of the record that begins at its place. Assumes nothing.
 use native.Mathlib.Omega.{arith}
-use mathlib.Core.Path.{_≡_, sym, _∙_}
+use mathlib.Core.Path.{_≡_, sym, ap, _∙_}
 use mathlib.Core.Bool.{true}
 use lib.ListN.{drop}
 use denote.Ref.{now}
 use borrow.Author.Tests.{not-true, not-false}
+use Rattle.answer.specs.Answer.{Answer}
+use Rattle.region.specs.declared.Record.{Record}
 use Rattle.region.specs.Reader.{whole}
-use Rattle.region_records.proofs.FrameLaws.{whole-left, frame-torn, frame-unknown, frame-known}
+use Rattle.region_records.specs.Frames.{recordGiven, frameBy, frameOf}
+use Rattle.region_records.proofs.FrameLaws.{whole-left, frame-torn, frame-is}
 use Rattle.region_records.proofs.frame_at.Statement.{statement}
 use Rattle.region_records.proofs.frame_at.Tie as tie
 
 is-whole : (c : tie.Else1) → whole (drop (c .before .before .before .args .at) (now (c .before .before .before .args .file))) ≡ true
 is-whole c = sym (c .before .is-whole .ensures) ∙ not-false _ (c .if1 .left)
+
+-- what the record was found to be
+found : (c : tie.After-record-of) → let l = c .before .before in let a = l .before .before .before .before .args in
+    (r : Answer Record) → r ≡ recordGiven (c .record-of .result) → frameBy (l .word .result) r ≡ frameOf (drop (a .at) (now (a .file)))
+found c r e =
+    let k = c .before in
+    let l = k .before in
+    let a = l .before .before .before .before .args in
+    frame-is (now (a .file)) (a .at) (l .word .result) (k .word2 .result) (l .word .ensures .0) (k .word2 .ensures .0) (is-whole (l .before)) r (e ∙ c .record-of .ensures)
 
 pub frame-at-spec : {M : Type 1} → statement M
 frame-at-spec =
@@ -23,15 +35,8 @@ frame-at-spec =
     (λ c. omega arith)
     (λ c κs. let a = c .before .before .before .before .args in omega (arith, whole-left (now (a .file)) (a .at) (is-whole (c .before))))
     (λ c κs. tt)
-    (λ c.
-    let k = c .before .before in
-    let l = k .before in
-    let a = l .before .before .before .before .args in
-    frame-unknown (now (a .file)) (a .at) (l .word .result) (k .word2 .result) (l .word .ensures .0) (k .word2 .ensures .0) (is-whole (l .before))
-    (sym (c .before .is-known .ensures) ∙ not-true _ (c .if2 .taken)))
-    (λ c.
-    let k = c .before .before in
-    let l = k .before in
-    let a = l .before .before .before .before .args in
-    frame-known (now (a .file)) (a .at) (l .word .result) (k .word2 .result) (l .word .ensures .0) (k .word2 .ensures .0) (is-whole (l .before))
-    (sym (c .before .is-known .ensures) ∙ not-false _ (c .if2 .left))))
+    (λ c. c .match .keys1)
+    (λ c. omega arith)
+    (λ c. c .match .keys2)
+    (λ c. found (c .before .before .before) _ (ap recordGiven (sym (c .before .found .given .1))))
+    (λ c. found (c .before .before .before) _ (ap recordGiven (sym (c .before .found2 .given .1)))))

@@ -27,12 +27,12 @@ room : tie.Need-put-row-requires Inv-loop μ-loop
 room c κs =
     let l = c .before .before .before in
     let v = l .before .loop .inv in
-    rw (c .halfspace-at .ensures, number c) ((row-room v (l .loop-test .taken), few-written v), (row-small v (l .loop-test .taken), row-offset v (l .loop-test .taken)))
+    rw (c .halfspace-at .ensures .0, number c) ((row-room v (l .loop-test .taken), few-written v), (row-small v (l .loop-test .taken), row-offset v (l .loop-test .taken)))
 
 again : tie.Need-loop-again Inv-loop μ-loop
 again c =
     let r = c .before .before in
-    let e = rw (r .before .halfspace-at .ensures, number (r .before)) at (r .put-row .ensures) in
+    let e = rw (r .before .halfspace-at .ensures .0, number (r .before)) at (r .put-row .ensures) in
     let l = r .before .before .before .before in
     more (l .before .loop .inv) (l .loop-test .taken) _ _ (e .0) (e .1 .0) (e .1 .1)
 
