@@ -1,6 +1,6 @@
--- Quotients by a reciprocal: a 2²⁰ / n for a ≤ n without a division by n, where 2⁶² / n or 2⁶³ / n is at hand.
+-- Quotients by a reciprocal: a 2²⁰ / n for a ≤ n without a division by n, where 2⁶² / n or (2⁶³ − 1) / n is at hand.
 --   short   n ≤ 2²¹, r is 2⁶² / n rounded up: a r / 2⁴² is the quotient
---   long    a ≤ 2⁴¹, r is 2⁶³ / n rounded down: a r / 2⁴³ is the quotient or one less
+--   long    n ≤ 2⁴¹, r is 2⁶³ − 1 over n rounded down: a r / 2⁴³ is the quotient or one less
 -- Each bound is by contradiction: n times the bound that fails is less than the others allow. Assumes nothing.
 use Prim.Native.Nat.{ℕ, _+_, _-_, _*_, _/_, _^_, _≤_, _<_}
 use native.Mathlib.Nat.{div-eq-of-lt-le, div-mul-le-self, lt-div-mul-add, mul-le-mul, mul-comm, add-mul, le-refl}
@@ -58,7 +58,7 @@ module _ (a n r q : ℕ) (some : 0 < n) where
       })
       refl (pos a) (pos n) (pos r) (pos q) (nn-pos a) (lt some) (le l) (le m) (lt h) (lt k))
 
--- ---- long: r n ≤ 2⁶³ < r n + n, and q is a r / 2⁴³
+-- ---- long: r n ≤ 2⁶³ ≤ r n + n, and q is a r / 2⁴³
 
 module _ (a n r q : ℕ) where
   long-low : q * 8796093022208 ≤ a * r → r * n ≤ 9223372036854775808 → q * n ≤ 1048576 * a
@@ -71,16 +71,16 @@ module _ (a n r q : ℕ) where
       })
       refl (pos a) (pos n) (pos r) (pos q) (nn-pos a) (nn-pos n) (le h) (le k))
 
-  long-high : 0 < n → a ≤ 2199023255552 → a * r < (q + 1) * 8796093022208 → 9223372036854775808 < r * n + n → 1048576 * a < (q + 2) * n
+  long-high : 0 < n → a ≤ 2199023255552 → a * r < (q + 1) * 8796093022208 → 9223372036854775808 ≤ r * n + n → 1048576 * a < (q + 2) * n
   long-high some l h k = <-by-no
       (prove 4
       (λ a n r q. record {
         given = (`0 :≤ a) ∷ (`0 :< n) ∷ (a :≤ num 2199023255552) ∷ (a :* r :< (q :+ `1) :* num 8796093022208)
-            ∷ (num 9223372036854775808 :< r :* n :+ n) ∷ ((q :+ num 2) :* n :≤ num 1048576 :* a) ∷ [];
+            ∷ (num 9223372036854775808 :≤ r :* n :+ n) ∷ ((q :+ num 2) :* n :≤ num 1048576 :* a) ∷ [];
         goal = `1 :≤ `0;
-        cert = (hyp 1 ⊕ nat 1) ⊗ hyp 3 ⊕ hyp 0 ⊗ hyp 4 ⊕ nat 8796093022208 ⊗ hyp 5 ⊕ (hyp 1 ⊕ nat 1) ⊗ hyp 2 ⊕ hyp 0 ⊕ nat 6597069766657 ⊗ hyp 1 ⊕ nat 6597069766656;
+        cert = (hyp 1 ⊕ nat 1) ⊗ hyp 3 ⊕ hyp 0 ⊗ hyp 4 ⊕ nat 8796093022208 ⊗ hyp 5 ⊕ (hyp 1 ⊕ nat 1) ⊗ hyp 2 ⊕ nat 6597069766657 ⊗ hyp 1 ⊕ nat 6597069766656;
       })
-      refl (pos a) (pos n) (pos r) (pos q) (nn-pos a) (lt some) (le l) (lt h) (lt k))
+      refl (pos a) (pos n) (pos r) (pos q) (nn-pos a) (lt some) (le l) (lt h) (le k))
 
 -- ---- the two quotients
 
@@ -101,22 +101,22 @@ module _ (a n r : ℕ) (some : 0 < n) (l : a ≤ n) (e : r ≡ 46116860184273879
       let high : 1048576 * a < (q + 1) * n = omega (arith, add-mul q 1 n, lt-div-mul-add {a = 1048576 * a} some) in
       div-eq-of-lt-le 4398046511104 (short-low a n r q some (div-mul-le-self (1048576 * a) n) up-low) (short-high a n r q some (omega arith) m high up-high)
 
--- r is 2⁶³ / n, rounded down
-module _ (a n r : ℕ) (some : 0 < n) (l : a ≤ n) (e : r ≡ 9223372036854775808 / n) where
+-- r is 2⁶³ − 1 over n, rounded down
+module _ (a n r : ℕ) (some : 0 < n) (l : a ≤ n) (e : r ≡ 9223372036854775807 / n) where
   abbrev part : ℕ
   part = a * r / 8796093022208
 
-  down-high : r * n ≤ 9223372036854775808
-  down-high = rw e (div-mul-le-self 9223372036854775808 n)
+  down-high : r * n ≤ 9223372036854775807
+  down-high = rw e (div-mul-le-self 9223372036854775807 n)
 
-  down-low : 9223372036854775808 < r * n + n
-  down-low = rw e (lt-div-mul-add {a = 9223372036854775808} some)
+  down-low : 9223372036854775808 ≤ r * n + n
+  down-low = rw e (omega (arith, lt-div-mul-add {a = 9223372036854775807} some))
 
-  pub long-size : a * r ≤ 2 ^ 63
+  pub long-size : a * r ≤ 2 ^ 63 - 1
   long-size = omega (arith, mul-le-mul l (le-refl r), mul-comm n r, down-high)
 
   pub long-least : part * n ≤ 1048576 * a
-  long-least = long-low a n r part (div-mul-le-self (a * r) 8796093022208) down-high
+  long-least = long-low a n r part (div-mul-le-self (a * r) 8796093022208) (omega (arith, down-high))
 
   long-most : n ≤ 2199023255552 → 1048576 * a < (part + 2) * n
   long-most m = long-high a n r part some (omega arith) (omega arith) down-low

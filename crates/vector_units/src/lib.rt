@@ -1,5 +1,5 @@
-// Unit and Scale in code: one reciprocal for three quotients. The rules are `unit` and `scale` of vector/specs/Vectors.
-use limits::UNSIGNED_K as K;
+// Unit and Scale in code: one reciprocal for three quotients, signed all through. The rules are `unit` and `scale` of vector/specs/Vectors.
+use limits::K;
 use vector::Vec3;
 ghost use mathlib.Core.Path.{_≡_};
 ghost use Prim.Native.Nat.{max, _-_, _*_, _/_, _^_, _≤_, _<_};
@@ -102,13 +102,13 @@ fn part_short(a: i64, r: u64) -> i64
     a * (r as i64) / 4398046511104
 }
 
-// By 2⁶³ / n, rounded down.
+// By 2⁶³ − 1 over n, rounded down: with 2⁶³ itself a product by it would not fit where n is a power of two.
 fn divided_long(s: Vec3, n: u64) -> Vec3
     requires { ⌜ (0 < n) × (n ≤ 2 ^ 41) ⌝ }
     requires { ⌜ AtMost n s ⌝ }
     ensures { λ r. ⌜ r ≡ rule.dividedBy n s ⌝ }
 {
-    let r = 9223372036854775808 / n;
+    let r = 9223372036854775807 / n;
     Vec3 {
         x: part_long(s.x, n, r),
         y: part_long(s.y, n, r),
@@ -116,25 +116,21 @@ fn divided_long(s: Vec3, n: u64) -> Vec3
     }
 }
 
-// K times a, divided by n, truncated toward zero.
+// K times a, divided by n, truncated toward zero: it is a r / 2⁴³, or one step further from zero where n or more is left.
 fn part_long(a: i64, n: u64, r: u64) -> i64
     requires { ⌜ (0 < n) × (n ≤ 2 ^ 41) ⌝ }
     requires { ⌜ Upto n a ⌝ }
-    requires { ⌜ r ≡ 9223372036854775808 / n ⌝ }
+    requires { ⌜ r ≡ 9223372036854775807 / n ⌝ }
     ensures { λ q. ⌜ q ≡ quot (K *ℤ a) (pos n) ⌝ }
 {
-    let q = quotient(size(a), n, r) as i64;
-    if a < 0 { -q } else { q }
-}
-
-// K times a, divided by n: it is a r / 2⁴³, or one more where n or more is left.
-fn quotient(a: u64, n: u64, r: u64) -> u64
-    requires { ⌜ (0 < n) × (n ≤ 2 ^ 41) ⌝ }
-    requires { ⌜ a ≤ n ⌝ }
-    requires { ⌜ r ≡ 9223372036854775808 / n ⌝ }
-    ensures { λ q. ⌜ q ≡ 1048576 * a / n ⌝ }
-    ensures { λ q. ⌜ q ≤ 2 ^ 20 ⌝ }
-{
-    let q = a * r / 8796093022208;
-    if K * a - q * n >= n { q + 1 } else { q }
+    let m = n as i64;
+    let q = a * (r as i64) / 8796093022208;
+    let left = K * a - q * m;
+    if m <= left {
+        return q + 1;
+    }
+    if left <= -m {
+        return q - 1;
+    }
+    q
 }
