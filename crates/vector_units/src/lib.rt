@@ -32,13 +32,17 @@ pub fn unit_two(s: Vec3) -> Vec3
     unit(s)
 }
 
-// Scale(c): K times c, divided by the largest absolute component.
+// Scale(c): K times c, divided by the largest absolute component, which is large for the product of two corners.
 pub fn scale(c: Vec3) -> Vec3
     requires { ⌜ AtMost (2 ^ 41) c ⌝ }
     ensures { λ r. ⌜ r ≡ rule.scale c ⌝ }
     ensures { λ r. ⌜ Small r ⌝ }
 {
-    divided(c, largest(c))
+    let n = largest(c);
+    if 2097152 < n {
+        return divided_long(c, n);
+    }
+    divided(c, n)
 }
 
 // The largest absolute component of c.
