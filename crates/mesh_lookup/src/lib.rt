@@ -30,8 +30,17 @@ pub struct Place {
     pub corners: Corners,
 }
 
-// Whether p is on the side of the cut by a and b: Scale(a × b)·p ≥ 0. Where (a × b)·p is beyond three times the largest component of a × b it has
-// the same sign.
+// Whether p is on the side of the cut by a and b: Scale(a × b)·p ≥ 0.
+fn exactly_on_side(a: Vec3, b: Vec3, p: Vec3) -> bool
+    requires { ⌜ Small a × Small b ⌝ }
+    requires { ⌜ Small p ⌝ }
+    ensures { λ t. ⌜ t ≡ notNegative (vectors.dot (vectors.scale (vectors.cross a b)) p) ⌝ }
+{
+    0 <= vector_products::dot(mesh_trixels::normal(a, b), p)
+}
+
+// The same, by (a × b)·p where that is beyond three times the largest component of a × b: it has the same sign there. With two calls of the exact test
+// the compiler leaves it outside the descent.
 fn on_side(a: Vec3, b: Vec3, p: Vec3) -> bool
     requires { ⌜ Small a × Small b ⌝ }
     requires { ⌜ Small p ⌝ }
@@ -43,10 +52,13 @@ fn on_side(a: Vec3, b: Vec3, p: Vec3) -> bool
     if m < s {
         return true;
     }
+    if 0 <= s {
+        return exactly_on_side(a, b, p);
+    }
     if s < -m {
         return false;
     }
-    0 <= vector_products::dot(mesh_trixels::normal(a, b), p)
+    exactly_on_side(a, b, p)
 }
 
 fn chosen(digit: u64, corners: Corners) -> Child

@@ -1,17 +1,16 @@
--- `mesh_lookup::on_side` is the sign of Scale(c)·p with c = a × b: by c·p where that is beyond three times the largest component, else by the normal
--- itself. Assumes nothing.
+-- `mesh_lookup::on_side` is the sign of Scale(c)·p with c = a × b: by c·p where that is beyond three times the largest component, else by the
+-- exact test. Assumes nothing.
 use Prim.Native.Nat.{_+_, _*_, _^_, _≤_}
 use mathlib.Core.Path.{_≡_, sym, ap, subst, subst₂, _∙_}
-use lib.Dec.{lit≤}
 use lib.IntN.{pos, negℤ, _*ℤ_, _-ℤ_, +ℤ-idl}
-use lib.Signed.{leZ, _<ℤ_}
+use lib.Signed.{_<ℤ_}
 use mir.Syntax.{w64}
 use mir.Val.{toZ, ofZ}
 use Rattle.algebra.proofs.Sized.{Is, sfits, held, nat, lit, is-mul, is-sub, fits-mul, fits-sub, same-lt}
 use Rattle.algebra.proofs.Inequalities.{<ℤ→≤ℤ}
 use Rattle.algebra.proofs.Tests.{lt-yes, yes-le, not-le}
 use Rattle.vector.specs.Vectors.{dot, cross, scale}
-use Rattle.vector.proofs.SizeLaws.{at-most-mono, largest-bound}
+use Rattle.vector.proofs.SizeLaws.{largest-bound}
 use Rattle.mesh_lookup.proofs.SideLaws.{scale-above, scale-below}
 use Rattle.vector.proofs.VectorLaws.{dot-comm}
 use Rattle.mesh.specs.Lookup.{notNegative}
@@ -45,20 +44,15 @@ returns c =
     (subst₂ (λ m s. pos (3 * m) <ℤ s) (g .largest .ensures) (product (g .before)) beyond))))
     ∙ side x
 
-returns-2 : tie.Need-returns-2
-returns-2 c =
-    let g = c .before .before in
+returns-3 : tie.Need-returns-3
+returns-3 c =
+    let g = c .before .before .before in
     let x = g .before .before in
-    let below : g .before .dot .result <ℤ (pos 0 -ℤ pos (3 * g .largest .result)) = lt-yes (sym (same-lt (held (g .before .dot .ensures .1) tt) (minus-three g)) ∙ c .if2 .taken) in
+    let below : g .before .dot .result <ℤ (pos 0 -ℤ pos (3 * g .largest .result)) = lt-yes (sym (same-lt (held (g .before .dot .ensures .1) tt) (minus-three g)) ∙ c .if3 .taken) in
     let turned : g .before .dot .result <ℤ negℤ (pos (3 * g .largest .result)) = subst (λ m. g .before .dot .result <ℤ m) (+ℤ-idl (negℤ (pos (3 * g .largest .result)))) below in
     sym (not-le (scale-below (x .cross .result) (x .before .args .p) (x .before .pre .1)
     (subst₂ (λ m s. s <ℤ negℤ (pos (3 * m))) (g .largest .ensures) (product (g .before)) turned)))
     ∙ side x
-
-returns-3 : tie.Need-returns-3
-returns-3 c =
-    let s = c .before .before .before .before .before .before .before in
-    ap (leZ (pos 0)) (held (c .dot2 .ensures .1) tt .eq ∙ c .dot2 .ensures .0 ∙ ap (λ v. dot v (s .args .p)) (c .before .normal .ensures .0))
 
 pub on-side-spec : {M : Type 1} → statement M
 on-side-spec =
@@ -70,8 +64,9 @@ on-side-spec =
     (λ c. sfits w64 (one c .size) tt)
     (λ c. fits-mul (lit 3 tt) (one c) tt)
     returns
-    (λ c. fits-sub (lit 0 tt) (three (c .before)) tt)
-    returns-2
-    (λ c κs. c .before .before .before .before .before .pre .0)
-    (λ c κs. (c .normal .ensures .1, at-most-mono (lit≤ tt) (c .before .before .before .before .before .before .pre .1)))
-    returns-3)
+    (λ c κs. c .before .before .before .before .before .pre)
+    (λ c. c .exactly-on-side .ensures)
+    (λ c. fits-sub (lit 0 tt) (three (c .before .before)) tt)
+    returns-3
+    (λ c κs. c .before .before .before .before .before .before .pre)
+    (λ c. c .exactly-on-side2 .ensures))
