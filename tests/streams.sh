@@ -3,48 +3,48 @@
 # `rt check cover query` builds them; the case of interrupted calls needs cc, and programs that this machine runs itself.
 set -u
 cd "$(dirname "$0")/.."
-room=$(mktemp -d)
-trap 'rm -rf "$room"' EXIT
+work=$(mktemp -d)
+trap 'rm -rf "$work"' EXIT
 failed=0
 
 # said PROGRAM TEXT: what was written is the beginning of the stored output, and standard error says TEXT.
 said() {
-    if ! head -c "$(wc -c < "$room/out")" "crates/$1/stdout" | cmp -s - "$room/out" || [ "$(cat "$room/err")" != "$2" ]; then
+    if ! head -c "$(wc -c < "$work/out")" "crates/$1/stdout" | cmp -s - "$work/out" || [ "$(cat "$work/err")" != "$2" ]; then
         echo "$1: not as stored, or not '$2':"
-        cat "$room/err"
+        cat "$work/err"
         failed=1
     fi
 }
 
 for p in cover query; do
     in=crates/$p/stdin
-    : > "$room/out"
-    target/bin/$p < $in 2> "$room/err" > /dev/full
+    : > "$work/out"
+    target/bin/$p < $in 2> "$work/err" > /dev/full
     said $p 'standard output is cut short: No space left on device'
-    target/bin/$p < $in 2> "$room/err" >&-
+    target/bin/$p < $in 2> "$work/err" >&-
     said $p 'standard output is cut short: Bad file descriptor'
-    target/bin/$p < / 2> "$room/err" > "$room/out"
+    target/bin/$p < / 2> "$work/err" > "$work/out"
     said $p 'standard input is not read to its end: Is a directory'
-    target/bin/$p <&- 2> "$room/err" > "$room/out"
+    target/bin/$p <&- 2> "$work/err" > "$work/out"
     said $p 'standard input is not read to its end: Bad file descriptor'
-    if [ -s "$room/out" ]; then
+    if [ -s "$work/out" ]; then
         echo "$p: an answer to nothing"
         failed=1
     fi
-    target/bin/$p < $in 2> "$room/err" > "$room/out"
+    target/bin/$p < $in 2> "$work/err" > "$work/out"
     said $p ''
     if command -v cc > /dev/null && [ "$(uname -m)" = x86_64 ]; then
-        cc -shared -fPIC -o "$room/interrupted.so" tests/c/interrupted.c
-        LD_PRELOAD=$room/interrupted.so target/bin/$p < $in 2> "$room/err" > "$room/out"
+        cc -shared -fPIC -o "$work/interrupted.so" tests/c/interrupted.c
+        LD_PRELOAD=$work/interrupted.so target/bin/$p < $in 2> "$work/err" > "$work/out"
         said $p ''
-        cmp "$room/out" crates/$p/stdout || failed=1
+        cmp "$work/out" crates/$p/stdout || failed=1
     fi
 done
 
 # A file that may not grow past 8 blocks of 1024 bytes takes a part of a write, and then nothing.
-(trap '' XFSZ; ulimit -f 8; target/bin/query < crates/query/stdin 2> "$room/err" > "$room/out")
+(trap '' XFSZ; ulimit -f 8; target/bin/query < crates/query/stdin 2> "$work/err" > "$work/out")
 said query 'standard output is cut short: File too large'
-(trap '' PIPE; target/bin/query < crates/query/stdin 2> "$room/err" | head -c 10 > "$room/out")
+(trap '' PIPE; target/bin/query < crates/query/stdin 2> "$work/err" | head -c 10 > "$work/out")
 said query 'standard output is cut short: Broken pipe'
 [ $failed -eq 0 ] && echo 'streams: failures are said, and nothing stands after a lost part'
 exit $failed
