@@ -1,4 +1,4 @@
-// From rows to prepared halfspaces: the two lists that specs/PreparedLists of classify_region describes.
+// From rows to prepared halfspaces: the two lists of classify_region/specs/PreparedLists.
 use classify_measures::PreparedHalfspace;
 use limits::CONVEXES;
 use limits::HALFSPACES;

@@ -19,6 +19,7 @@ ghost use Rattle.region.specs.Answers.{headerGiven, readAnswer, readAfter, writ
 ghost use Rattle.htm.specs.Answers.{coverGiven, coverAnswer, coverAfter};
 
 pub mod from_c;
+mod to_c;
 
 // Both counts and seen, or the number of the first check that failed.
 pub enum CoverOf {

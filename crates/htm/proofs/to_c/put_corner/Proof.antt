@@ -1,4 +1,4 @@
--- `htm::from_c::put_corner` stores three numbers, each of which fits 32 bits. Assumes nothing.
+-- `htm::to_c::put_corner` stores three numbers, each of which fits 32 bits. Assumes nothing.
 use Prim.Native.Nat.{suc, _+_}
 use native.Mathlib.Omega.{arith}
 use mathlib.Core.Path.{_≡_, _∙_}
@@ -7,8 +7,8 @@ use lib.ListN.{set, take, drop, length-set}
 use lib.Seq.{sets-eq}
 use denote.Ref.{now}
 use Rattle.region_contents.proofs.RowLaws.{narrow-fits, narrow-same}
-use Rattle.htm.proofs.from_c.put_corner.Statement.{statement}
-use Rattle.htm.proofs.from_c.put_corner.Tie as tie
+use Rattle.htm.proofs.to_c.put_corner.Statement.{statement}
+use Rattle.htm.proofs.to_c.put_corner.Tie as tie
 
 stored : tie.Need-returns
 stored c =

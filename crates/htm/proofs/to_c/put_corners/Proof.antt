@@ -1,4 +1,4 @@
--- `htm::from_c::put_corners` puts one corner after the other. Assumes nothing.
+-- `htm::to_c::put_corners` puts one corner after the other. Assumes nothing.
 use native.Mathlib.Omega.{arith}
 use borrow.Author.Needs.{needs}
 use mathlib.Core.Path.{refl}
@@ -6,8 +6,8 @@ use mathlib.Core.List.{_++_}
 use denote.Ref.{now}
 use Rattle.answer.proofs.PutLaws.{put-next}
 use Rattle.htm.specs.CalledFromC.{cornerList}
-use Rattle.htm.proofs.from_c.put_corners.Statement.{statement}
-use Rattle.htm.proofs.from_c.put_corners.Tie as tie
+use Rattle.htm.proofs.to_c.put_corners.Statement.{statement}
+use Rattle.htm.proofs.to_c.put_corners.Tie as tie
 
 pub put-corners-spec : {M : Type 1} → statement M
 put-corners-spec =

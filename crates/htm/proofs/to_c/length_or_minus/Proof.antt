@@ -1,4 +1,4 @@
--- `htm::from_c::length_or_minus` is the length, which 64 bits with a sign hold, or minus the refusal. Assumes nothing.
+-- `htm::to_c::length_or_minus` is the length, which 64 bits with a sign hold, or minus the refusal. Assumes nothing.
 use Prim.Native.Nat.{_^_, _≤_}
 use mathlib.Core.Path.{sym, ap, subst, _∙_}
 use lib.IntN.{pos}
@@ -7,8 +7,8 @@ use Rattle.algebra.proofs.Sized.{held, nat, sfits}
 use mir.Syntax.{w64}
 use Rattle.answer.specs.Calls.{numberOf}
 use Rattle.htm.specs.CalledFromC.{lengthForC}
-use Rattle.htm.proofs.from_c.length_or_minus.Statement.{statement}
-use Rattle.htm.proofs.from_c.length_or_minus.Tie as tie
+use Rattle.htm.proofs.to_c.length_or_minus.Statement.{statement}
+use Rattle.htm.proofs.to_c.length_or_minus.Tie as tie
 
 small : (c : tie.After-answer) → c .answer .given .0 .0 ≤ 2 ^ 32
 small c = c .before .before .pre (c .answer .given .0 .0) (ap numberOf (c .answer .given .1))
