@@ -6,7 +6,7 @@
 --   Cover           the outer and the inner list, and seen
 --   coverOf d b g   the cover of the region g to the depth d, with the budget b as a header has it
 --   cover x         the cover of a file that was read: by its depth, budget and region
---   countsOf c      both counts and seen; countsList: as three numbers
+--   countsOf c      both counts and seen; countsList: as numbers, `counted` of them
 --   bothListed b c  the two lists in a lent list
 --   SeenBound       seen is at most 8(4^depth − 1)/3 (proofs/CuttingLaws)
 use Prim.Native.Nat.{ℕ, zero, suc, _+_, _-_, _*_, _^_, _≤_}
@@ -104,9 +104,12 @@ cover x = coverOf (x .depth) (x .budget) (x .region)
 abbrev pub countsOf : Cover → Counts
 countsOf c = record { outer = length (c .outer); inner = length (c .inner); seen = c .seen }
 
--- as three numbers
+-- as numbers, and how many they are
 abbrev pub countsList : Counts → List ℕ
 countsList c = c .outer ∷ c .inner ∷ c .seen ∷ []
+
+abbrev pub counted : ℕ
+counted = 3
 
 abbrev pub bothListed : ℕ → Cover → List ℕ → List ℕ
 bothListed b c before = put (2 * b) (pairs (c .inner)) (put 0 (pairs (c .outer)) before)

@@ -10,7 +10,7 @@ ghost use Rattle.answer.specs.Lent.{put};
 ghost use Rattle.classify_region.specs.PreparedLists.{Ready};
 ghost use Rattle.ranges.proofs.Pushing.{innerEnd};
 ghost use Rattle.ranges_stored.specs.Stored.{stateOf};
-ghost use Rattle.cutting.specs.Cover.{countsList};
+ghost use Rattle.cutting.specs.Cover.{countsList, counted};
 ghost use Rattle.cutting_tally.specs.Tally.{tallyIn, noTally, BehindEnd, Room};
 ghost use Rattle.cutting_walk.specs.Walk.{Cut, Covers, SomeRows, CoversRows};
 
@@ -126,9 +126,9 @@ pub fn cover(
     cover_prepared(depth, &xs, &ends, n, budget, out)
 }
 
-// The three counts, at the beginning of a list.
+// The counts, at the beginning of a list.
 pub fn put_counts(counts: &mut [u64], c: Counts)
-    requires { ⌜ 3 ≤ length (now counts) ⌝ }
+    requires { ⌜ counted ≤ length (now counts) ⌝ }
     ensures { λ _. ⌜ now (counts .exit) ≡ put 0 (countsList c) (now (counts .entry)) ⌝ }
 {
     counts[0] = c.outer;

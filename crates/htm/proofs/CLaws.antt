@@ -28,7 +28,7 @@ use Rattle.region.specs.Answers.{headerOf, readInto, rowsInto, readAnswer, read
 use Rattle.region.proofs.ReadBack.{file-length}
 use Rattle.region.proofs.WriteBack.{region-back}
 use Rattle.cutting.specs.declared.Counts.{Counts}
-use Rattle.cutting.specs.Cover.{cover, countsOf, countsList}
+use Rattle.cutting.specs.Cover.{cover, countsOf, counted, countsList}
 use Rattle.htm.specs.Answers.{coverInto, coverAnswer, bothLists, coverAfter}
 use Rattle.htm.specs.CalledFromC.{statusOf, cornersList, cornersForC, cornersAfterC, refusalOf, inBoth, headerList, readForC, rowsAfterC, headerAfterC, coverForC, coverAfterC, countsAfterC}
 
@@ -96,42 +96,42 @@ own-or-space f a e = ap (λ a. statusOf {A = File} (then a (λ h. refused Space)
     whichever (refused n) = refl
     whichever (gives x) = refl
 
--- ---- a file and two lent lists: `before`, into which `write` writes, and `three`, which takes the numbers of the value
+-- ---- a file and two lent lists: `before`, into which `write` writes, and `list`, which takes the m numbers of the value
 
-module _ {X Y : Type 0} (value : File → Y) (write : File → List X → List X) (numbers : Y → List ℕ) (before : List X) (three : List ℕ) where
+module _ {X Y : Type 0} (value : File → Y) (write : File → List X → List X) (numbers : Y → List ℕ) (before : List X) (m : ℕ) (list : List ℕ) where
   -- what a call answers that has `a` to write, and what the two lists hold then
   abbrev Leaves : Answer File → ℤ → List X → List ℕ → Type 0
-  Leaves a status xs ns = (status ≡ statusOf (with-value value a)) × ((xs ≡ stored write a before) × (ns ≡ stored (λ v l. put 0 (numbers v) l) (with-value value a) three))
+  Leaves a status xs ns = (status ≡ statusOf (with-value value a)) × ((xs ≡ stored write a before) × (ns ≡ stored (λ v l. put 0 (numbers v) l) (with-value value a) list))
 
   -- too few elements for the numbers: a refusal in any case, and nothing is stored
 
-  nothing : (a : Answer File) → Leaves (then a (λ x. refused Space)) (statusOf {A = File} (then a (λ x. refused Space))) before three
+  nothing : (a : Answer File) → Leaves (then a (λ x. refused Space)) (statusOf {A = File} (then a (λ x. refused Space))) before list
   nothing (refused n) = (refl, (refl, refl))
   nothing (gives x) = (refl, (refl, refl))
 
-  module _ (h : length three < 3) where
-    tested : (x : File) (t : Bool) → refused Space ≡ inBoth (check Space t (gives x)) three
-    tested x true = ap (λ t. check Space t (gives x)) (sym (lt-leb 3 (length three) h))
+  module _ (h : length list < m) where
+    tested : (x : File) (t : Bool) → refused Space ≡ inBoth m (check Space t (gives x)) list
+    tested x true = ap (λ t. check Space t (gives x)) (sym (lt-leb m (length list) h))
     tested x false = refl
 
-    too-few : (t : File → Bool) (a : Answer File) → then a (λ x. refused Space) ≡ inBoth (then a (λ x. check Space (t x) (gives x))) three
+    too-few : (t : File → Bool) (a : Answer File) → then a (λ x. refused Space) ≡ inBoth m (then a (λ x. check Space (t x) (gives x))) list
     too-few t (refused n) = refl
     too-few t (gives x) = tested x (t x)
 
-    short-three : (t : File → Bool) (a : Answer File) → Leaves (inBoth (then a (λ x. check Space (t x) (gives x))) three) (statusOf {A = File} (then a (λ x. refused Space))) before three
-    short-three t a = subst (λ b. Leaves b (statusOf {A = File} (then a (λ x. refused Space))) before three) (too-few t a) (nothing a)
+    short-list : (t : File → Bool) (a : Answer File) → Leaves (inBoth m (then a (λ x. check Space (t x) (gives x))) list) (statusOf {A = File} (then a (λ x. refused Space))) before list
+    short-list t a = subst (λ b. Leaves b (statusOf {A = File} (then a (λ x. refused Space))) before list) (too-few t a) (nothing a)
 
   -- enough
 
-  module _ (h : 3 ≤ length three) where
-    enough : (a : Answer File) → a ≡ inBoth a three
+  module _ (h : m ≤ length list) where
+    enough : (a : Answer File) → a ≡ inBoth m a list
     enough (refused n) = refl
-    enough (gives x) = ap (λ t. check Space t (gives x)) (sym (le-leb 3 (length three) h))
+    enough (gives x) = ap (λ t. check Space t (gives x)) (sym (le-leb m (length list) h))
 
-    with-three : (a : Answer File) (v : Answer Y) (xs : List X) → v ≡ with-value value a → xs ≡ stored write a before
-        → Leaves (inBoth a three) (statusOf v) xs (stored (λ v l. put 0 (numbers v) l) v three)
-    with-three a v xs e g =
-        subst (λ b. Leaves b (statusOf v) xs (stored (λ v l. put 0 (numbers v) l) v three)) (enough a) (ap statusOf e, (g, ap (λ w. stored (λ v l. put 0 (numbers v) l) w three) e))
+    with-list : (a : Answer File) (v : Answer Y) (xs : List X) → v ≡ with-value value a → xs ≡ stored write a before
+        → Leaves (inBoth m a list) (statusOf v) xs (stored (λ v l. put 0 (numbers v) l) v list)
+    with-list a v xs e g =
+        subst (λ b. Leaves b (statusOf v) xs (stored (λ v l. put 0 (numbers v) l) v list)) (enough a) (ap statusOf e, (g, ap (λ w. stored (λ v l. put 0 (numbers v) l) w list) e))
 
 module _ (f : List ℕ) (rs : List ℤ) (header : List ℕ) where
   abbrev pub Reads : ℤ → List ℤ → List ℕ → Type 0
@@ -139,20 +139,20 @@ module _ (f : List ℕ) (rs : List ℤ) (header : List ℕ) where
 
   pub short-header : length header < 3 → Reads (statusOf (refusalOf f)) rs header
   unfolding readForC rowsAfterC headerAfterC
-  short-header h = short-three headerOf rowsInto headerList rs header h (λ x. leb (length (rows (x .region))) (length rs)) (read f)
+  short-header h = short-list headerOf rowsInto headerList rs 3 header h (λ x. leb (length (rows (x .region))) (length rs)) (read f)
 
   pub reads : 3 ≤ length header → (a : Answer Header) (xs : List ℤ) → a ≡ readAnswer f rs → xs ≡ readAfter f rs → Reads (statusOf a) xs (stored (λ v l. put 0 (headerList v) l) a header)
   unfolding readForC rowsAfterC headerAfterC readAnswer readAfter
-  reads h a xs e g = with-three headerOf rowsInto headerList rs header h (readInto f rs) a xs e g
+  reads h a xs e g = with-list headerOf rowsInto headerList rs 3 header h (readInto f rs) a xs e g
 
 module _ (f out counts : List ℕ) where
   abbrev pub Covers : ℤ → List ℕ → List ℕ → Type 0
   Covers status xs ns = (status ≡ statusOf (coverForC f out counts)) × ((xs ≡ coverAfterC f out counts) × (ns ≡ countsAfterC f out counts))
 
-  pub short-counts : length counts < 3 → Covers (statusOf (refusalOf f)) out counts
+  pub short-counts : length counts < counted → Covers (statusOf (refusalOf f)) out counts
   unfolding coverForC coverAfterC countsAfterC
-  short-counts h = short-three (λ x. countsOf (cover x)) bothLists countsList out counts h (λ x. leb (4 * budgetOf (x .budget)) (length out)) (read f)
+  short-counts h = short-list (λ x. countsOf (cover x)) bothLists countsList out counted counts h (λ x. leb (4 * budgetOf (x .budget)) (length out)) (read f)
 
-  pub covers : 3 ≤ length counts → (a : Answer Counts) (xs : List ℕ) → a ≡ coverAnswer f out → xs ≡ coverAfter f out → Covers (statusOf a) xs (stored (λ v l. put 0 (countsList v) l) a counts)
+  pub covers : counted ≤ length counts → (a : Answer Counts) (xs : List ℕ) → a ≡ coverAnswer f out → xs ≡ coverAfter f out → Covers (statusOf a) xs (stored (λ v l. put 0 (countsList v) l) a counts)
   unfolding coverForC coverAfterC countsAfterC coverAnswer coverAfter
-  covers h a xs e g = with-three (λ x. countsOf (cover x)) bothLists countsList out counts h (coverInto f out) a xs e g
+  covers h a xs e g = with-list (λ x. countsOf (cover x)) bothLists countsList out counted counts h (coverInto f out) a xs e g

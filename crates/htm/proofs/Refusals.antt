@@ -6,7 +6,7 @@ use Rattle.answer.specs.Lent.{put, stored}
 use Rattle.answer.proofs.LentLaws.{first-refusal, not-stored}
 use Rattle.mesh.specs.Answers.{nameInto, nameAnswer, nameAfter}
 use Rattle.region.specs.Answers.{headerOf, rowsInto, readInto, readAnswer, readAfter, writeInto, writeAnswer, writeAfter}
-use Rattle.cutting.specs.Cover.{cover, countsOf, countsList}
+use Rattle.cutting.specs.Cover.{cover, countsOf, counted, countsList}
 use Rattle.htm.specs.Answers.{coverInto, coverAnswer, bothLists, coverAfter}
 use Rattle.htm.specs.CalledFromC.{cornersList, cornersForC, cornersAfterC, inBoth, headerList, readForC, rowsAfterC, headerAfterC, coverForC, coverAfterC, countsAfterC}
 use Rattle.htm.specs.Refusals.{SpaceLast, LentListsStay}
@@ -31,6 +31,6 @@ lent-lists-stay = (
   λ d b n rs before. not-stored length (put 0) (writeInto d b rs before) before n,
   λ f n before. not-stored (λ x. countsOf (cover x)) bothLists (coverInto f before) before n,
   λ i n out. ap (λ a. stored (λ c before. put 0 (cornersList c) before) a out),
-  λ f n rows header e. (not-stored headerOf rowsInto (inBoth (readInto f rows) header) rows n e, ap (λ a. stored (λ h before. put 0 (headerList h) before) a header) e),
-  λ f n out counts e. (not-stored (λ x. countsOf (cover x)) bothLists (inBoth (coverInto f out) counts) out n e, ap (λ a. stored (λ c before. put 0 (countsList c) before) a counts) e),
+  λ f n rows header e. (not-stored headerOf rowsInto (inBoth 3 (readInto f rows) header) rows n e, ap (λ a. stored (λ h before. put 0 (headerList h) before) a header) e),
+  λ f n out counts e. (not-stored (λ x. countsOf (cover x)) bothLists (inBoth counted (coverInto f out) counts) out n e, ap (λ a. stored (λ c before. put 0 (countsList c) before) a counts) e),
 )

@@ -1,11 +1,11 @@
 -- The calls for a host in C: a number instead of an answer. Document 01, 'What is sent back', 'Regions' and 'The two lists'.
 -- A refusal is minus its number, and comes before any list is written. The lookup and the identifier of a name give 0 instead: `entry`, `orZero` (Answers).
---   lengthForC a         the length, or minus the number of the refusal: `nameAnswer` (mesh), `writeAnswer` (region)
+--   numberForC a         the number that is asked for, or minus the number of the refusal: the lengths of `nameAnswer` (mesh) and `writeAnswer` (region)
 --   heldForC a           1 held, 0 not, or minus the number of the refusal
 --   statusOf a           0, or minus the number of the refusal
 --   cornersForC i out, cornersAfterC   the corners or the refusal, 11, then 10; the lent list afterwards: x, y, z of each corner
 --   refusalOf f          the refusal of a file for which a lent list is too short: the file's own, or 10
---   inBoth a three       what a call has to write, or its refusal; then 10 where the second lent list has fewer than three elements
+--   inBoth n a list      what a call has to write, or its refusal; then 10 where the second lent list has fewer than n elements
 --   readForC, rowsAfterC, headerAfterC     the reader's header; the lent list and the header's afterwards: count, depth, budget
 --   coverForC, coverAfterC, countsAfterC   the cover's counts; the lent list and the list of counts afterwards: outer, inner, seen
 use Prim.Native.Nat.{ℕ}
@@ -21,14 +21,14 @@ use Rattle.region.specs.declared.Header.{Header}
 use Rattle.region.specs.Reader.{File, read}
 use Rattle.region.specs.Answers.{headerOf, readInto, rowsInto}
 use Rattle.cutting.specs.declared.Counts.{Counts}
-use Rattle.cutting.specs.Cover.{cover, countsOf, countsList}
+use Rattle.cutting.specs.Cover.{cover, countsOf, counted, countsList}
 use Rattle.htm.specs.Answers.{coverInto, bothLists}
 
 -- ---- answers as numbers
 
-abbrev pub lengthForC : Answer ℕ → ℤ
-lengthForC (refused n) = negℤ (pos n)
-lengthForC (gives n) = pos n
+abbrev pub numberForC : Answer ℕ → ℤ
+numberForC (refused n) = negℤ (pos n)
+numberForC (gives n) = pos n
 
 abbrev pub heldForC : Answer Bool → ℤ
 heldForC (refused n) = negℤ (pos n)
@@ -57,26 +57,26 @@ cornersAfterC i out = stored (λ c before. put 0 (cornersList c) before) (corner
 abbrev pub refusalOf : List ℕ → Answer File
 refusalOf f = then (read f) (λ x. refused Space)
 
-abbrev pub inBoth : Answer File → List ℕ → Answer File
-inBoth a three = then a (λ x. room 3 three x)
+abbrev pub inBoth : ℕ → Answer File → List ℕ → Answer File
+inBoth n a list = then a (λ x. room n list x)
 
 abbrev pub headerList : Header → List ℕ
 headerList h = h .count ∷ h .depth ∷ h .budget ∷ []
 
 unfoldable pub readForC : List ℕ → List ℤ → List ℕ → Answer Header
-readForC f rows header = with-value headerOf (inBoth (readInto f rows) header)
+readForC f rows header = with-value headerOf (inBoth 3 (readInto f rows) header)
 
 unfoldable pub rowsAfterC : List ℕ → List ℤ → List ℕ → List ℤ
-rowsAfterC f rows header = stored rowsInto (inBoth (readInto f rows) header) rows
+rowsAfterC f rows header = stored rowsInto (inBoth 3 (readInto f rows) header) rows
 
 unfoldable pub headerAfterC : List ℕ → List ℤ → List ℕ → List ℕ
 headerAfterC f rows header = stored (λ h before. put 0 (headerList h) before) (readForC f rows header) header
 
 unfoldable pub coverForC : List ℕ → List ℕ → List ℕ → Answer Counts
-coverForC f out counts = with-value (λ x. countsOf (cover x)) (inBoth (coverInto f out) counts)
+coverForC f out counts = with-value (λ x. countsOf (cover x)) (inBoth counted (coverInto f out) counts)
 
 unfoldable pub coverAfterC : List ℕ → List ℕ → List ℕ → List ℕ
-coverAfterC f out counts = stored bothLists (inBoth (coverInto f out) counts) out
+coverAfterC f out counts = stored bothLists (inBoth counted (coverInto f out) counts) out
 
 unfoldable pub countsAfterC : List ℕ → List ℕ → List ℕ → List ℕ
 countsAfterC f out counts = stored (λ c before. put 0 (countsList c) before) (coverForC f out counts) counts

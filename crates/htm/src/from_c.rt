@@ -3,6 +3,7 @@
 use crate::CoverOf;
 use crate::to_c;
 use answer::SPACE;
+use cutting::COUNTED;
 use mesh::CornersOf;
 use region::HeaderOf;
 use region::HeldOf;
@@ -13,7 +14,7 @@ ghost use Rattle.mesh.specs.Names.{identifierOf};
 ghost use Rattle.mesh.specs.Answers.{nameAnswer, nameAfter};
 ghost use Rattle.region.specs.Answers.{pointTest, writeAnswer, writeAfter};
 ghost use Rattle.htm.specs.Answers.{orZero, entry};
-ghost use Rattle.htm.specs.CalledFromC.{lengthForC, heldForC, statusOf, cornersForC, cornersAfterC, readForC, rowsAfterC, headerAfterC, coverForC, coverAfterC, countsAfterC};
+ghost use Rattle.htm.specs.CalledFromC.{numberForC, heldForC, statusOf, cornersForC, cornersAfterC, readForC, rowsAfterC, headerAfterC, coverForC, coverAfterC, countsAfterC};
 
 // The lookup: the identifier, or 0 for a refusal.
 #[no_mangle]
@@ -26,10 +27,10 @@ pub extern "C" fn lookup(x: i32, y: i32, z: i32, depth: u32) -> u64
 // The name of an identifier, at the beginning of `out`: its length, or minus the number of the refusal.
 #[no_mangle]
 pub extern "C" fn htm_name(id: u64, out: &mut [u8]) -> i64
-    ensures { λ r. ⌜ r ≡ lengthForC (nameAnswer id (now (out .entry))) ⌝ }
+    ensures { λ r. ⌜ r ≡ numberForC (nameAnswer id (now (out .entry))) ⌝ }
     ensures { λ r. ⌜ now (out .exit) ≡ nameAfter id (now (out .entry)) ⌝ }
 {
-    to_c::length_or_minus(crate::name(id, out))
+    to_c::number_or_minus(crate::name(id, out))
 }
 
 // The identifier of a name, or 0 for a refusal. An identifier of depth 31 has bit 63, so the answer has no sign.
@@ -63,10 +64,10 @@ pub extern "C" fn htm_corners(id: u64, out: &mut [i32]) -> i64
 // The region file of some rows, at the beginning of `out`: its length, or minus the number of the refusal.
 #[no_mangle]
 pub extern "C" fn htm_write(depth: u32, budget: u32, rows: &[i32], out: &mut [u8]) -> i64
-    ensures { λ r. ⌜ r ≡ lengthForC (writeAnswer depth budget (now (rows .entry)) (now (out .entry))) ⌝ }
+    ensures { λ r. ⌜ r ≡ numberForC (writeAnswer depth budget (now (rows .entry)) (now (out .entry))) ⌝ }
     ensures { λ r. ⌜ now (out .exit) ≡ writeAfter depth budget (now (rows .entry)) (now (out .entry)) ⌝ }
 {
-    to_c::length_or_minus(crate::write(depth, budget, rows, out))
+    to_c::number_or_minus(crate::write(depth, budget, rows, out))
 }
 
 // The point test: 1 where the region holds the pointing, 0 where it does not, or minus the number of the refusal.
@@ -102,15 +103,14 @@ pub extern "C" fn htm_read(file: &[u8], rows: &mut [i32], header: &mut [u64]) ->
     }
 }
 
-// The cover: 0, with both counts and seen at the beginning of `counts`, or minus the number of the refusal; 10 also where `counts`
-// has fewer than three elements.
+// The cover: 0, with its counts at the beginning of `counts`, or minus the number of the refusal; 10 also where `counts` has too few elements.
 #[no_mangle]
 pub extern "C" fn htm_cover(file: &[u8], out: &mut [u64], counts: &mut [u64]) -> i64
     ensures { λ r. ⌜ r ≡ statusOf (coverForC (now (file .entry)) (now (out .entry)) (now (counts .entry))) ⌝ }
     ensures { λ r. ⌜ now (out .exit) ≡ coverAfterC (now (file .entry)) (now (out .entry)) (now (counts .entry)) ⌝ }
     ensures { λ r. ⌜ now (counts .exit) ≡ countsAfterC (now (file .entry)) (now (out .entry)) (now (counts .entry)) ⌝ }
 {
-    if counts.len() < 3 {
+    if counts.len() < COUNTED {
         return to_c::without_room(file);
     }
     let answer = crate::cover(file, out);

@@ -17,7 +17,7 @@ ghost use Rattle.answer.specs.Lent.{put};
 ghost use Rattle.vector.proofs.Sizes.{Small};
 ghost use Rattle.mesh_trixels.specs.Corners.{SmallCorners};
 ghost use Rattle.htm.specs.Answers.{orZero};
-ghost use Rattle.htm.specs.CalledFromC.{lengthForC, statusOf, cornerList, cornersList, refusalOf, headerList};
+ghost use Rattle.htm.specs.CalledFromC.{numberForC, statusOf, cornerList, cornersList, refusalOf, headerList};
 
 // An identifier, or 0 for a refusal.
 pub fn or_zero(answer: Number) -> u64
@@ -37,9 +37,9 @@ pub fn minus(n: u32) -> i64
 }
 
 // A length, or minus the number of the refusal.
-pub fn length_or_minus(answer: Number) -> i64
+pub fn number_or_minus(answer: Number) -> i64
     requires { ⌜ ((n : ℕ) → numberOf answer ≡ gives n → n ≤ 2 ^ 32) ⌝ }
-    ensures { λ r. ⌜ (r ≡ lengthForC (numberOf answer)) × Upto (2 ^ 32) r ⌝ }
+    ensures { λ r. ⌜ (r ≡ numberForC (numberOf answer)) × Upto (2 ^ 32) r ⌝ }
 {
     match answer {
         Number::Gives(n) => n as i64,

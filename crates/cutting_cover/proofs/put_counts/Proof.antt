@@ -1,4 +1,4 @@
--- `cutting_cover::put_counts` stores the three counts one after the other. Assumes nothing.
+-- `cutting_cover::put_counts` stores the counts one after the other. Assumes nothing.
 use native.Mathlib.Omega.{arith}
 use mathlib.Core.List.{[], _∷_}
 use lib.ListN.{length-set}

@@ -2,7 +2,7 @@
 use native.Mathlib.Omega.{arith}
 use mathlib.Core.Path.{sym, ap, _∙_}
 use Rattle.algebra.proofs.Sized.{held}
-use Rattle.htm.specs.CalledFromC.{lengthForC}
+use Rattle.htm.specs.CalledFromC.{numberForC}
 use Rattle.htm.proofs.CLaws.{file-short}
 use Rattle.htm.proofs.from_c.htm_write.Statement.{statement}
 use Rattle.htm.proofs.from_c.htm_write.Tie as tie
@@ -14,4 +14,4 @@ htm-write-spec =
     (λ c κs. tt)
     (λ c κs n e. omega (arith, file-short _ _ _ _ n (sym (c .before .before .write .ensures .0) ∙ e)))
     (λ c. c .before .before .before .write .kept .1 .1 .1 .0)
-    (λ c. let l = c .length-or-minus .ensures in let w = c .before .before .before .write .ensures in (held (l .1) tt .eq ∙ l .0 ∙ ap lengthForC (w .0), w .1)))
+    (λ c. let l = c .number-or-minus .ensures in let w = c .before .before .before .write .ensures in (held (l .1) tt .eq ∙ l .0 ∙ ap numberForC (w .0), w .1)))
