@@ -15,7 +15,7 @@ use Rattle.ranges.specs.Lists.{gaps, size, outerOf, innerOf}
 use Rattle.ranges.proofs.Pushing.{outerPush, outerPass, empty, innerPush, innerEnd, innerPass}
 use Rattle.ranges_stored.specs.Stored.{sizesIn, written, Writes, Hinted, nothingYet, stateOf, Keeps}
 use Rattle.ranges.proofs.OnePass.{one-pass}
-use Rattle.ranges_stored.proofs.StoredLaws.{length-written, written-put}
+use Rattle.ranges_stored.proofs.StoredLaws.{laid, laid-put, length-written}
 use Rattle.ranges_lists.proofs.Pushes.{writes-none, writes-push, keeps-none, keeps-push, keeps-end}
 use Rattle.cutting.specs.Cover.{Found, leftOut, takenFull, takenPartial, both, four, cutInto, visitRoot, cutting, listed, countsOf, bothListed}
 use Rattle.cutting_tally.specs.Tally.{Tally, nothing, innerState, Walked, Adds, Behind, BehindEnd, oneMore}
@@ -29,12 +29,15 @@ in-front (suc n) [] back h = absurd (omega arith)
 in-front (suc n) (x ∷ []) back h = absurd (omega arith)
 in-front (suc n) (x ∷ y ∷ front) back h = ap (λ l. range x y ∷ l) (in-front n front back (omega arith))
 
+laid-front : (xs : List Range) (front back : List ℕ) → 2 * length xs ≤ length front → laid xs (front ++ back) ≡ laid xs front ++ back
+unfolding laid
+laid-front [] front back h = refl
+laid-front (a ∷ xs) [] back h = absurd (omega arith)
+laid-front (a ∷ xs) (x ∷ []) back h = absurd (omega arith)
+laid-front (a ∷ xs) (x ∷ y ∷ front) back h = ap (λ l. a .low ∷ a .high ∷ l) (laid-front xs front back (omega arith))
+
 written-front : (xs : List Range) (front back : List ℕ) → 2 * length xs ≤ length front → written xs (front ++ back) ≡ written xs front ++ back
-unfolding written
-written-front [] front back h = refl
-written-front (a ∷ xs) [] back h = absurd (omega arith)
-written-front (a ∷ xs) (x ∷ []) back h = absurd (omega arith)
-written-front (a ∷ xs) (x ∷ y ∷ front) back h = ap (λ l. a .low ∷ a .high ∷ l) (written-front xs front back (omega arith))
+written-front xs front back h = sym (laid-put xs (front ++ back)) ∙ laid-front xs front back h ∙ ap (λ l. l ++ back) (laid-put xs front)
 
 -- what is known of the gaps at the front, where another list is behind it
 pub hinted-before : (h : Hint) (n b : ℕ) (before after rest : List ℕ) → n ≤ b → 2 * b ≤ length before → after ≡ take (2 * b) before ++ rest
@@ -50,14 +53,17 @@ hinted-before h n b before after rest few long e p = subst (λ rs. Hinted h (gap
         ∙ sym (in-front n (take (2 * b) before) (drop (2 * b) before) short)
         ∙ ap (rangesIn n) (take-append-drop (2 * b) before)
 
+past-laid : (k : ℕ) (xs : List Range) (l : List ℕ) → 2 * length xs ≤ k → 2 * length xs ≤ length l → drop k (laid xs l) ≡ drop k l
+unfolding laid
+past-laid k [] l h f = refl
+past-laid zero (a ∷ xs) l h f = absurd (omega arith)
+past-laid (suc zero) (a ∷ xs) l h f = absurd (omega arith)
+past-laid (suc (suc k)) (a ∷ xs) [] h f = absurd (omega arith)
+past-laid (suc (suc k)) (a ∷ xs) (x ∷ []) h f = absurd (omega arith)
+past-laid (suc (suc k)) (a ∷ xs) (x ∷ y ∷ l) h f = past-laid k xs l (omega arith) (omega arith)
+
 past-written : (k : ℕ) (xs : List Range) (l : List ℕ) → 2 * length xs ≤ k → 2 * length xs ≤ length l → drop k (written xs l) ≡ drop k l
-unfolding written
-past-written k [] l h f = refl
-past-written zero (a ∷ xs) l h f = absurd (omega arith)
-past-written (suc zero) (a ∷ xs) l h f = absurd (omega arith)
-past-written (suc (suc k)) (a ∷ xs) [] h f = absurd (omega arith)
-past-written (suc (suc k)) (a ∷ xs) (x ∷ []) h f = absurd (omega arith)
-past-written (suc (suc k)) (a ∷ xs) (x ∷ y ∷ l) h f = past-written k xs l (omega arith) (omega arith)
+past-written k xs l h f = ap (drop k) (sym (laid-put xs l)) ∙ past-laid k xs l h f
 
 -- what is known of the sizes behind, where another list is written at the front
 pub hinted-behind : (h : Hint) (n b : ℕ) {xs : List Range} {before after : List ℕ} {m : ℕ} → Writes xs before after m → m ≤ b → 2 * b ≤ length before
@@ -209,12 +215,11 @@ module _ (b : ℕ) (start : List ℕ) (long : 4 * b ≤ length start) where
       let lF : length F ≡ 2 * b = length-written o (take (2 * b) start) short ∙ wide in
       let m = length (pairs n) in
       let whole : put 0 (pairs o) start ≡ F ++ R =
-      sym (written-put o start) ∙ ap (written o) (sym (take-append-drop (2 * b) start)) ∙ written-front o (take (2 * b) start) R short in
+      ap (written o) (sym (take-append-drop (2 * b) start)) ∙ written-front o (take (2 * b) start) R short in
       let past : 2 * b + m ≡ length F + m = ap (λ k. k + m) (sym lF) in
       let none : m ≡ 0 + m = omega arith in
       ap (put (2 * b) (pairs n)) whole
       ∙ (λ i. take-at F R (2 * b) lF i ++ (pairs n ++ (ap (λ k. drop k (F ++ R)) past ∙ drop-append-add F R m ∙ ap (λ k. drop k R) none) i))
-      ∙ ap (λ l. F ++ l) (sym (written-put n R))
 
   pub walk-end : (a : Found) (s : Tally) (out out′ : List ℕ) (n : ℕ) → Walked b start a s out → 1 ≤ b → s .outer ≤ b
       → BehindEnd b out out′ (innerEnd b (stateOf (s .inner) (drop (2 * b) out))) n

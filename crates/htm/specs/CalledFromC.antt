@@ -14,7 +14,7 @@ use mathlib.Core.List.{List, [], _∷_, _++_}
 use lib.IntN.{ℤ, pos, negℤ}
 use Rattle.answer.specs.Answer.{Answer, refused, gives, then, with-value, Space}
 use Rattle.answer.specs.Lent.{put, stored, room}
-use Rattle.vector.specs.declared.Vec3.{Vec3}
+use Rattle.vector.specs.Vectors.{three}
 use Rattle.mesh.specs.declared.Corners.{Corners}
 use Rattle.mesh.specs.Identifiers.{corners}
 use Rattle.region.specs.declared.Header.{Header}
@@ -40,11 +40,8 @@ statusOf (gives a) = pos 0
 
 -- ---- corners
 
-abbrev pub cornerList : Vec3 → List ℤ
-cornerList v = v .x ∷ v .y ∷ v .z ∷ []
-
 abbrev pub cornersList : Corners → List ℤ
-cornersList c = cornerList (c .v0) ++ cornerList (c .v1) ++ cornerList (c .v2)
+cornersList c = three (c .v0) ++ three (c .v1) ++ three (c .v2)
 
 unfoldable pub cornersForC : ℕ → List ℤ → Answer Corners
 cornersForC i out = then (corners i) (λ c. room 9 out c)

@@ -14,10 +14,11 @@ ghost use Rattle.algebra.proofs.Sizes.{Upto};
 ghost use Rattle.answer.specs.Answer.{gives};
 ghost use Rattle.answer.specs.Calls.{numberOf};
 ghost use Rattle.answer.specs.Lent.{put};
+ghost use Rattle.vector.specs.Vectors.{three};
 ghost use Rattle.vector.proofs.Sizes.{Small};
 ghost use Rattle.mesh_trixels.specs.Corners.{SmallCorners};
 ghost use Rattle.htm.specs.Answers.{orZero};
-ghost use Rattle.htm.specs.CalledFromC.{numberForC, statusOf, cornerList, cornersList, refusalOf, headerList};
+ghost use Rattle.htm.specs.CalledFromC.{numberForC, statusOf, cornersList, refusalOf, headerList};
 
 // An identifier, or 0 for a refusal.
 pub fn or_zero(answer: Number) -> u64
@@ -51,7 +52,7 @@ pub fn number_or_minus(answer: Number) -> i64
 pub fn put_corner(out: &mut [i32], at: usize, v: Vec3)
     requires { ⌜ at + 3 ≤ length (now out) ⌝ }
     requires { ⌜ Small v ⌝ }
-    ensures { λ _. ⌜ now (out .exit) ≡ put at (cornerList v) (now (out .entry)) ⌝ }
+    ensures { λ _. ⌜ now (out .exit) ≡ put at (three v) (now (out .entry)) ⌝ }
 {
     out[at] = v.x as i32;
     out[at + 1] = v.y as i32;

@@ -9,10 +9,10 @@ use lib.ListN.{take, drop}
 use lib.IntN.{ℤ, pos, negsuc}
 use Rattle.vector.specs.declared.Vec3.{Vec3}
 use Rattle.vector.specs.Numbers.{root, rootIn}
-use Rattle.vector.specs.Vectors.{unit, scale}
+use Rattle.vector.specs.Vectors.{three, unit, scale}
 use Rattle.mesh.specs.Trixels.{rootTrixel, cut, child}
 use Rattle.mesh.specs.Identifiers.{trixel}
-use Rattle.mesh_table.specs.Table.{three, tableFrom, table, partOf, vectorAt}
+use Rattle.mesh_table.specs.Table.{tableFrom, table, partOf, vectorAt}
 use Rattle.mesh_table.specs.Rows.{nine}
 
 abbrev pub constants : List ℤ

@@ -3,7 +3,8 @@
 use Prim.Native.Nat.{ℕ, _+_, _*_}
 use mathlib.Core.List.{List, _++_}
 use lib.IntN.{ℤ}
-use Rattle.mesh_table.specs.Table.{three, vectorAt}
+use Rattle.vector.specs.Vectors.{three}
+use Rattle.mesh_table.specs.Table.{vectorAt}
 
 abbrev pub nine : ℕ → List ℤ
 nine j = three (vectorAt (3 * j)) ++ three (vectorAt (3 * j + 1)) ++ three (vectorAt (3 * j + 2))

@@ -4,15 +4,13 @@
 --   vectorAt k  the corner or normal number k of these trixels, six for each
 use Prim.Native.Nat.{ℕ, zero, suc, _+_, _/_, _%_}
 use mathlib.Core.Bool.{cond}
-use mathlib.Core.List.{List, [], _∷_, _++_}
+use mathlib.Core.List.{List, [], _++_}
 use lib.Dec.{eqb}
 use lib.IntN.{ℤ}
 use Rattle.vector.specs.declared.Vec3.{Vec3}
+use Rattle.vector.specs.Vectors.{three}
 use Rattle.mesh.specs.declared.Trixel.{Trixel}
 use Rattle.mesh.specs.Identifiers.{trixel}
-
-abbrev pub three : Vec3 → List ℤ
-three a = a .x ∷ a .y ∷ a .z ∷ []
 
 abbrev pub numbers : Trixel → List ℤ
 numbers t = three (t .v0) ++ three (t .v1) ++ three (t .v2) ++ three (t .p0) ++ three (t .p1) ++ three (t .p2)

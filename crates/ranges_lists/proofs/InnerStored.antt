@@ -9,7 +9,7 @@ use lib.ListN.{length, set}
 use borrow.Author.Tests.{lt-ltb, le-ltb}
 use Rattle.ranges_stored.specs.declared.Hint.{Hint}
 use Rattle.ranges_stored.specs.declared.Pending.{Pending}
-use Rattle.ranges.specs.Ranges.{Range, range, rangesIn}
+use Rattle.ranges.specs.Ranges.{Range, pairs, range, rangesIn}
 use Rattle.ranges.specs.Lists.{touch, size, without}
 use Rattle.ranges.proofs.Pushing.{empty, growing, innerFull, innerClose, innerPush, innerEnd}
 use Rattle.ranges_stored.specs.Stored.{written, Writes, Hinted, PointsAt, stateOf, Keeps, shifted}
@@ -103,7 +103,7 @@ beside {xs} {l} {l′} {n} low high h w =
 
 module _ (B : ℕ) (p : Pending) (l : List ℕ) (low high : ℕ) (h : Hint) where
   pub pending-first : p .some ≡ false → Keeps (innerPush B (stateOf p l) (range low high)) l l (record { n = 0; some = true; low = low; high = high; hint = h })
-  unfolding innerPush written
+  unfolding innerPush pairs
   pending-first e = rw (state-none p l e) (beside low high h (record { count = refl; list = refl }))
 
   module _ (is : p .some ≡ true) where
@@ -120,7 +120,7 @@ module _ (B : ℕ) (p : Pending) (l : List ℕ) (low high : ℕ) (h : Hint) wher
 
 module _ (B : ℕ) (p : Pending) (l : List ℕ) where
   pub end-none : p .some ≡ false → Writes (innerEnd B (stateOf p l)) l l 0
-  unfolding innerEnd written
+  unfolding innerEnd pairs
   end-none e = rw (state-none p l e) (record { count = refl; list = refl })
 
   pub end-some : p .some ≡ true → (l′ : List ℕ) (m : ℕ) → Writes (innerClose B (rangesIn (p .n) l) (range (p .low) (p .high))) l l′ m → Writes (innerEnd B (stateOf p l)) l l′ m

@@ -8,7 +8,7 @@ use lib.Dec.{eqb}
 use lib.ListN.{length, getD, set}
 use borrow.Author.Tests.{le-ltb, lt-ltb}
 use Rattle.ranges_stored.specs.declared.Hint.{Hint}
-use Rattle.ranges.specs.Ranges.{Range, range, rangesIn}
+use Rattle.ranges.specs.Ranges.{Range, pairs, range, rangesIn}
 use Rattle.ranges.specs.Lists.{gaps, joinAt}
 use Rattle.ranges.proofs.Pushing.{lastHigh, extend, outerFull, outerNew, outerPush}
 use Rattle.ranges_stored.specs.Stored.{written, Writes, Hinted, PointsAt, shifted}
@@ -80,7 +80,7 @@ unfolding outerNew
 new-full B xs r h = rw (le-ltb (length xs) B h)
 
 pub push-first : (B n : ℕ) (l : List ℕ) (low high : ℕ) → n ≡ 0 → 2 ≤ length l → Writes (outerPush B (rangesIn n l) (range low high)) l (set (set l 0 low) 1 high) 1
-unfolding outerPush rangesIn written
+unfolding outerPush rangesIn pairs
 push-first B n l low high e h =
     writes {ys = range low high ∷ []} (ap (λ m. outerPush B (rangesIn m l) (range low high)) e) refl (write-append [] l low high 0 1 refl refl h)
 

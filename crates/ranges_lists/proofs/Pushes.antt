@@ -5,7 +5,7 @@ use mathlib.Core.Path.{_≡_, refl, ap, ap₂, _∙_, subst}
 use mathlib.Core.List.{List, []}
 use lib.ListN.{length}
 use Rattle.ranges_stored.specs.declared.Pending.{Pending}
-use Rattle.ranges.specs.Ranges.{Range, rangesIn}
+use Rattle.ranges.specs.Ranges.{Range, pairs, rangesIn}
 use Rattle.ranges.proofs.Pushing.{outerPush, Inner, empty, innerPush, innerEnd}
 use Rattle.ranges_stored.specs.Stored.{written, Writes, nothingYet, closed, stateOf, Keeps}
 use Rattle.ranges_stored.proofs.StoredLaws.{in-written, written-over}
@@ -13,7 +13,7 @@ use Rattle.ranges_lists.proofs.Counts.{push-grows, innerPush-grows, inn
 use Rattle.ranges_lists.proofs.InnerStored.{state-none}
 
 pub writes-none : (l : List ℕ) → Writes [] l l 0
-unfolding written
+unfolding pairs
 writes-none l = record { count = refl; list = refl }
 
 pub writes-in : (xs : List Range) (l₀ l : List ℕ) (n : ℕ) → Writes xs l₀ l n → rangesIn n l ≡ xs

@@ -10,7 +10,7 @@ use lib.Seq.{paste, paste-zero, paste-suc, length-paste-head, getD-append-add, g
 use Rattle.ranges.specs.Lists.{joinAt, without}
 use Rattle.ranges.specs.Ranges.{rangesIn}
 use Rattle.ranges_stored.specs.Stored.{written, shifted}
-use Rattle.ranges_stored.proofs.StoredLaws.{double, double-is, drop-two}
+use Rattle.ranges_stored.proofs.StoredLaws.{double, double-is, drop-two, laid, laid-put}
 
 -- ---- one element after the other
 
@@ -46,8 +46,8 @@ shifted-end at l k count m e f = e ∙ ap (shifted at l) f
 
 -- ---- what it does to the ranges
 
-front : (p : ℕ) (l m : List ℕ) → 2 * p ≤ length l → take (double p) l ++ drop (double p) m ≡ written (rangesIn p l) m
-unfolding double rangesIn written
+front : (p : ℕ) (l m : List ℕ) → 2 * p ≤ length l → take (double p) l ++ drop (double p) m ≡ laid (rangesIn p l) m
+unfolding double rangesIn laid
 front zero l m h = refl
 front (suc p) [] m h = absurd (omega arith)
 front (suc p) (x ∷ []) m h = absurd (omega arith)
@@ -55,8 +55,8 @@ front (suc p) (x ∷ y ∷ l) m h = ap (λ k. x ∷ y ∷ (take (double p) l ++ 
 
 -- from the high of range i on
 join′ : (i q p : ℕ) (l : List ℕ) → p ≡ i + q → 2 * p + 4 ≤ length l
-    → take (suc (double i)) l ++ take (suc (double q)) (drop (suc (suc (suc (double i)))) l) ++ drop (double (suc p)) l ≡ written (joinAt i (rangesIn (suc (suc p)) l)) l
-unfolding double rangesIn written joinAt
+    → take (suc (double i)) l ++ take (suc (double q)) (drop (suc (suc (suc (double i)))) l) ++ drop (double (suc p)) l ≡ laid (joinAt i (rangesIn (suc (suc p)) l)) l
+unfolding double rangesIn laid joinAt
 join′ i q p [] e h = absurd (omega arith)
 join′ i q p (x ∷ []) e h = absurd (omega arith)
 join′ i q p (x ∷ y ∷ []) e h = absurd (omega arith)
@@ -76,12 +76,12 @@ shifted-joins (suc (suc p)) i at m l h k e f =
     let b : m ≡ suc (double (p - i)) = omega (arith, double-is (p - i)) in
     let c : at + 2 ≡ suc (suc (suc (double i))) = omega arith in
     let d : at + m ≡ double (suc p) = omega (arith, double-is (suc p)) in
-    cc (join′ i (p - i) p l (omega arith) (omega arith))
+    cc (join′ i (p - i) p l (omega arith) (omega arith)) ∙ laid-put (joinAt i (rangesIn (suc (suc p)) l)) l
 
 -- from the low of range i on
 remove′ : (i q p : ℕ) (l : List ℕ) → p ≡ i + q → 2 * p + 2 ≤ length l
-    → take (double i) l ++ take (double q) (drop (suc (suc (double i))) l) ++ drop (double p) l ≡ written (without i (rangesIn (suc p) l)) l
-unfolding double rangesIn written without
+    → take (double i) l ++ take (double q) (drop (suc (suc (double i))) l) ++ drop (double p) l ≡ laid (without i (rangesIn (suc p) l)) l
+unfolding double rangesIn laid without
 remove′ i q p [] e h = absurd (omega arith)
 remove′ i q p (x ∷ []) e h = absurd (omega arith)
 remove′ zero q p (x ∷ y ∷ l) e h =
@@ -98,4 +98,4 @@ shifted-removes (suc p) i m l h k f =
     let b : m ≡ double (p - i) = omega (arith, double-is (p - i)) in
     let c : 2 * i + 2 ≡ suc (suc (double i)) = omega arith in
     let d : 2 * i + m ≡ double p = omega (arith, double-is p) in
-    cc (remove′ i (p - i) p l (omega arith) (omega arith))
+    cc (remove′ i (p - i) p l (omega arith) (omega arith)) ∙ laid-put (without i (rangesIn (suc p) l)) l

@@ -1,7 +1,7 @@
 -- The two lists as one pass keeps them, in lent memory. Document 01, 'The two lists': pairs low, high, one range after the other.
 --   sizesIn start n l   the sizes of n ranges, from element `start` of the list l on. A gap is the size of the range from one high to the next low, so
 --                    from element 1 on they are the gaps
---   written xs l     the list l with the ranges xs at its front, each in the place of two elements; the other elements stay
+--   written xs l     the list l with the ranges xs at its front, as pairs; the other elements stay
 --   Writes xs before after n   `after` is `before` with the ranges xs, n of them, at its front
 -- Where the smallest gap of the outer list is, or the shortest range of the inner list, as far as it is known: a `Hint`.
 --   hintOf from floor   a hint, by its two numbers; noHint is true of every list
@@ -24,16 +24,16 @@ use lib.ListN.{length, getD, drop}
 use lib.Seq.{paste}
 use Rattle.ranges_stored.specs.declared.Hint.{Hint}
 use Rattle.ranges_stored.specs.declared.Pending.{Pending}
-use Rattle.ranges.specs.Ranges.{Range, range, rangesIn}
+use Rattle.answer.specs.Lent.{put}
+use Rattle.ranges.specs.Ranges.{Range, pairs, range, rangesIn}
 use Rattle.ranges.specs.Lists.{size}
 use Rattle.ranges.proofs.Pushing.{Inner, empty, growing}
 
 abbrev pub sizesIn : ℕ → ℕ → List ℕ → List ℕ
 sizesIn start n l = map size (rangesIn n (drop start l))
 
-unfoldable pub written : List Range → List ℕ → List ℕ
-written [] l = l
-written (a ∷ xs) l = a .low ∷ a .high ∷ written xs (drop 2 l)
+abbrev pub written : List Range → List ℕ → List ℕ
+written xs l = put 0 (pairs xs) l
 
 pub record Writes (xs : List Range) (before after : List ℕ) (n : ℕ) : Type 0 where
   pub count : n ≡ length xs

@@ -97,8 +97,8 @@ fn rows_hold(rows: &[i32], count: usize, p: Vec3) -> bool
     either(s.any, s.all)
 }
 
-// Whether the region of the first `count` rows of an array holds p.
-fn array_holds(rows: &[i32; 5 * HALFSPACES], count: usize, p: Vec3) -> bool
+// Whether the region of the first `count` rows of an array holds p: `rowsHold`, which for the rows of a region is its own answer (proofs/PointLaws).
+pub fn array_holds(rows: &[i32; 5 * HALFSPACES], count: usize, p: Vec3) -> bool
     requires { ⌜ 5 * count ≤ 2560 ⌝ }
     requires { ⌜ Small p ⌝ }
     ensures { λ t. ⌜ t ≡ rowsHold p count (now (rows .entry)) ⌝ }

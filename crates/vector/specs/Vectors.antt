@@ -1,10 +1,12 @@
 -- Vectors. Document 01, 'Pointings and the mesh'.
+--   vec x y z, three a        a vector of three numbers, and its three numbers
 --   plus, minus, dot, cross   of vectors; `minus a` is −a
 --   unit s                    Unit(s): K times s, divided by the greatest n with n² at most s·s; zero if n is 0
 --   scale c                   Scale(c): K times c, divided by the largest absolute component; zero if that is 0
 --   isVector p                the rule of a pointing and of a halfspace direction
 use Prim.Native.Nat.{ℕ, max}
 use mathlib.Core.Bool.{Bool, cond, _&&_}
+use mathlib.Core.List.{List, [], _∷_}
 use lib.Dec.{eqb}
 use lib.IntN.{ℤ, pos, negℤ, natAbs, _+ℤ_, _-ℤ_, _*ℤ_}
 use Rattle.vector.specs.declared.Vec3.{Vec3}
@@ -12,6 +14,9 @@ use Rattle.vector.specs.Numbers.{K, quot, between, root}
 
 abbrev pub vec : ℤ → ℤ → ℤ → Vec3
 vec x y z = record { x = x; y = y; z = z }
+
+abbrev pub three : Vec3 → List ℤ
+three a = a .x ∷ a .y ∷ a .z ∷ []
 
 abbrev pub plus : Vec3 → Vec3 → Vec3
 plus a b = vec (a .x +ℤ b .x) (a .y +ℤ b .y) (a .z +ℤ b .z)

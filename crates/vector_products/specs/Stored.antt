@@ -1,15 +1,11 @@
 -- Vectors in lists of numbers, three numbers each.
 --   vecIn xs k       the vector whose numbers begin at number k
---   withVec xs k v   the list with the numbers of v from number k on
 use Prim.Native.Nat.{ℕ, _+_}
 use mathlib.Core.List.{List}
-use lib.ListN.{getD, set}
+use lib.ListN.{getD}
 use lib.IntN.{ℤ, pos}
 use Rattle.vector.specs.declared.Vec3.{Vec3}
 use Rattle.vector.specs.Vectors.{vec}
 
 abbrev pub vecIn : List ℤ → ℕ → Vec3
 vecIn xs k = vec (getD xs k (pos 0)) (getD xs (k + 1) (pos 0)) (getD xs (k + 2) (pos 0))
-
-unfoldable pub withVec : List ℤ → ℕ → Vec3 → List ℤ
-withVec xs k v = set (set (set xs k (v .x)) (k + 1) (v .y)) (k + 2) (v .z)

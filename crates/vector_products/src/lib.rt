@@ -10,7 +10,9 @@ ghost use Rattle.vector.specs.Numbers.{K, between};
 ghost use Rattle.vector.proofs.Sizes.{AtMost, Small};
 ghost use Rattle.vector.specs.Vectors as rule;
 ghost use lib.ListN.{length};
-ghost use Rattle.vector_products.specs.Stored.{vecIn, withVec};
+ghost use Rattle.vector_products.specs.Stored.{vecIn};
+ghost use Rattle.answer.specs.Lent.{put};
+ghost use Rattle.vector.specs.Vectors.{three};
 
 // a + b
 pub fn sum(a: Vec3, b: Vec3) -> Vec3
@@ -117,7 +119,7 @@ pub fn vec_in(xs: &[i64], k: usize) -> Vec3
 // Stores the numbers of v from number k on.
 pub fn store(xs: &mut [i64], k: usize, v: Vec3)
     requires { ⌜ k + 3 ≤ length (now xs) ⌝ }
-    ensures { λ _. ⌜ now (xs .exit) ≡ withVec (now (xs .entry)) k v ⌝ }
+    ensures { λ _. ⌜ now (xs .exit) ≡ put k (three v) (now (xs .entry)) ⌝ }
 {
     let x = v.x;
     let y = v.y;

@@ -6,22 +6,22 @@ use mir.Syntax.{w64}
 use mir.Val.{toZ, ofZ}
 use Rattle.algebra.proofs.Sized.{stored-same}
 use Rattle.algebra.proofs.Cells.{all-cells}
-use Rattle.vector_products.specs.Stored.{withVec}
+use Rattle.answer.specs.Lent.{put}
+use Rattle.vector.specs.Vectors.{three}
 use Rattle.classify_places.specs.Near.{placeIn}
 use Rattle.classify_places.proofs.keep.Statement.{statement}
 use Rattle.classify_places.proofs.keep.Tie as tie
 
 returns : tie.Need-returns
-unfolding withVec
 returns c =
     let s = c .before .before .before .before .before in
     let r = s .args .r in
     let ps = s .args .near .now in
     let e = stored-same (r .reach) (c .before .before .before .struct-told .given .1 .0 .1) in
     let m = stored-same (r .margin) (c .before .before .struct-told2 .given .1 .1 .0 .1) in
-    let l : set (set (c .store .last .0) 3 (toZ w64 (ofZ w64 (r .reach)))) 4 (toZ w64 (ofZ w64 (r .margin))) ≡ set (set (withVec ps 0 (r .b)) 3 (r .reach)) 4 (r .margin) =
+    let l : set (set (c .store .last .0) 3 (toZ w64 (ofZ w64 (r .reach)))) 4 (toZ w64 (ofZ w64 (r .margin))) ≡ set (set (put 0 (three (r .b)) ps) 3 (r .reach)) 4 (r .margin) =
     λ i. set (set (c .store .ensures i) 3 (e i)) 4 (m i) in
-    ap placeIn l ∙ all-cells 5 (λ ps. placeIn (set (set (withVec ps 0 (r .b)) 3 (r .reach)) 4 (r .margin)) ≡ r) (λ a b c d e. refl) ps (search needs)
+    ap placeIn l ∙ all-cells 5 (λ ps. placeIn (set (set (put 0 (three (r .b)) ps) 3 (r .reach)) 4 (r .margin)) ≡ r) (λ a b c d e. refl) ps (search needs)
 
 pub keep-spec : {M : Type 1} → statement M
 keep-spec = tie.close (tie.spec (λ c κs. search needs) (λ c. search needs) (λ c. search needs) returns)

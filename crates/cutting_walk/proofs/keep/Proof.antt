@@ -6,7 +6,9 @@ use lib.IntN.{ℤ}
 use borrow.Author.Needs.{needs}
 use Rattle.algebra.proofs.Cells.{all-cells}
 use Rattle.vector.specs.declared.Vec3.{Vec3}
-use Rattle.vector_products.specs.Stored.{vecIn, withVec}
+use Rattle.answer.specs.Lent.{put}
+use Rattle.vector.specs.Vectors.{three}
+use Rattle.vector_products.specs.Stored.{vecIn}
 use Rattle.mesh.specs.declared.Trixel.{Trixel}
 use Rattle.cutting_walk.specs.Kept.{trixelIn}
 use Rattle.cutting_walk.proofs.keep.Statement.{statement}
@@ -14,13 +16,12 @@ use Rattle.cutting_walk.proofs.keep.Tie as tie
 
 -- a list with the vectors of the trixel, and one more
 abbrev filled : Trixel → Vec3 → List ℤ → List ℤ
-filled t r xs = withVec (withVec (withVec (withVec (withVec (withVec (withVec xs 0 (t .v0)) 3 (t .v1)) 6 (t .v2)) 9 (t .p0)) 12 (t .p1)) 15 (t .p2)) 18 r
+filled t r xs = put 18 (three r) (put 15 (three (t .p2)) (put 12 (three (t .p1)) (put 9 (three (t .p0)) (put 6 (three (t .v2)) (put 3 (three (t .v1)) (put 0 (three (t .v0)) xs))))))
 
 abbrev Holds : Trixel → Vec3 → List ℤ → Type 0
 Holds t r xs = (trixelIn xs ≡ t) × (vecIn xs 18 ≡ r)
 
 holds : (t : Trixel) (r : Vec3) (xs : List ℤ) → length xs ≡ 21 → Holds t r (filled t r xs)
-unfolding withVec
 holds t r xs long = all-cells 21 (λ xs. Holds t r (filled t r xs)) (λ a b c d e f g h i j k l m n o p q r s t u. (refl, refl)) xs long
 
 returns : tie.Need-returns
@@ -35,7 +36,7 @@ returns c =
     let t = s .args .t in
     let r = s .args .r in
     let l : c .store7 .last .0 ≡ filled t r (s .args .xs .now) =
-    c .store7 .ensures ∙ ap (λ xs. withVec xs 18 r) (s6 .store6 .ensures ∙ ap (λ xs. withVec xs 15 (t .p2)) (s5 .store5 .ensures ∙ ap (λ xs. withVec xs 12 (t .p1)) (s4 .store4 .ensures ∙ ap (λ xs. withVec xs 9 (t .p0)) (s3 .store3 .ensures ∙ ap (λ xs. withVec xs 6 (t .v2)) (s2 .store2 .ensures ∙ ap (λ xs. withVec xs 3 (t .v1)) (s1 .store .ensures)))))) in
+    c .store7 .ensures ∙ ap (λ xs. put 18 (three r) xs) (s6 .store6 .ensures ∙ ap (λ xs. put 15 (three (t .p2)) xs) (s5 .store5 .ensures ∙ ap (λ xs. put 12 (three (t .p1)) xs) (s4 .store4 .ensures ∙ ap (λ xs. put 9 (three (t .p0)) xs) (s3 .store3 .ensures ∙ ap (λ xs. put 6 (three (t .v2)) xs) (s2 .store2 .ensures ∙ ap (λ xs. put 3 (three (t .v1)) xs) (s1 .store .ensures)))))) in
     subst (Holds t r) (sym l) (holds t r (s .args .xs .now) (search needs))
 
 pub keep-spec : {M : Type 1} → statement M

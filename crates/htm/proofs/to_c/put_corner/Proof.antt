@@ -1,11 +1,10 @@
 -- `htm::to_c::put_corner` stores three numbers, each of which fits 32 bits. Assumes nothing.
-use Prim.Native.Nat.{suc, _+_}
+use Prim.Native.Nat.{_+_}
 use native.Mathlib.Omega.{arith}
-use mathlib.Core.Path.{_≡_, _∙_}
-use mathlib.Core.List.{[], _∷_, append-assoc}
-use lib.ListN.{set, take, drop, length-set}
-use lib.Seq.{sets-eq}
+use mathlib.Core.Path.{_∙_}
+use lib.ListN.{set, length-set}
 use denote.Ref.{now}
+use Rattle.vector_products.proofs.StoreLaws.{three-stored}
 use Rattle.region_contents.proofs.RowLaws.{narrow-fits, narrow-same}
 use Rattle.htm.proofs.to_c.put_corner.Statement.{statement}
 use Rattle.htm.proofs.to_c.put_corner.Tie as tie
@@ -17,11 +16,7 @@ stored c =
     let xs = now (s .args .out) in
     let at = s .args .at in
     let n = s .pre .1 in
-    let e1 : at + 1 ≡ suc at = omega arith in
-    let e2 : at + 2 ≡ suc (suc at) = omega arith in
-    (λ i. set (set (set xs at (narrow-same (n .x) i)) (e1 i) (narrow-same (n .y) i)) (e2 i) (narrow-same (n .z) i))
-    ∙ sets-eq (v .x ∷ v .y ∷ v .z ∷ []) xs at (s .pre .0)
-    ∙ append-assoc (take at xs) (v .x ∷ v .y ∷ v .z ∷ []) (drop (at + 3) xs)
+    (λ i. set (set (set xs at (narrow-same (n .x) i)) (at + 1) (narrow-same (n .y) i)) (at + 2) (narrow-same (n .z) i)) ∙ three-stored xs at (v .x) (v .y) (v .z) (s .pre .0)
 
 pub put-corner-spec : {M : Type 1} → statement M
 put-corner-spec =

@@ -5,7 +5,7 @@ use mathlib.Core.Path.{refl}
 use mathlib.Core.List.{_++_}
 use denote.Ref.{now}
 use Rattle.answer.proofs.PutLaws.{put-next}
-use Rattle.htm.specs.CalledFromC.{cornerList}
+use Rattle.vector.specs.Vectors.{three}
 use Rattle.htm.proofs.to_c.put_corners.Statement.{statement}
 use Rattle.htm.proofs.to_c.put_corners.Tie as tie
 
@@ -22,5 +22,5 @@ put-corners-spec =
     let xs = now (s .args .out) in
     let k = s .args .c in
     let one = c .before .before .before .before .before .before .before .put-corner .ensures in
-    let two = put-next 0 (cornerList (k .v0)) (cornerList (k .v1)) xs one (c .before .before .before .before .put-corner2 .ensures) refl (omega arith) in
-    put-next 0 (cornerList (k .v0) ++ cornerList (k .v1)) (cornerList (k .v2)) xs two (c .before .put-corner3 .ensures) refl (omega arith)))
+    let two = put-next 0 (three (k .v0)) (three (k .v1)) xs one (c .before .before .before .before .put-corner2 .ensures) refl (omega arith) in
+    put-next 0 (three (k .v0) ++ three (k .v1)) (three (k .v2)) xs two (c .before .put-corner3 .ensures) refl (omega arith)))
