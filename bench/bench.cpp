@@ -55,10 +55,10 @@ static Bytes cap(double degrees, unsigned budget, unsigned depth = 12)
     begin(f, depth, budget); convex(f); halfspace(f, MIDDLE, cos(degrees * PI / 180)); end(f);
     return f;
 }
-static Bytes one_polygon(double degrees, int sides, unsigned budget)
+static Bytes one_polygon(double degrees, int sides, unsigned budget, unsigned depth = 12)
 {
     Bytes f;
-    begin(f, 12, budget); polygon(f, MIDDLE, degrees, sides); end(f);
+    begin(f, depth, budget); polygon(f, MIDDLE, degrees, sides); end(f);
     return f;
 }
 // Polygons all over the sky, along a spiral.
@@ -132,7 +132,7 @@ template <class Ours, class Literal> static Times best(Ours ours, Literal litera
 
 static bool print(const char *name, size_t count, Times t, bool same)
 {
-    printf("%-34s %8zu %9.1f %8.0f %10.1f %8.0f %6.2f%s\n", name, count, t.ours, t.ours * 1000 / count, t.literal, t.literal * 1000 / count,
+    printf("%-34s %8zu %9.2f %8.0f %10.2f %8.0f %6.2f%s\n", name, count, t.ours, t.ours * 1000 / count, t.literal, t.literal * 1000 / count,
            t.ours / t.literal, same ? "" : "  DIFFERS");
     return same;
 }
@@ -174,9 +174,21 @@ static bool cover_row(const std::string &name, const Bytes &file, int times = 1,
     return print(name.c_str(), cover.seen, t, same);
 }
 
-int main()
+// Covers of few trixels: what a call costs beside the trixels shows in them.
+static bool small_rows()
 {
-    printf("%-34s %8s %9s %8s %10s %8s %6s\n", "covers, and lookups", "trixels", "ours us", "ns each", "literal us", "ns each", "ratio");
+    bool same = true;
+    for (unsigned depth : {1u, 2u, 3u, 4u, 5u, 8u}) {
+        std::string end = ", depth " + std::to_string(depth);
+        int times = depth < 8 ? 1000 : 100;
+        for (int degrees : {5, 30}) same &= cover_row("cap of " + std::to_string(degrees) + " degrees" + end, cap(degrees, 64, depth), times);
+        same &= cover_row("polygon of 4 sides" + end, one_polygon(5, 4, 64, depth), times);
+    }
+    return same;
+}
+
+static bool large_rows()
+{
     bool same = lookup_row(200000, 12);
     for (unsigned budget : {64u, 256u, 2048u}) {
         std::string end = ", budget " + std::to_string(budget);
@@ -185,10 +197,22 @@ int main()
     }
     for (int sides : {10, 30, 100}) same &= cover_row(std::to_string(sides) + " halfspaces in one convex", one_polygon(5, sides, 64));
     same &= cover_row("512 halfspaces in 64 convexes", polygons(64, 1, 8, 64));
-    for (unsigned depth : {2u, 5u, 8u})
-        for (int degrees : {5, 30}) same &= cover_row("cap of " + std::to_string(degrees) + " degrees, depth " + std::to_string(depth), cap(degrees, 64, depth), 100);
-    same &= cover_row("64 bands between meridians", bands(64, 64), 1, 1);
-    same &= cover_row("512 hemispheres, nearly equal", hemispheres(512, 64), 1, 1);
+    return same;
+}
+
+static bool worst_rows()
+{
+    bool same = cover_row("64 bands between meridians", bands(64, 64), 1, 1);
+    return cover_row("512 hemispheres, nearly equal", hemispheres(512, 64), 1, 1) && same;
+}
+
+// With an argument the covers of few trixels only.
+int main(int argc, char **)
+{
+    printf("%-34s %8s %9s %8s %10s %8s %6s\n", "covers, and lookups", "trixels", "ours us", "ns each", "literal us", "ns each", "ratio");
+    bool all = argc < 2, same = !all || large_rows();
+    same &= small_rows();
+    if (all) same &= worst_rows();
     printf("%s\n", same ? "all answers of both are equal" : "NOT EQUAL");
     return !same;
 }

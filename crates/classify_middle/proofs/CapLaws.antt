@@ -33,10 +33,11 @@ use Rattle.classify_measures.specs.declared.TrixelRays.{TrixelRays}
 use Rattle.classify_middle.specs.declared.BoundingCap.{BoundingCap}
 use Rattle.classify.specs.Shape.{square, positive, ray0, ray1, ray2, eOf, fOf, DOf, ahead, reachesRay, reaches, bOf, EOf}
 use Rattle.classify_measures.specs.Measures.{SoundHalfspace, RaysOf}
-use Rattle.classify_middle.specs.Middle.{IsBoundingCap, greatestReach, Bounded, capAhead, capBehind}
+use Rattle.classify_reach.specs.Reach.{greatestReach, Bounded}
+use Rattle.classify_middle.specs.Middle.{IsBoundingCap, capAhead, capBehind}
 use Rattle.classify.proofs.WithinApart.{E-reaches}
 use Rattle.classify_rays.proofs.RayLaws.{own-rays}
-use Rattle.classify_middle.proofs.ReachLaws.{reach-is-E}
+use Rattle.classify_reach.proofs.ReachLaws.{reach-is-E}
 
 -- ---- what is left of v·v beside e²
 

@@ -2,19 +2,18 @@
 // what is kept stands in specs/Middle.
 use classify_measures::Ray;
 use classify_measures::TrixelRays;
-use limits::UNSIGNED_K as K;
 use mesh::Trixel;
 use vector::Vec3;
 ghost use mathlib.Core.Path.{_≡_};
 ghost use Prim.Native.Nat.{_-_, _*_, _^_, _≤_};
 ghost use Rattle.algebra.proofs.Sizes.{Upto};
-ghost use Rattle.vector.specs.Numbers.{Kℕ};
 ghost use Rattle.vector.proofs.Sizes.{AtMost, Small};
 ghost use Rattle.vector.specs.Vectors as vectors;
 ghost use Rattle.mesh_trixels.specs.Corners.{SmallTrixel};
 ghost use Rattle.classify.specs.Shape.{bOf};
 ghost use Rattle.classify_measures.specs.Measures.{RaysOf};
-ghost use Rattle.classify_middle.specs.Middle.{rootAbove, clearanceOf, IsBoundingCap, reachAll, greatestReach, Bounded, Spanned, capAhead, capBehind};
+ghost use Rattle.classify_reach.specs.Reach.{greatestReach, Bounded};
+ghost use Rattle.classify_middle.specs.Middle.{rootAbove, clearanceOf, IsBoundingCap, capAhead, capBehind};
 
 const NEVER: i64 = 4611686018427387904;
 
@@ -26,12 +25,6 @@ pub struct BoundingCap {
     pub rest: i64,
     pub clearance: i64,
     pub ahead: bool,
-}
-
-// Where E lies: `low` is reached, and no number from `high` up to K is.
-pub struct Span {
-    pub low: u64,
-    pub high: u64,
 }
 
 // b = Unit(v0 + v1 + v2)
@@ -55,70 +48,6 @@ fn along(b: Vec3, y: Ray) -> i64
 {
     let r = y.r;
     vector_products::dot(b, r)
-}
-
-// Whether x² ≥ n² (r·r) for each ray r of s and its x.
-fn reaches_all(x0: u64, x1: u64, x2: u64, s: TrixelRays, n: u64) -> bool
-    requires { ⌜ Bounded x0 x1 x2 s ⌝ }
-    requires { ⌜ n ≤ Kℕ ⌝ }
-    ensures { λ t. ⌜ t ≡ reachAll x0 x1 x2 s n ⌝ }
-{
-    let r0 = s.r0;
-    let r1 = s.r1;
-    let r2 = s.r2;
-    if !classify_rays::reaches(x0, r0, n) {
-        return false;
-    }
-    if !classify_rays::reaches(x1, r1, n) {
-        return false;
-    }
-    classify_rays::reaches(x2, r2, n)
-}
-
-// A span of E, by steps down from K that double: E is near K where the trixel is small.
-fn galloped(x0: u64, x1: u64, x2: u64, s: TrixelRays) -> Span
-    requires { ⌜ Bounded x0 x1 x2 s ⌝ }
-    ensures { λ r. ⌜ Spanned x0 x1 x2 s (r .low) (r .high) ⌝ }
-{
-    let mut high = K + 1;
-    let mut step: u64 = 1;
-    while step < K {
-        let n = K - step;
-        if reaches_all(x0, x1, x2, s, n) {
-            return Span { low: n, high: high };
-        }
-        high = n;
-        step = 2 * step;
-    }
-    Span { low: 0, high: high }
-}
-
-// E by bisection of a span.
-fn bisected(x0: u64, x1: u64, x2: u64, s: TrixelRays, p: Span) -> u64
-    requires { ⌜ Bounded x0 x1 x2 s ⌝ }
-    requires { ⌜ Spanned x0 x1 x2 s (p .low) (p .high) ⌝ }
-    ensures { λ r. ⌜ r ≡ greatestReach x0 x1 x2 s ⌝ }
-{
-    let mut low = p.low;
-    let mut high = p.high;
-    while low + 1 < high {
-        let middle = (low + high) / 2;
-        if reaches_all(x0, x1, x2, s, middle) {
-            low = middle;
-        } else {
-            high = middle;
-        }
-    }
-    low
-}
-
-// E, where each x is b·r for its ray r, and positive.
-fn greatest_reach(x0: u64, x1: u64, x2: u64, s: TrixelRays) -> u64
-    requires { ⌜ Bounded x0 x1 x2 s ⌝ }
-    ensures { λ r. ⌜ r ≡ greatestReach x0 x1 x2 s ⌝ }
-    ensures { λ r. ⌜ r ≤ Kℕ ⌝ }
-{
-    bisected(x0, x1, x2, s, galloped(x0, x1, x2, s))
 }
 
 // A number whose square is not below s, for s up to 2^42: the first of 256, 512, 1024 and so on, or 2^21.
@@ -170,7 +99,7 @@ fn cap_ahead(b: Vec3, x0: u64, x1: u64, x2: u64, s: TrixelRays) -> BoundingCap
     requires { ⌜ Bounded x0 x1 x2 s ⌝ }
     ensures { λ r. ⌜ r ≡ capAhead b (greatestReach x0 x1 x2 s) ⌝ }
 {
-    let n = greatest_reach(x0, x1, x2, s);
+    let n = classify_reach::greatest_reach(x0, x1, x2, s);
     let e = n as i64;
     let rest = vector_products::dot(b, b) - e * e;
     BoundingCap {

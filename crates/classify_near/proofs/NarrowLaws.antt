@@ -1,13 +1,14 @@
 -- What is kept of a region beside a place, convex by convex: one that is outside for every close trixel is left out, of the others the open halfspaces
 -- are kept. Assumes nothing.
-use Prim.Native.Nat.{ℕ, suc, _+_, _*_, _≤_, _<_}
+use Prim.Native.Nat.{ℕ, suc, _+_, _-_, _*_, _≤_, _<_}
 use native.Mathlib.Omega.{arith}
-use mathlib.Core.Path.{_≡_, refl, sym, ap, subst, _∙_}
+use mathlib.Core.Path.{_≡_, refl, sym, ap, subst, subst₂, _∙_}
 use mathlib.Core.Bool.{true}
-use mathlib.Core.List.{List, [], _∷_, _++_, append-assoc}
-use lib.ListN.{length, getD, take, drop, set, length-set, length-append, take-append-drop}
-use lib.Seq.{take-at, take-append-add, length-take-le, take-suc-set}
+use mathlib.Core.List.{List, [], _∷_, _++_, append-assoc, append-nil}
+use lib.ListN.{length, getD, take, drop, set, length-set, length-append, length-drop, take-append-drop}
+use lib.Seq.{take-at, drop-at, drop-drop, drop-length, take-append-add, length-take-le, take-suc-set, set-split, getD-set-same}
 use lib.IntN.{ℤ}
+use borrow.Rule.Slice.PartMut.{postOf, putMid}
 use Rattle.algebra.specs.Lists.{every}
 use Rattle.algebra.proofs.Tests.{and-left, and-right, and-both}
 use Rattle.answer.specs.Lent.{put}
@@ -25,10 +26,10 @@ use Rattle.classify.specs.Classes.{convexClass, regionClass}
 use Rattle.classify.specs.Shape.{positive, volume}
 use Rattle.classify_middle.specs.Middle.{IsBoundingCap}
 use Rattle.classify_places.specs.Near.{Placed, placeIn, closeTo, Close}
-use Rattle.classify_region.specs.PreparedLists.{convexSevens, sevens, endsFrom, Prepared, Classed, join}
+use Rattle.classify_region.specs.PreparedLists.{convexSevens, sevens, endsFrom, Prepared, countIn, Ready, Classed, join}
 use Rattle.classify_region.proofs.ScanLaws.{join-assoc, join-outside, region-cons, length-sevens, no-total, no-region, ConvexNext, region-start, convex-next, region-end}
 use Rattle.classify_near.specs.declared.Opened.{Opened}
-use Rattle.classify_near.specs.Narrow.{Alike, Narrowed, Beside, Stores, OpenedOf, SomeConvex, OpenedConvex, Narrowing}
+use Rattle.classify_near.specs.Narrow.{Alike, Narrowed, Beside, BesideIn, ByOpen, openCount, Stores, OpenedOf, SomeConvex, OpenedConvex, Narrowing}
 use Rattle.classify_near.proofs.OpenLaws.{length-snoc}
 
 -- ---- one more at the end of a region
@@ -232,13 +233,66 @@ pub by-open : {xs : List ℤ} {es : List ℕ} {n : ℕ} {ys : List ℤ} {ms : Li
     → IsBoundingCap t m → positive (volume t) ≡ true → closeTo r m ≡ true → {c : Class} → Classed t ys ms w c → Classed t xs es n c
 by-open {t = t} {m = m} k b v e f g p = let h = k g p in f (h .0) (h .1) ∙ sym (h .2 t (record { cap = m; bounds = b; solid = v; close = e }))
 
+pub by-open-in : {xs : List ℤ} {es : List ℕ} {ys : List ℤ} {ms : List ℕ} {t : Trixel} {m : BoundingCap} {c : Class} → BesideIn xs es ys ms → ByOpen t m ys ms
+    → IsBoundingCap t m → Classed t ys ms (openCount ms) c → Classed t xs es (countIn es) c
+by-open-in k o b f = by-open (k .narrowed (o .some)) b (o .solid) (o .close) f
+
+-- the region of the open halfspaces
+pub open-ready : {xs : List ℤ} {es : List ℕ} {ys : List ℤ} {ms : List ℕ} {t : Trixel} {m : BoundingCap} → BesideIn xs es ys ms → ByOpen t m ys ms
+    → Ready xs es (countIn es) → Ready ys ms (openCount ms)
+open-ready k o r = let h = k .narrowed (o .some) (r .0) (r .1) in (h .0, h .1)
+
 -- ---- what goes with a trixel
 
-module _ {xs : List ℤ} {es : List ℕ} {n : ℕ} {ys : List ℤ} {ms : List ℕ} {ps : List ℤ} where
-  -- a place that was stored, and what was found beside it
-  pub beside : {w : ℕ} {r : Near} → Placed r → placeIn ps ≡ r → (0 < w → Narrowed xs es n ys ms w r) → Beside xs es n ys ms w ps
-  beside {w} p e f = record { placed = subst Placed (sym e) p; narrowed = λ h. subst (Narrowed xs es n ys ms w) (sym e) (f h) }
+-- the count as it was read
+module _ {xs : List ℤ} {es : List ℕ} {n m : ℕ} (e : n ≡ m) where
+  pub ready-count : Ready xs es m → Ready xs es n
+  ready-count h = subst (λ n. Ready xs es n) (sym e) h
 
-  -- nothing is known
-  pub beside-none : Placed (placeIn ps) → Beside xs es n ys ms 0 ps
-  beside-none p = record { placed = p; narrowed = λ h. absurd (omega arith) }
+  pub prepared-count : {g : Region} → Prepared g xs es m → Prepared g xs es n
+  prepared-count {g} h = subst (λ n. Prepared g xs es n) (sym e) h
+
+  pub narrowed-count : {ys : List ℤ} {ms : List ℕ} {w : ℕ} {r : Near} → Narrowed xs es n ys ms w r → Narrowed xs es m ys ms w r
+  narrowed-count {ys} {ms} {w} {r} h = subst (λ n. Narrowed xs es n ys ms w r) e h
+
+-- a part of a list that was lent from number a on, and has come back
+pub part-back : (a : ℕ) (xs ys : List ℤ) → a ≤ length xs → drop a (putMid a (length xs - a) xs ys) ≡ ys
+part-back a xs ys h =
+    let all : a + (length xs - a) ≡ length xs = omega arith in
+    let none : postOf a (length xs - a) xs ≡ [] = drop-drop (length xs - a) a xs ∙ ap (λ n. drop n xs) all ∙ drop-length xs in
+    drop-at (take a xs) _ a (length-take-le a xs h) ∙ ap (λ l. ys ++ l) none ∙ append-nil ys
+
+-- lists with more behind them
+prepared-longer : {h : Region} {ys : List ℤ} {ms : List ℕ} {w : ℕ} (a : List ℤ) (b : List ℕ) → Prepared h ys ms w → Prepared h (ys ++ a) (ms ++ b) w
+prepared-longer {h} a b p = record {
+  count = p .count;
+  filled = p .filled;
+  good = p .good;
+  more = p .more ++ a;
+  halves = ap (λ l. l ++ a) (p .halves) ∙ append-assoc (sevens h) (p .more) a;
+  further = p .further ++ b;
+  ends = ap (λ l. l ++ b) (p .ends) ∙ append-assoc (endsFrom 0 h) (p .further) b;
+}
+
+-- a place that stands behind, and what was found beside it, with the count behind it
+pub beside-behind : {xs : List ℤ} {es : List ℕ} {n : ℕ} {r : Near} (ys front : List ℤ) (ms marks : List ℕ) (w : ℕ) → Placed r → placeIn (drop 224 ys) ≡ r
+    → length ys ≡ 229 → length ms ≡ 33 → length front ≡ length (take 224 ys) → length marks ≡ length (take 32 ms) → (0 < w → Narrowed xs es n front marks w r)
+    → Beside xs es n (front ++ drop 224 ys) (set (marks ++ drop 32 ms) 32 w) (openCount (set (marks ++ drop 32 ms) 32 w)) (drop 224 (front ++ drop 224 ys))
+beside-behind {xs} {es} {n} {r} ys front ms marks w p e ly l kf km f =
+    let lf : length front ≡ 224 = kf ∙ length-take-le 224 ys (omega arith) in
+    let lm : length marks ≡ 32 = km ∙ length-take-le 32 ms (omega arith) in
+    let all = marks ++ drop 32 ms in
+    let long : 32 < length all = omega (arith, length-append marks (drop 32 ms), length-drop 32 ms) in
+    let there : placeIn (drop 224 (front ++ drop 224 ys)) ≡ r = ap placeIn (drop-at front (drop 224 ys) 224 lf) ∙ e in
+    let kept : set all 32 w ≡ marks ++ w ∷ drop 33 all = set-split all 32 w long ∙ ap (λ m. m ++ w ∷ drop 33 all) (take-at marks (drop 32 ms) 32 lm) in
+    let count : openCount (set all 32 w) ≡ w = getD-set-same all 32 w 0 long in
+    record {
+      placed = subst Placed (sym there) p;
+      narrowed = λ h g q.
+          let k = f (subst (λ v. 0 < v) count h) g q in
+          (k .0, subst₂ (λ m v. Prepared (k .0) (front ++ drop 224 ys) m v) (sym kept) (sym count) (prepared-longer (drop 224 ys) (w ∷ drop 33 all) (k .1)), subst (λ z. Alike z g (k .0)) (sym there) (k .2));
+    }
+
+-- nothing is known
+pub beside-none : {xs : List ℤ} {es : List ℕ} {n : ℕ} {ys : List ℤ} {ms : List ℕ} {ps : List ℤ} → Placed (placeIn ps) → Beside xs es n ys ms 0 ps
+beside-none p = record { placed = p; narrowed = λ h. absurd (omega arith) }

@@ -3,6 +3,8 @@
 --   Alike r g h                the regions g and h have the same class for every trixel that is close to r
 --   Narrowed xs es n ys ms w r   for every region that was prepared to xs and es the lists ys and ms have one of w halfspaces that is alike
 --   Beside xs es n ys ms w ps  ps has a place, and where w is not 0 the lists ys and ms have the w halfspaces that are open beside it
+--   openCount ms, BesideIn ..  how many they are, behind the ends of 32 convexes; the same where the place stands behind the numbers of 32 halfspaces
+--   ByOpen t m ys ms           the class of t is that by the open halfspaces
 --   Stores w u ys ys′          the halfspaces of u were stored from number w on; 32 are the most
 --   OpenedOf r v w ys ys′ o    what was found of a convex: it is outside, or the open halfspaces were stored, or they are too many
 --   SomeConvex, OpenedConvex   of some convex that stands there; of every one
@@ -13,7 +15,7 @@ use Prim.Native.Nat.{ℕ, _+_, _*_, _≤_, _<_}
 use mathlib.Core.Path.{_≡_}
 use mathlib.Core.Bool.{true}
 use mathlib.Core.List.{List}
-use lib.ListN.{length, getD, take}
+use lib.ListN.{length, getD, take, drop}
 use lib.IntN.{ℤ}
 use Rattle.answer.specs.Lent.{put}
 use Rattle.mesh.specs.declared.Trixel.{Trixel}
@@ -26,10 +28,12 @@ use Rattle.classify.specs.declared.Class.the-variants.{Outside, Partial, Full}
 use Rattle.classify_measures.specs.declared.PreparedHalfspace.{PreparedHalfspace}
 use Rattle.classify_places.specs.declared.Near.{Near}
 use Rattle.classify.specs.Classes.{convexClass, regionClass}
-use Rattle.classify_places.specs.Near.{Placed, placeIn, Close}
+use Rattle.classify_middle.specs.declared.BoundingCap.{BoundingCap}
+use Rattle.classify.specs.Shape.{positive, volume}
+use Rattle.classify_places.specs.Near.{Placed, placeIn, closeTo, Close}
 use Rattle.classify_near.specs.declared.Kept.{Kept}
 use Rattle.classify_near.specs.declared.Opened.{Opened}
-use Rattle.classify_region.specs.PreparedLists.{seven, convexSevens, sevens, endsFrom, Prepared, ConvexAt, RegionAt, join}
+use Rattle.classify_region.specs.PreparedLists.{seven, convexSevens, sevens, endsFrom, Prepared, countIn, ConvexAt, RegionAt, join}
 
 -- ---- what is left of a region
 
@@ -43,6 +47,18 @@ Narrowed xs es n ys ms w r = (g : Region) → Prepared g xs es n → (h : Region
 pub record Beside (xs : List ℤ) (es : List ℕ) (n : ℕ) (ys : List ℤ) (ms : List ℕ) (w : ℕ) (ps : List ℤ) : Type 0 where
   pub placed : Placed (placeIn ps)
   pub narrowed : 0 < w → Narrowed xs es n ys ms w (placeIn ps)
+
+abbrev pub openCount : List ℕ → ℕ
+openCount ms = getD ms 32 0
+
+abbrev pub BesideIn : List ℤ → List ℕ → List ℤ → List ℕ → Type 0
+BesideIn xs es ys ms = Beside xs es (countIn es) ys ms (openCount ms) (drop 224 ys)
+
+-- there are open halfspaces, and t, with the bounding cap m, is close to their place
+pub record ByOpen (t : Trixel) (m : BoundingCap) (ys : List ℤ) (ms : List ℕ) : Type 0 where
+  pub some : 0 < openCount ms
+  pub solid : positive (volume t) ≡ true
+  pub close : closeTo (placeIn (drop 224 ys)) m ≡ true
 
 -- ---- a convex
 
@@ -89,11 +105,11 @@ pub record Narrowing (r : Near) (xs : List ℤ) (es : List ℕ) (n : ℕ) (g : R
   pub wide : 32 ≤ length ms
   pub class : (t : Trixel) → Close r t → join (regionClass kept t) (regionClass left t) ≡ regionClass g t
 
-abbrev pub SomeNarrowing : Near → List ℤ → List ℕ → ℕ → ℕ → ℕ → Kept → List ℤ → List ℕ → Type 0
-SomeNarrowing r xs es n i k s ys ms = (g : Region) × Narrowing r xs es n g i k (s .halves) (s .convexes) ys ms
+abbrev pub SomeNarrowing : Near → List ℤ → List ℕ → ℕ → ℕ → Kept → List ℤ → List ℕ → Type 0
+SomeNarrowing r xs es i k s ys ms = (n : ℕ) × (i < n) × (g : Region) × Narrowing r xs es n g i k (s .halves) (s .convexes) ys ms
 
--- convex number k more: the narrowing goes on behind it, for every region
-abbrev pub NarrowsOn : Near → List ℤ → List ℕ → ℕ → ℕ → ℕ → Kept → List ℤ → List ℕ → Kept → List ℤ → List ℕ → Type 0
-NarrowsOn r xs es n i k s ys ms s′ ys′ ms′ =
-    (g : Region) → Narrowing r xs es n g i k (s .halves) (s .convexes) ys ms → s′ .more ≡ true
+-- convex number k more: the narrowing goes on behind it, for every region that has one more
+abbrev pub NarrowsOn : Near → List ℤ → List ℕ → ℕ → ℕ → Kept → List ℤ → List ℕ → Kept → List ℤ → List ℕ → Type 0
+NarrowsOn r xs es i k s ys ms s′ ys′ ms′ =
+    (n : ℕ) (g : Region) → i < n → Narrowing r xs es n g i k (s .halves) (s .convexes) ys ms → s′ .more ≡ true
     → Narrowing r xs es n g (getD es k 0) (k + 1) (s′ .halves) (s′ .convexes) ys′ ms′

@@ -2,18 +2,26 @@
 use classify::Class;
 use classify_measures::PreparedHalfspace;
 use classify_measures::TrixelRays;
+use classify_middle::BoundingCap;
 use classify_places::Near;
-use limits::CONVEXES;
-use limits::HALFSPACES;
+use classify_region::Ends;
+use classify_region::Halves;
 use mesh::Trixel;
 ghost use mathlib.Core.Path.{_≡_};
+ghost use mathlib.Core.Bool.{true};
 ghost use Prim.Native.Nat.{_+_, _*_, _≤_, _<_};
-ghost use lib.ListN.{length};
+ghost use lib.ListN.{length, drop};
 ghost use Rattle.mesh_trixels.specs.Corners.{SmallTrixel};
 ghost use Rattle.classify_measures.specs.Measures.{RaysOf};
-ghost use Rattle.classify_places.specs.Near.{Placed};
-ghost use Rattle.classify_region.specs.PreparedLists.{Ready, Classed};
-ghost use Rattle.classify_near.specs.Narrow.{Narrowed, Beside, SomeConvex, OpenedConvex, keptCount, keptList, SomeNarrowing, NarrowsOn};
+ghost use Rattle.classify_middle.specs.Middle.{IsBoundingCap};
+ghost use Rattle.classify_places.specs.Near.{Placed, placeIn};
+ghost use Rattle.classify_region.specs.PreparedLists.{countIn, Ready, Classed};
+ghost use Rattle.classify_near.specs.Narrow.{Narrowed, BesideIn, ByOpen, openCount, SomeConvex, OpenedConvex, keptCount, keptList, SomeNarrowing, NarrowsOn};
+
+// Open halfspaces beside a place: the numbers of at most 32, with the place behind them, and the ends of their convexes, with the count behind them.
+pub type OpenHalves = [i64; 229];
+
+pub type OpenEnds = [u64; 33];
 
 // What was found of a convex: it is outside, or so many halfspaces are stored now, or there are too many.
 pub enum Opened {
@@ -82,7 +90,6 @@ fn add_convex(
     r: Near,
     xs: &[i64],
     ends: &[u64],
-    n: usize,
     i: usize,
     k: usize,
     ys: &mut [i64],
@@ -90,9 +97,9 @@ fn add_convex(
     s: Kept,
     most: usize,
 ) -> Kept
-    requires { ⌜ Placed r × (i < n) × (most ≤ 32) ⌝ }
-    requires { ⌜ SomeNarrowing r (now xs) (now ends) n i k s (now ys) (now marks) ⌝ }
-    ensures { λ z. ⌜ NarrowsOn r (now (xs .entry)) (now (ends .entry)) n i k s (now (ys .entry)) (now (marks .entry)) z (now (ys .exit)) (now (marks .exit)) ⌝ }
+    requires { ⌜ Placed r × (most ≤ 32) ⌝ }
+    requires { ⌜ SomeNarrowing r (now xs) (now ends) i k s (now ys) (now marks) ⌝ }
+    ensures { λ z. ⌜ NarrowsOn r (now (xs .entry)) (now (ends .entry)) i k s (now (ys .entry)) (now (marks .entry)) z (now (ys .exit)) (now (marks .exit)) ⌝ }
 {
     let w = s.halves;
     let c = s.convexes;
@@ -148,7 +155,7 @@ fn open_region(
     let mut i: usize = 0;
     let mut k: usize = 0;
     while i < n {
-        s = add_convex(r, xs, ends, n, i, k, ys, marks, s, most);
+        s = add_convex(r, xs, ends, i, k, ys, marks, s, most);
         if !s.more {
             return 0;
         }
@@ -165,58 +172,102 @@ fn most_of(n: usize) -> usize
     if n < 96 { n / 3 } else { 32 }
 }
 
-// The place at the middle of t, in `near`, with the open halfspaces beside it in `ys` and `marks`; how many there are, or 0 where none are known.
+// Stores a place behind the numbers of open halfspaces.
+fn keep_behind(ys: &mut [i64], r: Near)
+    requires { ⌜ length (now ys) ≡ 229 ⌝ }
+    ensures { λ _. ⌜ placeIn (drop 224 (now (ys .exit))) ≡ r ⌝ }
+{
+    classify_places::keep(&mut ys[224..], r);
+}
+
+// The open halfspaces of a region beside r, which stands behind them, and their count, which is 0 where none are known.
+fn open_beside(r: Near, xs: &Halves, ends: &Ends, n: usize, ys: &mut [i64], marks: &mut [u64])
+    requires { ⌜ Placed r × (placeIn (drop 224 (now ys)) ≡ r) × (length (now ys) ≡ 229) × (length (now marks) ≡ 33) × (n ≡ countIn (now ends)) ⌝ }
+    requires { ⌜ Ready (now xs) (now ends) (countIn (now ends)) ⌝ }
+    ensures { λ _. ⌜ BesideIn (now (xs .entry)) (now (ends .entry)) (now (ys .exit)) (now (marks .exit)) ⌝ }
+{
+    let w = open_region(r, xs, ends, n, &mut ys[..224], &mut marks[..32], most_of(n));
+    marks[32] = w as u64;
+}
+
+// The open halfspaces beside the middle of t.
 pub fn narrowed(
     t: Trixel,
     s: TrixelRays,
-    xs: &[i64],
-    ends: &[u64],
-    n: usize,
-    ys: &mut [i64; 224],
-    marks: &mut [u64; 32],
-    near: &mut [i64; 5],
-) -> usize
+    xs: &Halves,
+    ends: &Ends,
+    ys: &mut OpenHalves,
+    marks: &mut OpenEnds,
+)
     requires { ⌜ SmallTrixel t × RaysOf t s ⌝ }
-    requires { ⌜ Ready (now xs) (now ends) n ⌝ }
-    ensures { λ w. ⌜ Beside (now (xs .entry)) (now (ends .entry)) n (now (ys .exit)) (now (marks .exit)) w (now (near .exit)) ⌝ }
+    requires { ⌜ Ready (now xs) (now ends) (countIn (now ends)) ⌝ }
+    ensures { λ _. ⌜ BesideIn (now (xs .entry)) (now (ends .entry)) (now (ys .exit)) (now (marks .exit)) ⌝ }
 {
     let r = classify_places::place_of(
         t,
         classify_middle::cap_of(t, classify_middle::middle_of(t), s),
     );
-    classify_places::keep(near, r);
-    open_region(r, xs, ends, n, ys, marks, most_of(n))
+    keep_behind(ys, r);
+    open_beside(r, xs, ends, classify_region::count(ends), ys, marks);
 }
 
-// The class of a trixel for the region that was prepared to `xs` and `ends`: by the w open halfspaces beside a place where there are some and the trixel
+// How many halfspaces are known to be open.
+pub fn open_count(marks: &OpenEnds) -> usize
+    ensures { λ w. ⌜ w ≡ openCount (now (marks .entry)) ⌝ }
+{
+    marks[32] as usize
+}
+
+// The place that stands behind the numbers of open halfspaces.
+fn place_behind(ys: &[i64]) -> Near
+    requires { ⌜ length (now ys) ≡ 229 ⌝ }
+    ensures { λ r. ⌜ r ≡ placeIn (drop 224 (now (ys .entry))) ⌝ }
+{
+    classify_places::place_in(&ys[224..])
+}
+
+// Whether the class of t is that by the open halfspaces: there are some, and t is close to their place.
+fn by_open(t: Trixel, s: TrixelRays, m: BoundingCap, ys: &OpenHalves, marks: &OpenEnds) -> bool
+    requires { ⌜ RaysOf t s × IsBoundingCap t m ⌝ }
+    requires { ⌜ Placed (placeIn (drop 224 (now ys))) ⌝ }
+    ensures { λ b. ⌜ (b ≡ true → ByOpen t m (now (ys .entry)) (now (marks .entry))) ⌝ }
+{
+    if open_count(marks) == 0 {
+        return false;
+    }
+    if !s.solid {
+        return false;
+    }
+    classify_places::close(place_behind(ys), t, m)
+}
+
+// The class of a trixel for the region that was prepared to `xs` and `ends`: by the open halfspaces beside a place where there are some and the trixel
 // is close.
 pub fn class_near(
     t: Trixel,
     s: TrixelRays,
-    xs: &[i64; 7 * HALFSPACES],
-    ends: &[u64; CONVEXES],
-    n: usize,
-    ys: &[i64; 224],
-    marks: &[u64; 32],
-    w: usize,
-    near: &[i64; 5],
+    xs: &Halves,
+    ends: &Ends,
+    ys: &OpenHalves,
+    marks: &OpenEnds,
 ) -> Class
     requires { ⌜ SmallTrixel t × RaysOf t s ⌝ }
-    requires { ⌜ Ready (now xs) (now ends) n ⌝ }
-    requires { ⌜ Beside (now xs) (now ends) n (now ys) (now marks) w (now near) ⌝ }
-    ensures { λ c. ⌜ Classed t (now (xs .entry)) (now (ends .entry)) n c ⌝ }
+    requires { ⌜ Ready (now xs) (now ends) (countIn (now ends)) ⌝ }
+    requires { ⌜ BesideIn (now xs) (now ends) (now ys) (now marks) ⌝ }
+    ensures { λ c. ⌜ Classed t (now (xs .entry)) (now (ends .entry)) (countIn (now (ends .entry))) c ⌝ }
 {
+    let n = classify_region::count(ends);
     if n == 1 {
         return classify_region::alone(t, s, xs, ends, n);
     }
     let m = classify_middle::cap_of(t, classify_middle::middle_of(t), s);
-    if 0 < w && s.solid && classify_places::close(classify_places::place_in(near), t, m) {
-        return classify_region::scanned(t, s, m, ys, marks, w);
+    if by_open(t, s, m, ys, marks) {
+        return classify_region::scanned(t, s, m, ys, marks, open_count(marks));
     }
     classify_region::scanned(t, s, m, xs, ends, n)
 }
 
-// Whether open halfspaces shall be looked for: there are many, and w, those that are known to be open, are none.
-pub fn wanted(n: usize, w: usize) -> bool {
-    8 < n && w == 0
+// Whether open halfspaces shall be looked for: there are many halfspaces, and none is known to be open.
+pub fn wanted(ends: &Ends, marks: &OpenEnds) -> bool {
+    8 < classify_region::count(ends) && open_count(marks) == 0
 }

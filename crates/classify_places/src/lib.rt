@@ -8,6 +8,7 @@ use vector::Vec3;
 ghost use mathlib.Core.Path.{_≡_};
 ghost use Prim.Native.Nat.{_+_, _*_, _≤_, _^_};
 ghost use Rattle.classify_places.specs.Near.{Placed, placeIn, closeTo, settledBy};
+ghost use lib.ListN.{length};
 ghost use lib.IntN.{natAbs, _-ℤ_};
 ghost use Rattle.algebra.proofs.Sizes.{Upto};
 ghost use Rattle.vector.specs.Numbers.{Kℕ};
@@ -53,7 +54,8 @@ pub fn place_of(t: Trixel, m: BoundingCap) -> Near
 }
 
 // The place of five numbers.
-pub fn place_in(near: &[i64; 5]) -> Near
+pub fn place_in(near: &[i64]) -> Near
+    requires { ⌜ length (now near) ≡ 5 ⌝ }
     ensures { λ r. ⌜ r ≡ placeIn (now (near .entry)) ⌝ }
 {
     Near {
@@ -64,7 +66,8 @@ pub fn place_in(near: &[i64; 5]) -> Near
 }
 
 // Stores the five numbers of a place.
-pub fn keep(near: &mut [i64; 5], r: Near)
+pub fn keep(near: &mut [i64], r: Near)
+    requires { ⌜ length (now near) ≡ 5 ⌝ }
     ensures { λ _. ⌜ placeIn (now (near .exit)) ≡ r ⌝ }
 {
     let b = r.b;

@@ -3,6 +3,7 @@
 --   sevens g                those of all halfspaces of a region, convex after convex
 --   endsFrom n g            where each convex ends: the number of halfspaces before its end, where n are before the first
 --   Prepared g xs es n      the list xs begins with the sevens of the region g, es with its ends; g has n halfspaces, at least one in each convex, and is good
+--   countIn es              the count of halfspaces, which stands behind the ends of 64 convexes
 --   ConvexAt, RegionAt      a convex that stands in the list from a halfspace on; a region that stands in both lists from a convex on
 --   Ready xs es n           some region was prepared to the two lists
 --   Classed t xs es n c     c is the class of t for every region that was
@@ -64,6 +65,9 @@ pub record Prepared (g : Region) (xs : List ℤ) (es : List ℕ) (n : ℕ) : Typ
   pub halves : xs ≡ sevens g ++ more
   pub further : List ℕ
   pub ends : es ≡ endsFrom 0 g ++ further
+
+abbrev pub countIn : List ℕ → ℕ
+countIn es = getD es 64 0
 
 -- the halfspaces of the convex v are those from number i up to number `end`
 pub record ConvexAt (xs : List ℤ) (i end : ℕ) (v : Convex) : Type 0 where

@@ -5,6 +5,8 @@ use classify_measures::PreparedHalfspace;
 use classify_measures::TrixelRays;
 use classify_middle::BoundingCap;
 use classify_rays::Passed;
+use limits::CONVEXES;
+use limits::HALFSPACES;
 use mesh::Trixel;
 use vector::Vec3;
 ghost use mathlib.Core.Path.{_≡_};
@@ -15,7 +17,19 @@ ghost use Rattle.classify.specs.Classes.{isOutside, isFull};
 ghost use Rattle.classify_measures.specs.Measures.{RaysOf};
 ghost use Rattle.classify_middle.specs.Middle.{IsBoundingCap};
 ghost use Rattle.classify_region.specs.PreparedLists as halves;
-ghost use Rattle.classify_region.specs.PreparedLists.{preparedIn, Ready, Classed};
+ghost use Rattle.classify_region.specs.PreparedLists.{preparedIn, countIn, Ready, Classed};
+
+// A prepared region: the numbers of its halfspaces, seven each, and the ends of its convexes, with the count of halfspaces behind them.
+pub type Halves = [i64; 7 * HALFSPACES];
+
+pub type Ends = [u64; CONVEXES + 1];
+
+// How many halfspaces a prepared region has.
+pub fn count(ends: &Ends) -> usize
+    ensures { λ n. ⌜ n ≡ countIn (now (ends .entry)) ⌝ }
+{
+    ends[CONVEXES] as usize
+}
 
 // The prepared halfspace whose numbers begin at number k.
 pub fn prepared_at(xs: &[i64], k: usize) -> PreparedHalfspace

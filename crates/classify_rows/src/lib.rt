@@ -1,10 +1,12 @@
 // From rows to prepared halfspaces: the two lists of classify_region/specs/PreparedLists.
 use classify_measures::PreparedHalfspace;
+use classify_region::Ends;
+use classify_region::Halves;
 use limits::CONVEXES;
 use limits::HALFSPACES;
 ghost use mathlib.Core.Path.{_≡_};
 ghost use Prim.Native.Nat.{_+_, _*_, _≤_, _<_};
-ghost use lib.ListN.{length, getD, drop};
+ghost use lib.ListN.{length, getD, drop, set};
 ghost use lib.IntN.{pos, natAbs};
 ghost use Rattle.answer.specs.Lent.{put};
 ghost use Rattle.region.specs.Rows.{halfspaceAt};
@@ -68,17 +70,13 @@ fn prepare_rows(rows: &[i32], n: usize, xs: &mut [i64], ends: &mut [u64])
     }
 }
 
-// The same, of arrays with room for the rows of every accepted file.
-pub fn prepare(
-    rows: &[i32; 5 * HALFSPACES],
-    n: usize,
-    xs: &mut [i64; 7 * HALFSPACES],
-    ends: &mut [u64; CONVEXES],
-)
+// The same, of arrays with room for the rows of every accepted file, and the count of halfspaces.
+pub fn prepare(rows: &[i32; 5 * HALFSPACES], n: usize, xs: &mut Halves, ends: &mut Ends)
     requires { ⌜ n ≤ 512 ⌝ }
     requires { ⌜ FitRows n (now rows) ⌝ }
     ensures { λ _. ⌜ now (xs .exit) ≡ stored 0 n (now (rows .entry)) (now (xs .entry)) ⌝ }
-    ensures { λ _. ⌜ now (ends .exit) ≡ marked 0 n (now (rows .entry)) (now (ends .entry)) ⌝ }
+    ensures { λ _. ⌜ now (ends .exit) ≡ marked 0 n (now (rows .entry)) (set (now (ends .entry)) 64 n) ⌝ }
 {
+    ends[CONVEXES] = n as u64;
     prepare_rows(rows, n, xs, ends);
 }

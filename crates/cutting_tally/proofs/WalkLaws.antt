@@ -89,6 +89,11 @@ both-assoc a b c =
 both-nothing : (a : Found) → both nothing a ≡ a
 both-nothing a = let n : 0 + a .seen ≡ a .seen = omega arith in λ i. record { accepted = a .accepted; full = a .full; seen = n i }
 
+nothing-more : (a : Found) → both a nothing ≡ a
+nothing-more a =
+    let n : a .seen + 0 ≡ a .seen = omega arith in
+    λ i. record { accepted = append-nil (a .accepted) i; full = append-nil (a .full) i; seen = n i }
+
 -- one after the other, and four together
 four-together : (a v0 v1 v2 v3 : Found) → both (both (both (both a v0) v1) v2) v3 ≡ both a (four v0 v1 v2 v3)
 four-together a v0 v1 v2 v3 = both-assoc (both (both a v0) v1) v2 v3 ∙ both-assoc (both a v0) v1 (both v2 v3) ∙ both-assoc a v0 (both v1 (both v2 v3))
@@ -145,7 +150,7 @@ module _ (b : ℕ) (start : List ℕ) (a : Found) (s : Tally) (out : List ℕ) (
         (writes-push b (outerPass b (a .accepted)) r (take (2 * b) start) (w .front) front′ (s .outer) n (w .outer)
         (record { count = v .count ∙ ap (λ rs. length (outerPush b rs r)) same; list = refl }))
 
-    pub taken-partial : Walked b start (both a (takenPartial r)) (record { outer = n; hint = h; inner = s .inner; seen = s .seen + 1 }) out′
+    pub taken-partial : Walked b start (both a (takenPartial r)) (record { outer = n; hint = h; inner = s .inner; seen = s .seen + 1; budget = s .budget }) out′
     taken-partial = record {
       front = front′;
       back = w .back;
@@ -158,7 +163,7 @@ module _ (b : ℕ) (start : List ℕ) (a : Found) (s : Tally) (out : List ℕ) (
 
     -- and in the inner list behind it
     pub taken-full : (out″ : List ℕ) (p : Pending) → Behind b out′ out″ (innerPush b (stateOf (s .inner) (drop (2 * b) out′)) r) p
-        → Walked b start (both a (takenFull r)) (record { outer = n; hint = h; inner = p; seen = s .seen + 1 }) out″
+        → Walked b start (both a (takenFull r)) (record { outer = n; hint = h; inner = p; seen = s .seen + 1; budget = s .budget }) out″
     taken-full out″ p k =
         let before : take (2 * b) out′ ≡ front′ = ap (take (2 * b)) pushed-list ∙ take-at front′ (w .back) (2 * b) pushed-width in
         let after : drop (2 * b) out′ ≡ w .back = ap (drop (2 * b)) pushed-list ∙ drop-at front′ (w .back) (2 * b) pushed-width in
@@ -177,16 +182,23 @@ module _ (b : ℕ) (start : List ℕ) (a : Found) (s : Tally) (out : List ℕ) (
 -- ---- a trixel that is cut
 
 -- what its four children find, one after the other
-pub four-adds : (b : ℕ) (v0 v1 v2 v3 : Found) {s s0 s1 s2 s3 : Tally} {out out0 out1 out2 out3 : List ℕ}
-    → Adds b v0 s out s0 out0 → Adds b v1 s0 out0 s1 out1 → Adds b v2 s1 out1 s2 out2 → Adds b v3 s2 out2 s3 out3 → Adds b (four v0 v1 v2 v3) s out s3 out3
-four-adds b v0 v1 v2 v3 {s} {s0} {s1} {s2} {s3} {out} {out0} {out1} {out2} {out3} h0 h1 h2 h3 start a w =
-    subst (λ f. Walked b start f s3 out3) (four-together a v0 v1 v2 v3) (h3 start _ (h2 start _ (h1 start _ (h0 start _ w))))
+pub four-adds : (v0 v1 v2 v3 : Found) {s s′ : Tally} {out out′ : List ℕ}
+    → Adds (both (both (both (both nothing v0) v1) v2) v3) s out s′ out′ → Adds (four v0 v1 v2 v3) s out s′ out′
+four-adds v0 v1 v2 v3 {s} {s′} {out} {out′} h =
+    subst (λ f. Adds f s out s′ out′) (four-together nothing v0 v1 v2 v3 ∙ both-nothing (four v0 v1 v2 v3)) h
+
+-- one after the other
+pub none-adds : {s : Tally} {out : List ℕ} → Adds nothing s out s out
+none-adds {s} {out} start a w = subst (λ f. Walked (s .budget) start f s out) (sym (nothing-more a)) w
+
+pub more-adds : (v w : Found) {s s₁ s₂ : Tally} {out out₁ out₂ : List ℕ} → Adds v s out s₁ out₁ → Adds w s₁ out₁ s₂ out₂ → Adds (both v w) s out s₂ out₂
+more-adds v w {s₂ = s₂} {out₂ = out₂} h k start a z = subst (λ f. Walked (s₂ .budget) start f s₂ out₂) (both-assoc a v w) (k start _ (h start _ z))
 
 -- the trixel itself, then what is found in it
-pub cut-adds : (b : ℕ) (f : Found) {s r s′ : Tally} {out out′ : List ℕ} → r ≡ oneMore s → Adds b f r out s′ out′ → Adds b (cutInto f) s out s′ out′
-cut-adds b f {s} {r} {s′} {out} {out′} e h start a w =
-    subst (λ v. Walked b start v s′ out′) (both-assoc a leftOut f)
-    (h start _ (subst (λ q. Walked b start (both a leftOut) q out) (sym e) (left-out b start a s out w)))
+pub cut-adds : (f : Found) {s r s′ : Tally} {out out′ : List ℕ} → r ≡ oneMore s → Adds f r out s′ out′ → Adds (cutInto f) s out s′ out′
+cut-adds f {s} {r} {s′} {out} {out′} e h start a w =
+    subst (λ v. Walked (s′ .budget) start v s′ out′) (both-assoc a leftOut f)
+    (h start _ (subst (λ q. Walked (q .budget) start (both a leftOut) q out) (sym e) (left-out (s .budget) start a s out w)))
 
 -- ---- the beginning and the end
 
@@ -194,7 +206,7 @@ module _ (b : ℕ) (start : List ℕ) (long : 4 * b ≤ length start) where
   wide : length (take (2 * b) start) ≡ 2 * b
   wide = length-take-le (2 * b) start (omega arith)
 
-  pub walk-start : (h : Hint) → Walked b start nothing (record { outer = 0; hint = h; inner = nothingYet; seen = 0 }) start
+  pub walk-start : (h : Hint) → Walked b start nothing (record { outer = 0; hint = h; inner = nothingYet; seen = 0; budget = b }) start
   unfolding outerPass
   walk-start h = record {
     front = take (2 * b) start;

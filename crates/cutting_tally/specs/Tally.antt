@@ -1,16 +1,19 @@
 -- What a cutting has found so far, with its two lists in one pass in the lent list. Document 01, 'The two lists'.
 --   Tally              what was found so far: how many outer ranges are stored and what is known of their gaps, what stands beside the inner list, and
---                      the trixels classified
---   tallyIn xs         the tally of ten numbers; noTally: before the first trixel; withOuter, withInner, oneMore: after a change of one part
+--                      the trixels classified; and the budget, which stays
+--   tallyIn xs         the tally of eleven numbers; noTally: before the first trixel; withOuter, withInner, oneMore: after a change of one part
 --   nothing            before the first trixel
 --   Walked b start a s out   where a was found so far, s and the list `out` have it: the outer list at the front of what `start` had in its first 2 × b
 --                      elements, the inner list at the front of the rest
---   Adds b found ..    whatever was found before, `found` is noted after it
+--   Adds found ..      whatever was found before, `found` is noted after it
+--   Taken found ..     a trixel that was accepted: what a call that takes it gives
 --   Outered ..         the range r was pushed onto the outer list
+--   Countable s        one more can be counted
+--   InnerRoom, Innered   what is needed to push a range onto the inner list, and what is so then; Inside: it is noted
 --   Behind, BehindEnd  the inner list's writer was lent the list from element 2 × b on: the elements before it stay
---   Room b s out       the counts are at most the budget b, the list has room for both lists, and what s knows of the gaps of the outer list and of the
+--   Room s out         the counts are at most the budget, the list has room for both lists, and what s knows of the gaps of the outer list and of the
 --                      sizes of the inner list's stored ranges is so
-use Prim.Native.Nat.{ℕ, _+_, _*_, _≤_}
+use Prim.Native.Nat.{ℕ, _+_, _*_, _^_, _≤_, _<_}
 use mathlib.Core.Path.{_≡_}
 use mathlib.Core.List.{List, [], _++_, foldl}
 use lib.Dec.{ltb}
@@ -21,7 +24,7 @@ use Rattle.ranges_stored.specs.declared.Pending.{Pending}
 use Rattle.ranges.specs.Ranges.{Range, rangesIn}
 use Rattle.ranges.specs.Lists.{gaps}
 use Rattle.ranges.proofs.Pushing.{outerPush, outerPass, Inner, empty, innerPush}
-use Rattle.ranges_stored.specs.Stored.{sizesIn, Writes, hintOf, noHint, Hinted, nothingYet, Keeps}
+use Rattle.ranges_stored.specs.Stored.{sizesIn, Writes, hintOf, noHint, Hinted, nothingYet, stateOf, Keeps}
 use Rattle.cutting.specs.Cover.{Found, both}
 
 pub record Tally : Type 0 where
@@ -29,6 +32,7 @@ pub record Tally : Type 0 where
   pub hint : Hint
   pub inner : Pending
   pub seen : ℕ
+  pub budget : ℕ
 
 abbrev pub tallyIn : List ℕ → Tally
 tallyIn xs = record {
@@ -36,20 +40,21 @@ tallyIn xs = record {
   hint = hintOf (getD xs 1 0) (getD xs 2 0);
   inner = record { n = getD xs 3 0; some = ltb 0 (getD xs 4 0); low = getD xs 5 0; high = getD xs 6 0; hint = hintOf (getD xs 7 0) (getD xs 8 0) };
   seen = getD xs 9 0;
+  budget = getD xs 10 0;
 }
 
-abbrev pub noTally : Tally
-noTally = record { outer = 0; hint = noHint; inner = nothingYet; seen = 0 }
+abbrev pub noTally : ℕ → Tally
+noTally b = record { outer = 0; hint = noHint; inner = nothingYet; seen = 0; budget = b }
 
 abbrev pub withOuter : Pushed → Tally → Tally
-withOuter m s = record { outer = m .n; hint = m .hint; inner = s .inner; seen = s .seen }
+withOuter m s = record { outer = m .n; hint = m .hint; inner = s .inner; seen = s .seen; budget = s .budget }
 
 abbrev pub withInner : Pending → Tally → Tally
-withInner p s = record { outer = s .outer; hint = s .hint; inner = p; seen = s .seen }
+withInner p s = record { outer = s .outer; hint = s .hint; inner = p; seen = s .seen; budget = s .budget }
 
 -- one more is classified
 abbrev pub oneMore : Tally → Tally
-oneMore s = record { outer = s .outer; hint = s .hint; inner = s .inner; seen = s .seen + 1 }
+oneMore s = record { outer = s .outer; hint = s .hint; inner = s .inner; seen = s .seen + 1; budget = s .budget }
 
 abbrev pub nothing : Found
 nothing = record { accepted = []; full = []; seen = 0 }
@@ -67,15 +72,16 @@ pub record Walked (b : ℕ) (start : List ℕ) (a : Found) (s : Tally) (out : Li
   pub seen : s .seen ≡ a .seen
 
 -- what `found` is, is found after whatever was found before
-abbrev pub Adds : ℕ → Found → Tally → List ℕ → Tally → List ℕ → Type 0
-Adds b found s out s′ out′ = (start : List ℕ) (a : Found) → Walked b start a s out → Walked b start (both a found) s′ out′
+abbrev pub Adds : Found → Tally → List ℕ → Tally → List ℕ → Type 0
+Adds found s out s′ out′ = (start : List ℕ) (a : Found) → Walked (s .budget) start a s out → Walked (s′ .budget) start (both a found) s′ out′
 
-pub record Outered (b : ℕ) (r : Range) (s : Tally) (out : List ℕ) (s′ : Tally) (out′ : List ℕ) : Type 0 where
-  pub writes : Writes (outerPush b (rangesIn (s .outer) out) r) out out′ (s′ .outer)
-  pub few : s′ .outer ≤ b
+pub record Outered (r : Range) (s : Tally) (out : List ℕ) (s′ : Tally) (out′ : List ℕ) : Type 0 where
+  pub writes : Writes (outerPush (s .budget) (rangesIn (s .outer) out) r) out out′ (s′ .outer)
+  pub few : s′ .outer ≤ s .budget
   pub hinted : Hinted (s′ .hint) (gaps (rangesIn (s′ .outer) out′))
   pub inner : s′ .inner ≡ s .inner
   pub seen : s′ .seen ≡ s .seen
+  pub budget : s′ .budget ≡ s .budget
 
 pub record Behind (b : ℕ) (before after : List ℕ) (state : Inner) (p : Pending) : Type 0 where
   pub rest : List ℕ
@@ -87,10 +93,37 @@ pub record BehindEnd (b : ℕ) (before after : List ℕ) (rs : List Range) (n : 
   pub list : after ≡ take (2 * b) before ++ rest
   pub writes : Writes rs (drop (2 * b) before) rest n
 
-pub record Room (b : ℕ) (s : Tally) (out : List ℕ) : Type 0 where
-  pub budget : 1 ≤ b
-  pub outer : s .outer ≤ b
-  pub inner : s .inner .n ≤ b
-  pub list : 4 * b ≤ length out
+pub record Room (s : Tally) (out : List ℕ) : Type 0 where
+  pub budget : 1 ≤ s .budget
+  pub outer : s .outer ≤ s .budget
+  pub inner : s .inner .n ≤ s .budget
+  pub list : 4 * s .budget ≤ length out
   pub hinted : Hinted (s .hint) (gaps (rangesIn (s .outer) out))
-  pub innerHinted : Hinted (s .inner .hint) (sizesIn (2 * b) (s .inner .n) out)
+  pub innerHinted : Hinted (s .inner .hint) (sizesIn (2 * s .budget) (s .inner .n) out)
+
+-- one more can be counted
+pub record Countable (s : Tally) : Type 0 where
+  pub few : s .seen < 2 ^ 62
+
+-- what the inner list's writer needs, and what it gives after the range r: p stands beside the list, then q
+pub record InnerRoom (b : ℕ) (p : Pending) (out : List ℕ) : Type 0 where
+  pub budget : 1 ≤ b
+  pub few : p .n ≤ b
+  pub list : 4 * b ≤ length out
+  pub hinted : Hinted (p .hint) (sizesIn (2 * b) (p .n) out)
+
+pub record Innered (b : ℕ) (r : Range) (p : Pending) (out : List ℕ) (q : Pending) (out′ : List ℕ) : Type 0 where
+  pub behind : Behind b out out′ (innerPush b (stateOf p (drop (2 * b) out)) r) q
+  pub few : q .n ≤ b
+  pub hinted : Hinted (q .hint) (sizesIn (2 * b) (q .n) out′)
+
+pub record Inside (r : Range) (s : Tally) (out : List ℕ) (s′ : Tally) (out′ : List ℕ) : Type 0 where
+  pub beside : Pending
+  pub pushed : Innered (s .budget) r (s .inner) out beside out′
+  pub noted : s′ ≡ withInner beside s
+
+pub record Taken (found : Found) (s : Tally) (out : List ℕ) (s′ : Tally) (out′ : List ℕ) : Type 0 where
+  pub adds : Adds found s out s′ out′
+  pub room : Room s′ out′
+  pub seen : s′ .seen ≡ s .seen + 1
+  pub budget : s′ .budget ≡ s .budget

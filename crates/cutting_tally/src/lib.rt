@@ -1,20 +1,50 @@
-// What a cutting has found so far, as ten numbers, and the two lists in the lent list. specs/Tally says what they are.
+// What a cutting has found so far, with its budget, as eleven numbers, and the two lists in the lent list. specs/Tally says what they are.
 use ranges_lists::Pushed;
 use ranges_stored::Hint;
 use ranges_stored::Pending;
 ghost use mathlib.Core.Path.{_≡_};
-ghost use Prim.Native.Nat.{_+_, _*_, _^_, _≤_, _<_};
 ghost use lib.Dec.{ltb};
-ghost use lib.ListN.{length, drop};
-ghost use Rattle.ranges.proofs.Pushing.{innerPush};
+ghost use lib.ListN.{length};
 ghost use Rattle.ranges.specs.Ranges.{range};
-ghost use Rattle.ranges_stored.specs.Stored.{sizesIn, Hinted, stateOf};
 ghost use Rattle.cutting.specs.Cover.{takenFull, takenPartial};
-ghost use Rattle.cutting_tally.specs.Tally.{tallyIn, withOuter, withInner, oneMore, Adds, Behind, Room, Outered};
+ghost use Rattle.cutting_tally.specs.Tally.{tallyIn, withOuter, withInner, oneMore, noTally, Taken, InnerRoom, Innered, Inside, Countable, Room, Outered};
+
+// The tally as numbers.
+pub type TallyNumbers = [u64; 11];
+
+// Before the first trixel.
+pub fn no_tally(budget: usize) -> TallyNumbers
+    ensures { λ s. ⌜ tallyIn s ≡ noTally budget ⌝ }
+{
+    let mut s = [0u64; 11];
+    s[10] = budget as u64;
+    s
+}
+
+// How many outer ranges are stored.
+pub fn outer_count(s: &TallyNumbers) -> u64
+    ensures { λ n. ⌜ n ≡ tallyIn (now (s .entry)) .outer ⌝ }
+{
+    s[0]
+}
+
+// How many trixels are classified.
+pub fn seen(s: &TallyNumbers) -> u64
+    ensures { λ n. ⌜ n ≡ tallyIn (now (s .entry)) .seen ⌝ }
+{
+    s[9]
+}
+
+pub fn budget_of(s: &[u64]) -> usize
+    requires { ⌜ length (now s) ≡ 11 ⌝ }
+    ensures { λ n. ⌜ n ≡ tallyIn (now (s .entry)) .budget ⌝ }
+{
+    s[10] as usize
+}
 
 // What stands beside the inner list.
 pub fn pending(s: &[u64]) -> Pending
-    requires { ⌜ length (now s) ≡ 10 ⌝ }
+    requires { ⌜ length (now s) ≡ 11 ⌝ }
     ensures { λ p. ⌜ p ≡ tallyIn (now (s .entry)) .inner ⌝ }
 {
     Pending {
@@ -38,7 +68,7 @@ fn flag(t: bool) -> u64
 
 // Notes how many outer ranges are stored now.
 fn note_outer(s: &mut [u64], m: Pushed)
-    requires { ⌜ length (now s) ≡ 10 ⌝ }
+    requires { ⌜ length (now s) ≡ 11 ⌝ }
     ensures { λ _. ⌜ tallyIn (now (s .exit)) ≡ withOuter m (tallyIn (now (s .entry))) ⌝ }
 {
     let hint = m.hint;
@@ -49,7 +79,7 @@ fn note_outer(s: &mut [u64], m: Pushed)
 
 // Notes what stands beside the inner list now.
 fn note_inner(s: &mut [u64], p: Pending)
-    requires { ⌜ length (now s) ≡ 10 ⌝ }
+    requires { ⌜ length (now s) ≡ 11 ⌝ }
     ensures { λ _. ⌜ tallyIn (now (s .exit)) ≡ withInner p (tallyIn (now (s .entry))) ⌝ }
 {
     let some = p.some;
@@ -64,20 +94,21 @@ fn note_inner(s: &mut [u64], p: Pending)
 
 // One more is classified.
 pub fn seen_more(s: &mut [u64])
-    requires { ⌜ length (now s) ≡ 10 ⌝ }
-    requires { ⌜ tallyIn (now s) .seen < 2 ^ 62 ⌝ }
+    requires { ⌜ length (now s) ≡ 11 ⌝ }
+    requires { ⌜ Countable (tallyIn (now s)) ⌝ }
     ensures { λ _. ⌜ tallyIn (now (s .exit)) ≡ oneMore (tallyIn (now (s .entry))) ⌝ }
 {
     s[9] = s[9] + 1;
 }
 
 // A range of the outer list.
-fn push_outer(out: &mut [u64], budget: usize, s: &mut [u64], low: u64, high: u64)
-    requires { ⌜ length (now s) ≡ 10 ⌝ }
-    requires { ⌜ Room budget (tallyIn (now s)) (now out) ⌝ }
-    ensures { λ _. ⌜ Outered budget (range low high) (tallyIn (now (s .entry))) (now (out .entry)) (tallyIn (now (s .exit))) (now (out .exit)) ⌝ }
+fn push_outer(out: &mut [u64], s: &mut [u64], low: u64, high: u64)
+    requires { ⌜ length (now s) ≡ 11 ⌝ }
+    requires { ⌜ Room (tallyIn (now s)) (now out) ⌝ }
+    ensures { λ _. ⌜ Outered (range low high) (tallyIn (now (s .entry))) (now (out .entry)) (tallyIn (now (s .exit))) (now (out .exit)) ⌝ }
 {
     let n = s[0] as usize;
+    let budget = s[10] as usize;
     let known = Hint {
         from: s[1] as usize,
         floor: s[2],
@@ -90,36 +121,40 @@ fn push_outer(out: &mut [u64], budget: usize, s: &mut [u64], low: u64, high: u64
 
 // A range of the inner list, which is written from element 2 × budget on.
 fn push_inner(out: &mut [u64], budget: usize, p: Pending, low: u64, high: u64) -> Pending
-    requires { ⌜ (1 ≤ budget) × (p .n ≤ budget) × (4 * budget ≤ length (now out)) ⌝ }
-    requires { ⌜ Hinted (p .hint) (sizesIn (2 * budget) (p .n) (now out)) ⌝ }
-    ensures { λ r. ⌜ Behind budget (now (out .entry)) (now (out .exit)) (innerPush budget (stateOf p (drop (2 * budget) (now (out .entry)))) (range low high)) r ⌝ }
-    ensures { λ r. ⌜ r .n ≤ budget ⌝ }
-    ensures { λ r. ⌜ Hinted (r .hint) (sizesIn (2 * budget) (r .n) (now (out .exit))) ⌝ }
+    requires { ⌜ InnerRoom budget p (now out) ⌝ }
+    ensures { λ q. ⌜ Innered budget (range low high) p (now (out .entry)) q (now (out .exit)) ⌝ }
 {
     ranges_lists::inner_push(&mut out[2 * budget..], p, budget, low, high)
 }
 
-// A partial trixel at the depth is accepted.
-pub fn take_partial(out: &mut [u64], budget: usize, s: &mut [u64], low: u64, high: u64)
-    requires { ⌜ length (now s) ≡ 10 ⌝ }
-    requires { ⌜ Room budget (tallyIn (now s)) (now out) ⌝ }
-    requires { ⌜ tallyIn (now s) .seen < 2 ^ 62 ⌝ }
-    ensures { λ _. ⌜ Adds budget (takenPartial (range low high)) (tallyIn (now (s .entry))) (now (out .entry)) (tallyIn (now (s .exit))) (now (out .exit)) ⌝ }
-    ensures { λ _. ⌜ Room budget (tallyIn (now (s .exit))) (now (out .exit)) × (tallyIn (now (s .exit)) .seen ≡ tallyIn (now (s .entry)) .seen + 1) ⌝ }
+// A range of the inner list, and what stands beside it then.
+fn add_inner(out: &mut [u64], s: &mut [u64], low: u64, high: u64)
+    requires { ⌜ length (now s) ≡ 11 ⌝ }
+    requires { ⌜ InnerRoom (tallyIn (now s) .budget) (tallyIn (now s) .inner) (now out) ⌝ }
+    ensures { λ _. ⌜ Inside (range low high) (tallyIn (now (s .entry))) (now (out .entry)) (tallyIn (now (s .exit))) (now (out .exit)) ⌝ }
 {
-    push_outer(out, budget, s, low, high);
+    note_inner(s, push_inner(out, budget_of(s), pending(s), low, high));
+}
+
+// A partial trixel at the depth is accepted.
+pub fn take_partial(out: &mut [u64], s: &mut [u64], low: u64, high: u64)
+    requires { ⌜ length (now s) ≡ 11 ⌝ }
+    requires { ⌜ Room (tallyIn (now s)) (now out) ⌝ }
+    requires { ⌜ Countable (tallyIn (now s)) ⌝ }
+    ensures { λ _. ⌜ Taken (takenPartial (range low high)) (tallyIn (now (s .entry))) (now (out .entry)) (tallyIn (now (s .exit))) (now (out .exit)) ⌝ }
+{
+    push_outer(out, s, low, high);
     seen_more(s);
 }
 
 // A full trixel is accepted.
-pub fn take_full(out: &mut [u64], budget: usize, s: &mut [u64], low: u64, high: u64)
-    requires { ⌜ length (now s) ≡ 10 ⌝ }
-    requires { ⌜ Room budget (tallyIn (now s)) (now out) ⌝ }
-    requires { ⌜ tallyIn (now s) .seen < 2 ^ 62 ⌝ }
-    ensures { λ _. ⌜ Adds budget (takenFull (range low high)) (tallyIn (now (s .entry))) (now (out .entry)) (tallyIn (now (s .exit))) (now (out .exit)) ⌝ }
-    ensures { λ _. ⌜ Room budget (tallyIn (now (s .exit))) (now (out .exit)) × (tallyIn (now (s .exit)) .seen ≡ tallyIn (now (s .entry)) .seen + 1) ⌝ }
+pub fn take_full(out: &mut [u64], s: &mut [u64], low: u64, high: u64)
+    requires { ⌜ length (now s) ≡ 11 ⌝ }
+    requires { ⌜ Room (tallyIn (now s)) (now out) ⌝ }
+    requires { ⌜ Countable (tallyIn (now s)) ⌝ }
+    ensures { λ _. ⌜ Taken (takenFull (range low high)) (tallyIn (now (s .entry))) (now (out .entry)) (tallyIn (now (s .exit))) (now (out .exit)) ⌝ }
 {
-    push_outer(out, budget, s, low, high);
-    note_inner(s, push_inner(out, budget, pending(s), low, high));
+    push_outer(out, s, low, high);
+    add_inner(out, s, low, high);
     seen_more(s);
 }

@@ -1,21 +1,21 @@
 -- A trixel that was kept with its first ray, and its other two rays: they are read back, and each of the first three children has a ray of the trixel as
 -- its first one, since it has two normals of the trixel as its second and third. Assumes nothing.
-use Prim.Native.Nat.{ℕ}
-use mathlib.Core.Path.{_≡_, sym, ap, subst, _∙_}
+use Prim.Native.Nat.{ℕ, _<_}
+use mathlib.Core.Path.{_≡_, refl, sym, ap, subst, _∙_}
 use mathlib.Core.List.{List}
 use lib.IntN.{ℤ}
 use Rattle.vector.specs.declared.Vec3.{Vec3}
 use Rattle.vector_products.specs.Stored.{vecIn}
 use Rattle.mesh.specs.declared.Trixel.{Trixel}
-use Rattle.mesh_trixels.specs.Corners.{SmallTrixel}
+use Rattle.mesh.specs.declared.Cut.{Cut}
+use Rattle.mesh.specs.Trixels.{cut, child0, child1, child2, child3, child}
+use Rattle.mesh_trixels.specs.Corners.{SmallTrixel, SmallCut}
 use Rattle.classify_measures.specs.declared.TrixelRays.{TrixelRays}
 use Rattle.classify.specs.Shape.{ray0, ray1, ray2}
 use Rattle.classify_measures.specs.Measures.{RaysOf}
-use Rattle.classify.specs.declared.Class.{Class}
-use Rattle.classify_region.specs.PreparedLists.{Classed}
-use Rattle.cutting_walk.specs.Kept.{trixelIn, KeptTrixel, KeptRays}
-use Rattle.cutting_tally.specs.Tally.{Tally}
-use Rattle.cutting_walk.specs.Walk.{Parted}
+use Rattle.classify_region.specs.PreparedLists.{countIn, Classed}
+use Rattle.cutting_walk.specs.declared.Judged.{Judged}
+use Rattle.cutting_walk.specs.Kept.{trixelIn, KeptTrixel, OtherRays, JudgedOf, CutParts, ChildKept}
 
 -- the trixel t that was read from a list
 module _ {ks : List ℤ} {t : Trixel} (e : t ≡ trixelIn ks) where
@@ -25,24 +25,58 @@ module _ {ks : List ℤ} {t : Trixel} (e : t ≡ trixelIn ks) where
   pub first-kept : {r : Vec3} → KeptTrixel ks → r ≡ vecIn ks 18 → r ≡ ray0 t
   first-kept k q = q ∙ k .ray ∙ ap ray0 (sym e)
 
-  pub second-kept : {rs : List ℤ} {r : Vec3} → KeptRays ks rs → r ≡ vecIn rs 0 → r ≡ ray1 t
-  second-kept k q = q ∙ k .second ∙ ap ray1 (sym e)
+  -- what its children are made of
+  pub parts-kept : {c : Cut} {r : Vec3} {j : Judged} → KeptTrixel ks → OtherRays (trixelIn ks) j → (c ≡ cut t) × SmallCut c → r ≡ vecIn ks 18 → CutParts t c r j
+  parts-kept k o c q = record {
+    small = kept-small k;
+    cut = c .0;
+    smallCut = c .1;
+    first = first-kept k q;
+    others = record { second = o .second ∙ ap ray1 (sym e); third = o .third ∙ ap ray2 (sym e) };
+  }
 
-  pub third-kept : {rs : List ℤ} {r : Vec3} → KeptRays ks rs → r ≡ vecIn rs 3 → r ≡ ray2 t
-  third-kept k q = q ∙ k .third ∙ ap ray2 (sym e)
-
-  -- the rays that were measured and kept
-  pub rays-kept : {rs : List ℤ} {s : TrixelRays} → RaysOf t s → (vecIn rs 0 ≡ s .r1 .r) × (vecIn rs 3 ≡ s .r2 .r) → KeptRays ks rs
-  rays-kept h q = record { second = q .0 ∙ h .r1 .r ∙ ap ray1 e; third = q .1 ∙ h .r2 .r ∙ ap ray2 e }
+-- its class and its other rays, as they were found
+pub judged-kept : {t u : Trixel} → t ≡ u → {xs : List ℤ} {es : List ℕ} (j : Judged) {s : TrixelRays} → RaysOf t s → j .second ≡ s .r1 .r → j .third ≡ s .r2 .r
+    → Classed t xs es (countIn es) (j .class) → JudgedOf u xs es j
+judged-kept e {xs} {es} j h a b c = record {
+  class = subst (λ t. Classed t xs es (countIn es) (j .class)) e c;
+  rays = record { second = a ∙ h .r1 .r ∙ ap ray1 e; third = b ∙ h .r2 .r ∙ ap ray2 e };
+}
 
 -- a trixel k that was kept with its first ray r
 pub trixel-kept : {cs : List ℤ} {k : Trixel} {r : Vec3} → SmallTrixel k → r ≡ ray0 k → (trixelIn cs ≡ k) × (vecIn cs 18 ≡ r) → KeptTrixel cs
 trixel-kept h w q = record { small = subst SmallTrixel (sym (q .0)) h; ray = q .1 ∙ w ∙ ap ray0 (sym (q .0)) }
 
--- what is found of the trixel t that was read is found of the one that is kept
-module _ {t u : Trixel} (e : t ≡ u) {xs : List ℤ} {es : List ℕ} {n : ℕ} where
-  pub class-kept : {c : Class} → Classed t xs es n c → Classed u xs es n c
-  class-kept {c} h = subst (λ t. Classed t xs es n c) e h
+-- ---- a child that was kept
 
-  pub parted-kept : {b : ℕ} (left i : ℕ) {s s′ : Tally} {out out′ : List ℕ} → Parted xs es n b left t i s out s′ out′ → Parted xs es n b left u i s out s′ out′
-  parted-kept {b} left i {s} {s′} {out} {out′} h = subst (λ t. Parted xs es n b left t i s out s′ out′) e h
+first-child : (t : Trixel) → child0 t (cut t) ≡ child 0 t
+unfolding child
+first-child t = refl
+
+second-child : (t : Trixel) → child1 t (cut t) ≡ child 1 t
+unfolding child
+second-child t = refl
+
+third-child : (t : Trixel) → child2 t (cut t) ≡ child 2 t
+unfolding child
+third-child t = refl
+
+fourth-child : (t : Trixel) → child3 t (cut t) ≡ child 3 t
+unfolding child
+fourth-child t = refl
+
+module _ {k : ℕ} {t : Trixel} {c : Cut} {r : Vec3} {j : Judged} (p : CutParts t c r j) {q : Trixel} {v : Vec3} {xs : List ℤ} (h : (trixelIn xs ≡ q) × (vecIn xs 18 ≡ v)) where
+  any-child : (n : ℕ) → k ≡ n → q ≡ child n t → SmallTrixel q → v ≡ ray0 q → ChildKept k t xs
+  any-child n e d s w = record { kept = trixel-kept s w h; trixel = h .0 ∙ d ∙ ap (λ n. child n t) (sym e) }
+
+  pub kept-first : k ≡ 0 → v ≡ r → (q ≡ child0 t c) × SmallTrixel q → ChildKept k t xs
+  kept-first e w d = any-child 0 e (d .0 ∙ ap (child0 t) (p .cut) ∙ first-child t) (d .1) (w ∙ p .first ∙ sym (ap ray0 (d .0)))
+
+  pub kept-second : k ≡ 1 → v ≡ j .second → (q ≡ child1 t c) × SmallTrixel q → ChildKept k t xs
+  kept-second e w d = any-child 1 e (d .0 ∙ ap (child1 t) (p .cut) ∙ second-child t) (d .1) (w ∙ p .others .second ∙ sym (ap ray0 (d .0)))
+
+  pub kept-third : k ≡ 2 → v ≡ j .third → (q ≡ child2 t c) × SmallTrixel q → ChildKept k t xs
+  kept-third e w d = any-child 2 e (d .0 ∙ ap (child2 t) (p .cut) ∙ third-child t) (d .1) (w ∙ p .others .third ∙ sym (ap ray0 (d .0)))
+
+  pub kept-last : k ≡ 3 → v ≡ ray0 q → (q ≡ child3 t c) × SmallTrixel q → ChildKept k t xs
+  kept-last e w d = any-child 3 e (d .0 ∙ ap (child3 t) (p .cut) ∙ fourth-child t) (d .1) w

@@ -4,26 +4,37 @@ use Prim.Native.Nat.{ℕ, zero, suc, _+_, _-_, _*_, _/_, _^_, _≤_, _<_}
 use native.Mathlib.Nat.{pow-suc, pow-le-pow-right, mul-le-mul, mul-le-mul-left, mul-le-mul-right}
 use native.Mathlib.Omega.{arith}
 use mathlib.Core.Path.{_≡_, refl, sym, ap, subst, subst₂, _∙_}
+use mathlib.Core.Bool.{Bool, true, false, false≢true}
 use mathlib.Core.List.{List}
 use lib.Dec.{lit<}
+use lib.ListN.{length}
 use lib.IntN.{ℤ, pos, natAbs}
 use Rattle.algebra.proofs.Ring.{con, _:+_, _:*_}
 use Rattle.algebra.proofs.Claim.{_:≡_, ring}
 use Rattle.algebra.proofs.Inequalities.{`1}
+use Rattle.vector.specs.declared.Vec3.{Vec3}
+use Rattle.vector_products.specs.Stored.{vecIn}
 use Rattle.mesh.specs.declared.Trixel.{Trixel}
 use Rattle.mesh.specs.declared.Cut.{Cut}
-use Rattle.mesh.specs.Trixels.{rootTrixel, cut, child0, child1, child2, child3, child}
+use Rattle.mesh.specs.Trixels.{rootTrixel, cut, child}
+use Rattle.mesh_trixels.specs.Corners.{SmallCut}
 use Rattle.region.specs.Regions.{Region}
-use Rattle.classify.specs.declared.Class.{Class}
 use Rattle.classify.specs.declared.Class.the-variants.{Outside, Partial, Full}
-use Rattle.classify.specs.Classes.{regionClass}
-use Rattle.classify_region.specs.PreparedLists.{Prepared, Classed}
+use Rattle.classify_region.specs.PreparedLists.{Prepared, countIn, Ready}
+use Rattle.classify_near.specs.Narrow.{BesideIn}
 use Rattle.ranges.specs.Ranges.{range}
-use Rattle.cutting.specs.Cover.{descendants, takenFull, takenPartial, both, four, parted, visit}
-use Rattle.cutting_tally.specs.Tally.{Tally, Walked, Adds, Room, oneMore}
-use Rattle.cutting_walk.specs.Walk.{Visited, Parted, Level, ChildLevel}
+use Rattle.ranges_stored.specs.Stored.{noHint}
+use Rattle.ranges_stored.proofs.HintLaws.{hinted-any}
+use Rattle.cutting.specs.declared.Counts.{Counts}
+use Rattle.cutting.specs.Cover.{descendants, leftOut, takenFull, takenPartial, both, visit, cutting, listed, countsOf, bothListed}
+use Rattle.cutting_tally.specs.Tally.{Tally, nothing, noTally, Walked, Adds, Room, Taken, oneMore}
+use Rattle.cutting_walk.specs.declared.Level.{Level}
+use Rattle.cutting_walk.specs.declared.Judged.{Judged}
+use Rattle.cutting_walk.specs.Kept.{trixelIn, KeptTrixel, JudgedOf, ChildKept}
+use Rattle.cutting_walk.specs.Walk.{foundIn, foundBelow, childLevel, firstFound, LevelFits, ChildrenFit, Needs, CutNeeds, Gives, Done, Settled, Dividing, RootNeeds, RootsGive, Finishes, Covers}
 use Rattle.cutting.proofs.CuttingLaws.{full-stretch, power, found-outside, found-full, found-last, found-cut}
-use Rattle.cutting_tally.proofs.WalkLaws.{left-out, four-adds, cut-adds, foundTo}
+use Rattle.cutting_tally.proofs.WalkLaws.{left-out, none-adds, more-adds, four-adds, cut-adds, foundTo, walk-start, walk-end, roots-done}
+use Rattle.cutting_walk.proofs.KeptLaws.{parts-kept}
 
 -- ---- the range of a trixel
 
@@ -38,70 +49,9 @@ last-range i =
     let h : i ≡ (i + 1) * 1 - 1 = omega arith in
     λ j. range (l j) (h j)
 
--- ---- one trixel
-
-module _ (xs : List ℤ) (es : List ℕ) (n b left : ℕ) (t : Trixel) (i : ℕ) (s : Tally) (out : List ℕ) {c : Class} (k : Classed t xs es n c) where
-  class-is : {d : Class} → c ≡ d → (g : Region) → Prepared g xs es n → regionClass g t ≡ d
-  class-is e g p = sym (k g p) ∙ e
-
-  pub visited-outside : c ≡ Outside → {r : Tally} → r ≡ oneMore s → Visited xs es n b left t i s out r out
-  visited-outside e q g p start a w = subst₂ (λ f r. Walked b start (both a f) r out) (sym (found-outside g left t i (class-is e g p))) (sym q) (left-out b start a s out w)
-
-  module _ {r : Tally} {out′ : List ℕ} where
-    pub visited-full : (span : ℕ) → c ≡ Full → span ≡ 4 ^ left → Adds b (takenFull (range (i * span) (i * span + (span - 1)))) s out r out′ → Visited xs es n b left t i s out r out′
-    visited-full span e q h g p start a w =
-        subst (λ f. Walked b start (both a f) r out′) (ap takenFull (full-range i left span q) ∙ sym (found-full g left t i (class-is e g p))) (h start a w)
-
-    pub visited-last : c ≡ Partial → left ≡ 0 → Adds b (takenPartial (range i i)) s out r out′ → Visited xs es n b left t i s out r out′
-    visited-last e z h g p start a w =
-        subst (λ f. Walked b start (both a f) r out′)
-        (ap takenPartial (last-range i) ∙ sym (found-last g t i (class-is e g p)) ∙ ap (λ m. visit m g t i) (sym z)) (h start a w)
-
-  pub visited-cut : (m : ℕ) → c ≡ Partial → left ≡ suc m → {r s′ : Tally} {out′ : List ℕ} → r ≡ oneMore s → Parted xs es n b m t i r out s′ out′ → Visited xs es n b left t i s out s′ out′
-  visited-cut m e z {r} {s′} {out′} q h g p =
-      subst (λ f. Adds b f s out s′ out′) (sym (found-cut g m t i (class-is e g p)) ∙ ap (λ l. visit l g t i) (sym z)) (cut-adds b (parted (visit m g) t i) q (h g p))
-
--- ---- its four children
-
-first-child : (t : Trixel) → child0 t (cut t) ≡ child 0 t
-unfolding child
-first-child t = refl
-
-second-child : (t : Trixel) → child1 t (cut t) ≡ child 1 t
-unfolding child
-second-child t = refl
-
-third-child : (t : Trixel) → child2 t (cut t) ≡ child 2 t
-unfolding child
-third-child t = refl
-
-fourth-child : (t : Trixel) → child3 t (cut t) ≡ child 3 t
-unfolding child
-fourth-child t = refl
-
-pub parted-visits : (xs : List ℤ) (es : List ℕ) (n b left : ℕ) (t : Trixel) (i : ℕ) {k : Cut} → k ≡ cut t
-    → {c0 c1 c2 c3 : Trixel} → c0 ≡ child0 t k → c1 ≡ child1 t k → c2 ≡ child2 t k → c3 ≡ child3 t k
-    → {s s0 s1 s2 s3 : Tally} {out out0 out1 out2 out3 : List ℕ}
-    → Visited xs es n b left c0 (4 * i) s out s0 out0 → Visited xs es n b left c1 (4 * i + 1) s0 out0 s1 out1
-    → Visited xs es n b left c2 (4 * i + 2) s1 out1 s2 out2 → Visited xs es n b left c3 (4 * i + 3) s2 out2 s3 out3
-    → Parted xs es n b left t i s out s3 out3
-parted-visits xs es n b left t i {k} e {c0} {c1} {c2} {c3} e0 e1 e2 e3 {s} {s0} {s1} {s2} {s3} {out} {out0} {out1} {out2} {out3} h0 h1 h2 h3 g p =
-    let zero : 4 * i ≡ 4 * i + 0 = omega arith in
-    let d0 : c0 ≡ child 0 t = e0 ∙ ap (child0 t) e ∙ first-child t in
-    let d1 : c1 ≡ child 1 t = e1 ∙ ap (child1 t) e ∙ second-child t in
-    let d2 : c2 ≡ child 2 t = e2 ∙ ap (child2 t) e ∙ third-child t in
-    let d3 : c3 ≡ child 3 t = e3 ∙ ap (child3 t) e ∙ fourth-child t in
-    subst (λ f. Adds b f s out s3 out3)
-    (λ j. four (visit left g (d0 j) (zero j)) (visit left g (d1 j) (4 * i + 1)) (visit left g (d2 j) (4 * i + 2)) (visit left g (d3 j) (4 * i + 3)))
-    (four-adds b (visit left g c0 (4 * i)) (visit left g c1 (4 * i + 1)) (visit left g c2 (4 * i + 2)) (visit left g c3 (4 * i + 3)) (h0 g p) (h1 g p) (h2 g p) (h3 g p))
-
--- one more is seen, and the lists stay
-pub room-more : {b : ℕ} {s r : Tally} {out : List ℕ} → Room b s out → r ≡ oneMore s → Room b r out
-room-more {b} {s} {r} {out} h e = subst (λ q. Room b q out) (sym e) (record { budget = h .budget; outer = h .outer; inner = h .inner; list = h .list; hinted = h .hinted; innerHinted = h .innerHinted })
-
 -- ---- how large identifiers and counts get
 
-module _ {i left span seen : ℕ} (l : Level i left span seen) where
+module _ {i left span seen : ℕ} (l : LevelFits i left span seen) where
   pub range-fits : (i * span + (span - 1) < 2 ^ 40) × (1 ≤ span)
   range-fits =
       let e : (i + 1) * span ≡ i * span + span = full-stretch i span in
@@ -121,7 +71,7 @@ pub levels : {left m : ℕ} → left ≡ suc m → 4 ^ suc left ≡ 4 * 4 ^ suc 
 levels {left} {m} z = ap (λ x. 4 ^ suc x) z ∙ pow-suc 4 (suc m) ∙ omega arith
 
 -- a level down, where the trixel itself is seen
-pub down : {i left span seen m now : ℕ} → Level i left span seen → left ≡ suc m → now ≡ seen + 1 → ChildLevel i m (span / 4) now
+pub down : {i left span seen m now : ℕ} → LevelFits i left span seen → left ≡ suc m → now ≡ seen + 1 → ChildrenFit i m (span / 4) now
 down {i} {left} {span} {seen} {m} {now} l z e =
     let part : span ≡ 4 ^ m * 4 = l .power ∙ ap (λ x. 4 ^ x) z ∙ pow-suc 4 m in
     let quarter : span / 4 ≡ 4 ^ m = omega (arith, part) in
@@ -135,41 +85,241 @@ down {i} {left} {span} {seen} {m} {now} l z e =
       };
     }
 
-module _ {i left span seen : ℕ} (l : ChildLevel i left span seen) where
+module _ {i left span seen : ℕ} (l : ChildrenFit i left span seen) where
   pub small-ids : 4 * i + 3 < 2 ^ 40
   small-ids = small-id (l .last)
 
   -- a child, where up to it no more was seen than the children before it can have
-  pub child-level : (k : ℕ) {now : ℕ} → k < 4 → 3 * now ≤ 3 * seen + k * (4 ^ suc left - 1) → Level (4 * i + k) left span now
+  pub child-level : (k : ℕ) {now : ℕ} → k < 4 → 3 * now ≤ 3 * seen + k * (4 ^ suc left - 1) → LevelFits (4 * i + k) left span now
   child-level k {now} h s =
       let id : (4 * i + k + 1) * span ≤ (4 * i + 3 + 1) * span = mul-le-mul-right span (omega arith) in
       let elder : k * (4 ^ suc left - 1) ≤ 3 * (4 ^ suc left - 1) = mul-le-mul-right (4 ^ suc left - 1) (omega arith) in
       record { power = l .last .power; small = omega (arith, l .last .small); few = omega (arith, l .last .few) }
 
-  pub first-level : Level (4 * i) left span seen
-  first-level =
-      let e : 4 * i + 0 ≡ 4 * i = omega arith in
-      subst (λ j. Level j left span seen) e (child-level 0 (lit< tt) (omega arith))
+times : (k p : ℕ) → 1 ≤ p → k * p ≡ k * (p - 1) + k
+times k p h =
+    let e : (p - 1) + 1 ≡ p = omega arith in
+    ap (λ q. k * q) (sym e) ∙ ap natAbs (ring 2 (λ k q. k :* (q :+ `1) :≡ k :* q :+ k) refl (pos k) (pos (p - 1)))
+
+suc-times : (k p : ℕ) → suc k * p ≡ k * p + p
+suc-times k p =
+    let one : suc k ≡ k + 1 = omega arith in
+    ap (λ n. n * p) one ∙ ap natAbs (ring 2 (λ k q. (k :+ `1) :* q :≡ k :* q :+ q) refl (pos k) (pos p))
 
 pub at-least-four : (n : ℕ) → 4 ≤ 4 ^ suc n
 at-least-four n = omega (arith, pow-suc 4 n, power n)
 
+-- ---- one trixel, by its class
+
+-- one more is seen, and the lists stay
+room-more : {s r : Tally} {out : List ℕ} → Room s out → r ≡ oneMore s → Room r out
+room-more {s} {r} {out} h e = subst (λ q. Room q out) (sym e) (record { budget = h .budget; outer = h .outer; inner = h .inner; list = h .list; hinted = h .hinted; innerHinted = h .innerHinted })
+
+module _ {j : Judged} {l : Level} {s r : Tally} {out out′ : List ℕ} where
+  done : Done (j .class) l s out r out′ → Settled true j l s out r out′
+  done h = record { done = λ e. h; cut = λ e. absurd (false≢true (sym e)) }
+
+  pub settled-outside : j .class ≡ Outside → Room s out → r ≡ oneMore s → out′ ≡ out → Settled true j l s out r out′
+  settled-outside d h q same = done (λ g t e. record {
+    adds = λ start a w. subst₂ (λ f o. Walked (r .budget) start (both a f) r o) (sym (found-outside g (l .left) t (l .id) (e ∙ d))) (sym same)
+        (subst (λ z. Walked (z .budget) start (both a leftOut) z out) (sym q) (left-out (s .budget) start a s out w));
+    room = subst (Room r) (sym same) (room-more h q);
+    seen = ap (λ z. z .seen) q;
+    budget = ap (λ z. z .budget) q;
+  })
+
+  pub settled-full : {seen : ℕ} → j .class ≡ Full → LevelFits (l .id) (l .left) (l .span) seen
+      → Taken (takenFull (range (l .id * l .span) (l .id * l .span + (l .span - 1)))) s out r out′ → Settled true j l s out r out′
+  settled-full d f h = done (λ g t e.
+      subst (λ f. Taken f s out r out′) (ap takenFull (full-range (l .id) (l .left) (l .span) (f .power)) ∙ sym (found-full g (l .left) t (l .id) (e ∙ d))) h)
+
+  pub settled-last : j .class ≡ Partial → l .left ≡ 0 → Taken (takenPartial (range (l .id) (l .id))) s out r out′ → Settled true j l s out r out′
+  settled-last d z h = done (λ g t e.
+      subst (λ f. Taken f s out r out′) (ap takenPartial (last-range (l .id)) ∙ sym (found-last g t (l .id) (e ∙ d)) ∙ ap (λ m. visit m g t (l .id)) (sym z)) h)
+
+  pub settled-cut : j .class ≡ Partial → 1 ≤ l .left → r ≡ oneMore s → out′ ≡ out → Settled false j l s out r out′
+  settled-cut d a q same = record { done = λ e. absurd (false≢true e); cut = λ e. record { partial = d; above = a; tally = q; list = same } }
+
+module _ {t : Trixel} {xs : List ℤ} {es : List ℕ} {j : Judged} {l : Level} {b : Bool} {s s₁ : Tally} {out out₁ : List ℕ}
+    (k : JudgedOf t xs es j) (h : Settled b j l s out s₁ out₁) where
+  pub visited-done : Ready xs es (countIn es) → b ≡ true → Gives xs es 1 (l .left) (foundIn l t) s out s₁ out₁
+  visited-done r e =
+      let taken : (g : Region) → Prepared g xs es (countIn es) → Taken (foundIn l t g) s out s₁ out₁ = λ g p. h .done e g t (sym (k .class g p)) in
+      let one = taken (r .0) (r .1) in
+      record { adds = λ g p. taken g p .adds; room = one .room; budget = one .budget; seen = omega (arith, one .seen, at-least-four (l .left)) }
+
+  pub visited-cut : b ≡ false → {s′ : Tally} {out′ : List ℕ} → Gives xs es 4 (l .left - 1) (foundBelow l t) s₁ out₁ s′ out′ → Gives xs es 1 (l .left) (foundIn l t) s out s′ out′
+  visited-cut e {s′} {out′} v =
+      let c = h .cut e in
+      let z : l .left ≡ suc (l .left - 1) = omega (arith, c .above) in
+      record {
+        adds = λ g p.
+            subst (λ f. Adds f s out s′ out′) (sym (found-cut g (l .left - 1) t (l .id) (sym (k .class g p) ∙ c .partial)) ∙ ap (λ m. visit m g t (l .id)) (sym z))
+            (cut-adds (foundBelow l t g) (c .tally) (subst (λ o. Adds (foundBelow l t g) s₁ o s′ out′) (c .list) (v .adds g p)));
+        room = v .room;
+        budget = v .budget ∙ ap (λ q. q .budget) (c .tally);
+        seen = omega (arith, v .seen, ap (λ q. q .seen) (c .tally), levels z);
+      }
+
+pub cut-needs : {ks xs : List ℤ} {es : List ℕ} {j : Judged} {l : Level} {b : Bool} {s s₁ : Tally} {out out₁ : List ℕ} → JudgedOf (trixelIn ks) xs es j → Settled b j l s out s₁ out₁
+    → b ≡ false → Needs ks l xs es s out → CutNeeds ks j l xs es s₁ out₁
+cut-needs {l = l} {s₁ = s₁} k h e n =
+    let c = h .cut e in
+    let z : l .left ≡ suc (l .left - 1) = omega (arith, c .above) in
+    let f = down (n .level) z (ap (λ q. q .seen) (c .tally)) in
+    record {
+      trixel = n .trixel;
+      rays = k .rays;
+      ready = n .ready;
+      room = subst (Room s₁) (sym (c .list)) (room-more (n .room) (c .tally));
+      divisible = record { above = c .above; ids = small-ids f };
+      level = f;
+    }
+
+-- ---- its four children
+
+module _ {ks : List ℤ} {j : Judged} {l : Level} {xs : List ℤ} {es : List ℕ} {ys : List ℤ} {ms : List ℕ} {s₀ : Tally} {out₀ : List ℕ} {t : Trixel} {c : Cut} {r : Vec3} where
+  pub dividing-start : CutNeeds ks j l xs es s₀ out₀ → BesideIn xs es ys ms → t ≡ trixelIn ks → (c ≡ cut t) × SmallCut c → r ≡ vecIn ks 18
+      → Dividing ks j l xs es ys ms s₀ out₀ t c r 0 s₀ out₀
+  unfolding firstFound
+  dividing-start n b e h q = record {
+    needs = n;
+    beside = b;
+    trixel = e;
+    parts = parts-kept e (n .trixel) (n .rays) h q;
+    few = omega arith;
+    gives = record { adds = λ g p. none-adds; room = n .room; budget = refl; seen = omega arith };
+  }
+
+  module _ {k : ℕ} {s : Tally} {out : List ℕ} {cs : List ℤ} {m : Level} (d : Dividing ks j l xs es ys ms s₀ out₀ t c r k s out) (few : k < 4) (h : ChildKept k t cs)
+      (e : m ≡ childLevel l k) where
+    pub child-needs : Needs cs m xs es s out
+    child-needs = record {
+      trixel = h .kept;
+      ready = d .needs .ready;
+      room = d .gives .room;
+      level = subst (λ m. LevelFits (m .id) (m .left) (m .span) (s .seen)) (sym e)
+          (child-level (d .needs .level) k few (omega (arith, d .gives .seen, times k (4 ^ suc (l .left - 1)) (power (suc (l .left - 1))))));
+    }
+
+    pub dividing-more : {s′ : Tally} {out′ : List ℕ} → Gives xs es 1 (m .left) (foundIn m (trixelIn cs)) s out s′ out′
+        → Dividing ks j l xs es ys ms s₀ out₀ t c r (k + 1) s′ out′
+    unfolding firstFound
+    dividing-more {s′} {out′} v =
+        let one : k + 1 ≡ suc k = omega arith in
+        let w = subst (λ m. Gives xs es 1 (m .left) (foundIn m (trixelIn cs)) s out s′ out′) e v in
+        let x = subst (λ t. Gives xs es 1 (l .left - 1) (foundIn (childLevel l k) t) s out s′ out′) (h .trixel) w in
+        record {
+          needs = d .needs;
+          beside = d .beside;
+          trixel = d .trixel;
+          parts = d .parts;
+          few = omega arith;
+          gives = subst (λ n. Gives xs es n (l .left - 1) (firstFound n l t) s₀ out₀ s′ out′) (sym one) (record {
+            adds = λ g p. more-adds (firstFound k l t g) (foundIn (childLevel l k) (child k t) g) (d .gives .adds g p) (x .adds g p);
+            room = x .room;
+            budget = x .budget ∙ d .gives .budget;
+            seen = omega (arith, d .gives .seen, x .seen, suc-times k (4 ^ suc (l .left - 1)));
+          });
+        }
+
+  pub divided : {k : ℕ} {s : Tally} {out : List ℕ} → Dividing ks j l xs es ys ms s₀ out₀ t c r k s out → 4 ≤ k
+      → Gives xs es 4 (l .left - 1) (foundBelow l (trixelIn ks)) s₀ out₀ s out
+  unfolding firstFound
+  divided {k} {s} {out} d e =
+      let four : k ≡ 4 = omega (arith, d .few) in
+      let v = subst (λ k. Gives xs es k (l .left - 1) (firstFound k l t) s₀ out₀ s out) four (d .gives) in
+      record {
+        adds = λ g p. subst (λ t. Adds (foundBelow l t g) s₀ out₀ s out) (d .trixel)
+            (four-adds (foundIn (childLevel l 0) (child 0 t) g) (foundIn (childLevel l 1) (child 1 t) g) (foundIn (childLevel l 2) (child 2 t) g) (foundIn (childLevel l 3) (child 3 t) g) (v .adds g p));
+        room = v .room;
+        budget = v .budget;
+        seen = v .seen;
+      }
+
+-- ---- the roots
+
 -- a root
-pub root-level : (k left span seen : ℕ) → k < 8 → left ≤ 11 → span ≡ 4 ^ left → 3 * seen ≤ k * 2 ^ 24 → Level (8 + k) left span seen
+root-level : (k left span seen : ℕ) → k < 8 → left ≤ 11 → span ≡ 4 ^ left → 3 * seen ≤ k * 2 ^ 24 → LevelFits (8 + k) left span seen
 root-level k left span seen h d e s =
     let m : 4 ^ left ≤ 4 ^ 11 = pow-le-pow-right {n = 4} (lit< tt) {i = left} {j = 11} d in
     let p : (8 + k + 1) * span ≤ 16 * 4 ^ 11 = let u : 8 + k + 1 ≤ 16 = omega arith in let v : span ≤ 4 ^ 11 = omega arith in mul-le-mul u v in
     record { power = e; small = omega (arith, p); few = omega (arith, pow-suc 4 left, m) }
 
-pub root-seen : (left now seen k : ℕ) → left ≤ 11 → 3 * now + 1 ≤ 3 * seen + 4 ^ suc left → 3 * seen ≤ k * 2 ^ 24 → 3 * now ≤ (k + 1) * 2 ^ 24
+root-seen : (left now seen k : ℕ) → left ≤ 11 → 3 * now + 1 ≤ 3 * seen + 4 ^ suc left → 3 * seen ≤ k * 2 ^ 24 → 3 * now ≤ (k + 1) * 2 ^ 24
 root-seen left now seen k d h s =
     let m : 4 ^ left ≤ 4 ^ 11 = pow-le-pow-right {n = 4} (lit< tt) {i = left} {j = 11} d in
     omega (arith, pow-suc 4 left, m)
 
-pub root-more : (xs : List ℤ) (es : List ℕ) (n b m k : ℕ) (start : List ℕ) {r : Trixel} {s s′ : Tally} {out out′ : List ℕ} (g : Region) → Prepared g xs es n → r ≡ rootTrixel k
-    → Walked b start (foundTo m g k) s out → Visited xs es n b m r (8 + k) s out s′ out′ → Walked b start (foundTo m g (k + 1)) s′ out′
-unfolding foundTo
-root-more xs es n b m k start {r} {s} {s′} {out} {out′} g p e w v =
-    let one : suc k ≡ k + 1 = omega arith in
-    subst (λ j. Walked b start (foundTo m g j) s′ out′) one
-    (subst (λ t. Walked b start (both (foundTo m g k) (visit m g t (8 + k))) s′ out′) e (v g p start (foundTo m g k) w))
+-- the first k roots are cut
+pub record Rooting (depth : ℕ) (xs : List ℤ) (es : List ℕ) (ys : List ℤ) (ms : List ℕ) (left span : ℕ) (s₀ : Tally) (out₀ : List ℕ) (k : ℕ) (s : Tally) (out : List ℕ) : Type 0 where
+  pub needs : RootNeeds depth xs es s₀ out₀
+  pub beside : BesideIn xs es ys ms
+  pub above : left ≡ depth - 1
+  pub power : span ≡ 4 ^ left
+  pub few : k ≤ 8
+  pub room : Room s out
+  pub budget : s .budget ≡ s₀ .budget
+  pub seen : 3 * s .seen ≤ k * 2 ^ 24
+  pub walked : (g : Region) → Prepared g xs es (countIn es) → Walked (s .budget) out₀ (foundTo (depth - 1) g k) s out
+
+module _ {depth : ℕ} {xs : List ℤ} {es : List ℕ} {ys : List ℤ} {ms : List ℕ} {left span : ℕ} {s₀ : Tally} {out₀ : List ℕ} where
+  pub rooting-start : RootNeeds depth xs es s₀ out₀ → BesideIn xs es ys ms → left ≡ depth - 1 → span ≡ 4 ^ left → Rooting depth xs es ys ms left span s₀ out₀ 0 s₀ out₀
+  unfolding foundTo
+  rooting-start n b e p = record {
+    needs = n;
+    beside = b;
+    above = e;
+    power = p;
+    few = omega arith;
+    room = subst (λ q. Room q out₀) (sym (n .fresh))
+        (record { budget = n .budget; outer = omega arith; inner = omega arith; list = n .list; hinted = hinted-any refl _; innerHinted = hinted-any refl _ });
+    budget = refl;
+    seen = omega (arith, ap (λ q. q .seen) (n .fresh));
+    walked = λ g p. subst (λ q. Walked (q .budget) out₀ nothing q out₀) (sym (n .fresh)) (walk-start (s₀ .budget) out₀ (n .list) noHint);
+  }
+
+  module _ {k : ℕ} {s : Tally} {out : List ℕ} {ks : List ℤ} (d : Rooting depth xs es ys ms left span s₀ out₀ k s out) (few : k < 8) (h : KeptTrixel ks) where
+    pub root-needs : Needs ks (record { id = 8 + k; left = left; span = span }) xs es s out
+    root-needs = record {
+      trixel = h;
+      ready = d .needs .ready;
+      room = d .room;
+      level = root-level k left span (s .seen) few (omega (arith, d .above, d .needs .high)) (d .power) (d .seen);
+    }
+
+    pub rooting-more : trixelIn ks ≡ rootTrixel k → {s′ : Tally} {out′ : List ℕ}
+        → Gives xs es 1 left (foundIn (record { id = 8 + k; left = left; span = span }) (trixelIn ks)) s out s′ out′ → Rooting depth xs es ys ms left span s₀ out₀ (k + 1) s′ out′
+    unfolding foundTo
+    rooting-more e {s′} {out′} v =
+        let one : suc k ≡ k + 1 = omega arith in
+        record {
+          needs = d .needs;
+          beside = d .beside;
+          above = d .above;
+          power = d .power;
+          few = omega arith;
+          room = v .room;
+          budget = v .budget ∙ d .budget;
+          seen = root-seen left (s′ .seen) (s .seen) k (omega (arith, d .above, d .needs .high)) (omega (arith, v .seen)) (d .seen);
+          walked = λ g p.
+              subst (λ j. Walked (s′ .budget) out₀ (foundTo (depth - 1) g j) s′ out′) one
+              (subst₂ (λ m t. Walked (s′ .budget) out₀ (both (foundTo (depth - 1) g k) (visit m g t (8 + k))) s′ out′) (d .above) e (v .adds g p out₀ (foundTo (depth - 1) g k) (d .walked g p)));
+        }
+
+  pub rooted : {k : ℕ} {s : Tally} {out : List ℕ} → Rooting depth xs es ys ms left span s₀ out₀ k s out → 8 ≤ k → RootsGive depth xs es s₀ out₀ s out
+  rooted {k} d e = record { cut = λ g p. roots-done depth k g (omega (arith, d .few)) (d .walked g p); room = d .room; budget = d .budget }
+
+-- ---- the cover
+
+pub cover-start : {depth b : ℕ} {xs : List ℤ} {es : List ℕ} {s : Tally} {out : List ℕ} → (1 ≤ depth) × (depth ≤ 12) → Ready xs es (countIn es)
+    → (1 ≤ b) × (4 * b ≤ length out) → s ≡ noTally b → RootNeeds depth xs es s out
+cover-start {depth} {xs = xs} {es = es} {out = out} d r h e =
+    subst (λ q. RootNeeds depth xs es q out) (sym e) (record { low = d .0; high = d .1; ready = r; fresh = refl; budget = h .0; list = h .1 })
+
+pub cover-end : {depth b : ℕ} {xs : List ℤ} {es : List ℕ} {s₀ s : Tally} {out₀ out out′ : List ℕ} {c : Counts} → RootsGive depth xs es s₀ out₀ s out → s₀ ≡ noTally b
+    → 4 * b ≤ length out₀ → Finishes s out c out′ → Covers xs es b depth out₀ c out′
+cover-end {depth} {b} {s = s} {out₀} {out} {out′} {c} r e long f g p =
+    let same : s .budget ≡ b = r .budget ∙ ap (λ q. q .budget) e in
+    let w = walk-end (s .budget) out₀ (omega (arith, same)) (cutting depth g) s out out′ (f .inner) (r .cut g p) (r .room .budget) (r .room .outer) (f .behind) in
+    subst (λ b. (c ≡ countsOf (listed b (cutting depth g))) × (out′ ≡ bothListed b (listed b (cutting depth g)) out₀)) same (f .counts ∙ w .0, w .1)

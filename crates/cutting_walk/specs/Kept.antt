@@ -1,14 +1,23 @@
--- Trixels and their rays as lists of numbers, as the cutting lends them to the next level.
+-- Trixels as lists of numbers, as the cutting lends them to the next level, and what goes from a trixel to its children.
 --   trixelIn xs        the trixel of eighteen numbers: its corners, then its normals
 --   KeptTrixel xs      the list has a small trixel, and behind it the first ray of it
---   KeptRays xs rs     rs has the second and the third ray of the trixel of xs
+--   OtherRays t j      j has the second and the third ray of t
+--   JudgedOf t xs es j   j has the class of t for every region that was prepared to xs and es, and these rays
+--   CutParts t c r j   what the children of t are made of: c is the cut of t, and r and j have its rays
+--   ChildKept k t xs   the list has child number k of t, with its first ray
+use Prim.Native.Nat.{ℕ}
 use mathlib.Core.Path.{_≡_}
 use mathlib.Core.List.{List}
 use lib.IntN.{ℤ}
+use Rattle.vector.specs.declared.Vec3.{Vec3}
 use Rattle.vector_products.specs.Stored.{vecIn}
 use Rattle.mesh.specs.declared.Trixel.{Trixel}
-use Rattle.mesh_trixels.specs.Corners.{SmallTrixel}
+use Rattle.mesh.specs.declared.Cut.{Cut}
+use Rattle.mesh.specs.Trixels.{cut, child}
+use Rattle.mesh_trixels.specs.Corners.{SmallTrixel, SmallCut}
 use Rattle.classify.specs.Shape.{ray0, ray1, ray2}
+use Rattle.classify_region.specs.PreparedLists.{countIn, Classed}
+use Rattle.cutting_walk.specs.declared.Judged.{Judged}
 
 abbrev pub trixelIn : List ℤ → Trixel
 trixelIn xs = record { v0 = vecIn xs 0; v1 = vecIn xs 3; v2 = vecIn xs 6; p0 = vecIn xs 9; p1 = vecIn xs 12; p2 = vecIn xs 15 }
@@ -17,6 +26,21 @@ pub record KeptTrixel (xs : List ℤ) : Type 0 where
   pub small : SmallTrixel (trixelIn xs)
   pub ray : vecIn xs 18 ≡ ray0 (trixelIn xs)
 
-pub record KeptRays (xs rs : List ℤ) : Type 0 where
-  pub second : vecIn rs 0 ≡ ray1 (trixelIn xs)
-  pub third : vecIn rs 3 ≡ ray2 (trixelIn xs)
+pub record OtherRays (t : Trixel) (j : Judged) : Type 0 where
+  pub second : j .second ≡ ray1 t
+  pub third : j .third ≡ ray2 t
+
+pub record JudgedOf (t : Trixel) (xs : List ℤ) (es : List ℕ) (j : Judged) : Type 0 where
+  pub class : Classed t xs es (countIn es) (j .class)
+  pub rays : OtherRays t j
+
+pub record CutParts (t : Trixel) (c : Cut) (r : Vec3) (j : Judged) : Type 0 where
+  pub small : SmallTrixel t
+  pub cut : c ≡ cut t
+  pub smallCut : SmallCut c
+  pub first : r ≡ ray0 t
+  pub others : OtherRays t j
+
+pub record ChildKept (k : ℕ) (t : Trixel) (xs : List ℤ) : Type 0 where
+  pub kept : KeptTrixel xs
+  pub trixel : trixelIn xs ≡ child k t

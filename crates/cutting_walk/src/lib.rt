@@ -1,22 +1,42 @@
 // The recursion over trixels: one trixel is classified and accepted, left out or cut into its children. The rule is `visit` of cutting/specs/Cover; what is
 // found stands in specs/Walk, a trixel as numbers in specs/Kept.
 use classify::Class;
-use classify_measures::TrixelRays;
-use limits::CONVEXES;
-use limits::HALFSPACES;
+use classify_near::OpenEnds;
+use classify_near::OpenHalves;
+use classify_region::Ends;
+use classify_region::Halves;
+use cutting_tally::TallyNumbers;
+use mesh::Cut;
 use mesh::Trixel;
 use vector::Vec3;
 ghost use mathlib.Core.Path.{_≡_};
+ghost use Prim.Native.Nat.{_-_, _<_};
 ghost use Rattle.vector_products.specs.Stored.{vecIn};
-ghost use Rattle.cutting_walk.specs.Kept.{trixelIn, KeptTrixel, KeptRays};
-ghost use Prim.Native.Nat.{suc, _+_, _*_, _^_, _≤_};
-ghost use Rattle.classify_region.specs.PreparedLists.{Ready};
-ghost use Rattle.classify_near.specs.Narrow.{Beside};
+ghost use Rattle.classify_region.specs.PreparedLists.{countIn, Ready};
+ghost use Rattle.classify_near.specs.Narrow.{BesideIn};
 ghost use Rattle.cutting_tally.specs.Tally.{tallyIn, Room};
-ghost use Rattle.cutting_walk.specs.Walk.{Visited, Parted, Level, ChildLevel};
+ghost use Rattle.cutting_walk.specs.Kept.{trixelIn, KeptTrixel, JudgedOf, CutParts, ChildKept};
+ghost use Rattle.cutting_walk.specs.Walk.{foundIn, foundBelow, childLevel, LevelFits, Divisible, Needs, CutNeeds, Gives, Settled};
+
+// A trixel as numbers: its corners, its normals and its first ray.
+pub type TrixelNumbers = [i64; 21];
+
+// Where a trixel stands in the cutting: its identifier, how many levels it is above the depth, and how many descendants it has there.
+pub struct Level {
+    pub id: u64,
+    pub left: u32,
+    pub span: u64,
+}
+
+// What was found of a trixel: its class, its second and its third ray.
+pub struct Judged {
+    pub class: Class,
+    pub second: Vec3,
+    pub third: Vec3,
+}
 
 // The trixel of a list.
-pub fn trixel_in(xs: &[i64; 21]) -> Trixel
+pub fn trixel_in(xs: &TrixelNumbers) -> Trixel
     ensures { λ t. ⌜ t ≡ trixelIn (now (xs .entry)) ⌝ }
 {
     Trixel {
@@ -30,7 +50,7 @@ pub fn trixel_in(xs: &[i64; 21]) -> Trixel
 }
 
 // Keeps the trixel t and its first ray r.
-pub fn keep(xs: &mut [i64; 21], t: Trixel, r: Vec3)
+pub fn keep(xs: &mut TrixelNumbers, t: Trixel, r: Vec3)
     ensures { λ _. ⌜ (trixelIn (now (xs .exit)) ≡ t) × (vecIn (now (xs .exit)) 18 ≡ r) ⌝ }
 {
     let v0 = t.v0;
@@ -48,181 +68,184 @@ pub fn keep(xs: &mut [i64; 21], t: Trixel, r: Vec3)
     vector_products::store(xs, 18, r);
 }
 
-// Keeps the second and the third ray of a trixel.
-pub fn keep_rays(xs: &mut [i64; 6], s: TrixelRays)
-    ensures { λ _. ⌜ (vecIn (now (xs .exit)) 0 ≡ s .r1 .r) × (vecIn (now (xs .exit)) 3 ≡ s .r2 .r) ⌝ }
-{
-    let y1 = s.r1;
-    let y2 = s.r2;
-    let r1 = y1.r;
-    let r2 = y2.r;
-    vector_products::store(xs, 0, r1);
-    vector_products::store(xs, 3, r2);
-}
-
-// The trixel with the identifier id, `left` levels above the depth, where it has `span` descendants. The region was prepared to xs and es, n halfspaces
-// in all; the w that are open beside the place ps, if there are some, stand in ys and ms. b is the budget, s the tally.
-pub fn visit(
-    trixel: &[i64; 21],
-    id: u64,
-    left: u32,
-    span: u64,
-    xs: &[i64; 7 * HALFSPACES],
-    es: &[u64; CONVEXES],
-    n: usize,
-    ys: &[i64; 224],
-    ms: &[u64; 32],
-    w: usize,
-    ps: &[i64; 5],
-    b: usize,
-    out: &mut [u64],
-    s: &mut [u64; 10],
-)
+// The class of a kept trixel, and its other rays.
+fn judge(
+    trixel: &TrixelNumbers,
+    xs: &Halves,
+    ends: &Ends,
+    ys: &OpenHalves,
+    marks: &OpenEnds,
+) -> Judged
     requires { ⌜ KeptTrixel (now trixel) ⌝ }
-    requires { ⌜ Ready (now xs) (now es) n ⌝ }
-    requires { ⌜ Beside (now xs) (now es) n (now ys) (now ms) w (now ps) ⌝ }
-    requires { ⌜ Room b (tallyIn (now s)) (now out) ⌝ }
-    requires { ⌜ Level id left span (tallyIn (now s) .seen) ⌝ }
-    ensures { λ _. ⌜ Visited (now (xs .entry)) (now (es .entry)) n b left (trixelIn (now (trixel .entry))) id (tallyIn (now (s .entry))) (now (out .entry)) (tallyIn (now (s .exit))) (now (out .exit)) ⌝ }
-    ensures { λ _. ⌜ Room b (tallyIn (now (s .exit))) (now (out .exit)) × (3 * tallyIn (now (s .exit)) .seen + 1 ≤ 3 * tallyIn (now (s .entry)) .seen + 4 ^ suc left) ⌝ }
+    requires { ⌜ Ready (now xs) (now ends) (countIn (now ends)) ⌝ }
+    requires { ⌜ BesideIn (now xs) (now ends) (now ys) (now marks) ⌝ }
+    ensures { λ j. ⌜ JudgedOf (trixelIn (now (trixel .entry))) (now (xs .entry)) (now (ends .entry)) j ⌝ }
 {
     let t = trixel_in(trixel);
-    let shape = classify_measures::measured(t, vector_products::vec_in(trixel, 18));
-    let class = classify_near::class_near(t, shape, xs, es, n, ys, ms, w, ps);
-    match class {
-        Class::Outside => cutting_tally::seen_more(s),
-        Class::Full => cutting_tally::take_full(out, b, s, id * span, id * span + (span - 1)),
+    let s = classify_measures::measured(t, vector_products::vec_in(trixel, 18));
+    let class = classify_near::class_near(t, s, xs, ends, ys, marks);
+    let y1 = s.r1;
+    let y2 = s.r2;
+    let second = y1.r;
+    let third = y2.r;
+    Judged {
+        class: class,
+        second: second,
+        third: third,
+    }
+}
+
+// The open halfspaces beside a kept trixel.
+fn narrow(
+    trixel: &TrixelNumbers,
+    xs: &Halves,
+    ends: &Ends,
+    ys: &mut OpenHalves,
+    marks: &mut OpenEnds,
+)
+    requires { ⌜ KeptTrixel (now trixel) ⌝ }
+    requires { ⌜ Ready (now xs) (now ends) (countIn (now ends)) ⌝ }
+    ensures { λ _. ⌜ BesideIn (now (xs .entry)) (now (ends .entry)) (now (ys .exit)) (now (marks .exit)) ⌝ }
+{
+    let t = trixel_in(trixel);
+    let s = classify_measures::measured(t, vector_products::vec_in(trixel, 18));
+    classify_near::narrowed(t, s, xs, ends, ys, marks);
+}
+
+// A trixel is left out or accepted by its class, where it needs not be cut; whether it is so. Else it is seen.
+fn settle(j: Judged, level: Level, out: &mut [u64], s: &mut TallyNumbers) -> bool
+    requires { ⌜ Room (tallyIn (now s)) (now out) ⌝ }
+    requires { ⌜ LevelFits (level .id) (level .left) (level .span) (tallyIn (now s) .seen) ⌝ }
+    ensures { λ b. ⌜ Settled b j level (tallyIn (now (s .entry))) (now (out .entry)) (tallyIn (now (s .exit))) (now (out .exit)) ⌝ }
+{
+    let c = j.class;
+    let id = level.id;
+    let span = level.span;
+    match c {
+        Class::Outside => {
+            cutting_tally::seen_more(s);
+            true
+        }
+        Class::Full => {
+            cutting_tally::take_full(out, s, id * span, id * span + (span - 1));
+            true
+        }
         Class::Partial => {
-            if left == 0 {
-                cutting_tally::take_partial(out, b, s, id, id);
-                return;
+            if level.left == 0 {
+                cutting_tally::take_partial(out, s, id, id);
+                return true;
             }
             cutting_tally::seen_more(s);
-            let mut rays = [0i64; 6];
-            keep_rays(&mut rays, shape);
-            if classify_near::wanted(n, w) {
-                open_children(trixel, &rays, id, left - 1, span / 4, xs, es, n, b, out, s);
-                return;
-            }
-            children(
-                trixel,
-                &rays,
-                id,
-                left - 1,
-                span / 4,
-                xs,
-                es,
-                n,
-                ys,
-                ms,
-                w,
-                ps,
-                b,
-                out,
-                s,
-            );
+            false
         }
     }
 }
 
-// The four children of a trixel, by the halfspaces that are open beside it.
-fn open_children(
-    trixel: &[i64; 21],
-    rays: &[i64; 6],
-    id: u64,
-    left: u32,
-    span: u64,
-    xs: &[i64; 7 * HALFSPACES],
-    es: &[u64; CONVEXES],
-    n: usize,
-    b: usize,
-    out: &mut [u64],
-    s: &mut [u64; 10],
-)
-    requires { ⌜ KeptTrixel (now trixel) ⌝ }
-    requires { ⌜ KeptRays (now trixel) (now rays) ⌝ }
-    requires { ⌜ Ready (now xs) (now es) n ⌝ }
-    requires { ⌜ Room b (tallyIn (now s)) (now out) ⌝ }
-    requires { ⌜ ChildLevel id left span (tallyIn (now s) .seen) ⌝ }
-    ensures { λ _. ⌜ Parted (now (xs .entry)) (now (es .entry)) n b left (trixelIn (now (trixel .entry))) id (tallyIn (now (s .entry))) (now (out .entry)) (tallyIn (now (s .exit))) (now (out .exit)) ⌝ }
-    ensures { λ _. ⌜ Room b (tallyIn (now (s .exit))) (now (out .exit)) × (3 * tallyIn (now (s .exit)) .seen + 4 ≤ 3 * tallyIn (now (s .entry)) .seen + 4 * 4 ^ suc left) ⌝ }
+// The level of child number k.
+fn child_level(level: Level, k: u64) -> Level
+    requires { ⌜ Divisible level × (k < 4) ⌝ }
+    ensures { λ r. ⌜ r ≡ childLevel level k ⌝ }
 {
-    let mut ys = [0i64; 224];
-    let mut ms = [0u64; 32];
-    let mut ps = [0i64; 5];
-    let t = trixel_in(trixel);
-    let shape = classify_measures::measured(t, vector_products::vec_in(trixel, 18));
-    let w = classify_near::narrowed(t, shape, xs, es, n, &mut ys, &mut ms, &mut ps);
-    children(
-        trixel,
-        rays,
-        id,
-        left,
-        span,
-        xs,
-        es,
-        n,
-        &ys,
-        &ms,
-        w,
-        &ps,
-        b,
-        out,
-        s,
-    );
+    Level {
+        id: 4 * level.id + k,
+        left: level.left - 1,
+        span: level.span / 4,
+    }
 }
 
-// The four children of a trixel with the identifier id, each `left` levels above the depth, where it has `span` descendants. The first ray of child 0, 1
-// or 2 is the first, second or third ray of the trixel.
-fn children(
-    trixel: &[i64; 21],
-    rays: &[i64; 6],
-    id: u64,
-    left: u32,
-    span: u64,
-    xs: &[i64; 7 * HALFSPACES],
-    es: &[u64; CONVEXES],
-    n: usize,
-    ys: &[i64; 224],
-    ms: &[u64; 32],
-    w: usize,
-    ps: &[i64; 5],
-    b: usize,
+// Keeps child number k of t, which has the cut c. The first ray of child 0, 1 or 2 is the first, second or third ray of t.
+fn keep_child(sub: &mut TrixelNumbers, k: u64, t: Trixel, c: Cut, r: Vec3, j: Judged)
+    requires { ⌜ CutParts t c r j × (k < 4) ⌝ }
+    ensures { λ _. ⌜ ChildKept k t (now (sub .exit)) ⌝ }
+{
+    if k == 0 {
+        keep(sub, mesh_trixels::child0(t, c), r);
+        return;
+    }
+    if k == 1 {
+        let second = j.second;
+        keep(sub, mesh_trixels::child1(t, c), second);
+        return;
+    }
+    if k == 2 {
+        let third = j.third;
+        keep(sub, mesh_trixels::child2(t, c), third);
+        return;
+    }
+    let last = mesh_trixels::child3(t, c);
+    keep(sub, last, classify_measures::first_ray(last));
+}
+
+// The trixel of a level. The region was prepared to `xs` and `ends`; the halfspaces that are open beside a place, if some are known, stand in `ys` and
+// `marks`. The lists are in `out`, s is the tally.
+pub fn visit(
+    trixel: &TrixelNumbers,
+    level: Level,
+    xs: &Halves,
+    ends: &Ends,
+    ys: &OpenHalves,
+    marks: &OpenEnds,
     out: &mut [u64],
-    s: &mut [u64; 10],
+    s: &mut TallyNumbers,
 )
-    requires { ⌜ KeptTrixel (now trixel) ⌝ }
-    requires { ⌜ KeptRays (now trixel) (now rays) ⌝ }
-    requires { ⌜ Ready (now xs) (now es) n ⌝ }
-    requires { ⌜ Beside (now xs) (now es) n (now ys) (now ms) w (now ps) ⌝ }
-    requires { ⌜ Room b (tallyIn (now s)) (now out) ⌝ }
-    requires { ⌜ ChildLevel id left span (tallyIn (now s) .seen) ⌝ }
-    ensures { λ _. ⌜ Parted (now (xs .entry)) (now (es .entry)) n b left (trixelIn (now (trixel .entry))) id (tallyIn (now (s .entry))) (now (out .entry)) (tallyIn (now (s .exit))) (now (out .exit)) ⌝ }
-    ensures { λ _. ⌜ Room b (tallyIn (now (s .exit))) (now (out .exit)) × (3 * tallyIn (now (s .exit)) .seen + 4 ≤ 3 * tallyIn (now (s .entry)) .seen + 4 * 4 ^ suc left) ⌝ }
+    requires { ⌜ Needs (now trixel) level (now xs) (now ends) (tallyIn (now s)) (now out) ⌝ }
+    requires { ⌜ BesideIn (now xs) (now ends) (now ys) (now marks) ⌝ }
+    ensures { λ _. ⌜ Gives (now (xs .entry)) (now (ends .entry)) 1 (level .left) (foundIn level (trixelIn (now (trixel .entry)))) (tallyIn (now (s .entry))) (now (out .entry)) (tallyIn (now (s .exit))) (now (out .exit)) ⌝ }
+{
+    let j = judge(trixel, xs, ends, ys, marks);
+    if settle(j, level, out, s) {
+        return;
+    }
+    if classify_near::wanted(ends, marks) {
+        open_children(trixel, j, level, xs, ends, out, s);
+        return;
+    }
+    children(trixel, j, level, xs, ends, ys, marks, out, s);
+}
+
+// The four children of a trixel, by the halfspaces that are open beside it.
+fn open_children(
+    trixel: &TrixelNumbers,
+    j: Judged,
+    level: Level,
+    xs: &Halves,
+    ends: &Ends,
+    out: &mut [u64],
+    s: &mut TallyNumbers,
+)
+    requires { ⌜ CutNeeds (now trixel) j level (now xs) (now ends) (tallyIn (now s)) (now out) ⌝ }
+    ensures { λ _. ⌜ Gives (now (xs .entry)) (now (ends .entry)) 4 (level .left - 1) (foundBelow level (trixelIn (now (trixel .entry)))) (tallyIn (now (s .entry))) (now (out .entry)) (tallyIn (now (s .exit))) (now (out .exit)) ⌝ }
+{
+    let mut ys = [0i64; 229];
+    let mut marks = [0u64; 33];
+    narrow(trixel, xs, ends, &mut ys, &mut marks);
+    children(trixel, j, level, xs, ends, &ys, &marks, out, s);
+}
+
+// The four children of a trixel of a level, one after the other.
+fn children(
+    trixel: &TrixelNumbers,
+    j: Judged,
+    level: Level,
+    xs: &Halves,
+    ends: &Ends,
+    ys: &OpenHalves,
+    marks: &OpenEnds,
+    out: &mut [u64],
+    s: &mut TallyNumbers,
+)
+    requires { ⌜ CutNeeds (now trixel) j level (now xs) (now ends) (tallyIn (now s)) (now out) ⌝ }
+    requires { ⌜ BesideIn (now xs) (now ends) (now ys) (now marks) ⌝ }
+    ensures { λ _. ⌜ Gives (now (xs .entry)) (now (ends .entry)) 4 (level .left - 1) (foundBelow level (trixelIn (now (trixel .entry)))) (tallyIn (now (s .entry))) (now (out .entry)) (tallyIn (now (s .exit))) (now (out .exit)) ⌝ }
 {
     let t = trixel_in(trixel);
     let c = mesh_trixels::cut(t);
-    let i = 4 * id;
+    let r = vector_products::vec_in(trixel, 18);
     let mut sub = [0i64; 21];
-    keep(
-        &mut sub,
-        mesh_trixels::child0(t, c),
-        vector_products::vec_in(trixel, 18),
-    );
-    visit(&sub, i, left, span, xs, es, n, ys, ms, w, ps, b, out, s);
-    keep(
-        &mut sub,
-        mesh_trixels::child1(t, c),
-        vector_products::vec_in(rays, 0),
-    );
-    visit(&sub, i + 1, left, span, xs, es, n, ys, ms, w, ps, b, out, s);
-    keep(
-        &mut sub,
-        mesh_trixels::child2(t, c),
-        vector_products::vec_in(rays, 3),
-    );
-    visit(&sub, i + 2, left, span, xs, es, n, ys, ms, w, ps, b, out, s);
-    let last = mesh_trixels::child3(t, c);
-    keep(&mut sub, last, classify_measures::first_ray(last));
-    visit(&sub, i + 3, left, span, xs, es, n, ys, ms, w, ps, b, out, s);
+    let mut k: u64 = 0;
+    while k < 4 {
+        keep_child(&mut sub, k, t, c, r, j);
+        visit(&sub, child_level(level, k), xs, ends, ys, marks, out, s);
+        k += 1;
+    }
 }

@@ -1,11 +1,11 @@
-// The integer square root in code: a guess, tested; a step from it, tested; bisection for the rest. The rule is `root` of vector/specs/Numbers.
+// The integer square root in code: a guess, tested; two steps from it, each tested; bisection for the rest. The rule is `root` of vector/specs/Numbers.
 ghost use mathlib.Core.Path.{_≡_};
 ghost use mathlib.Core.Bool.{_&&_};
 ghost use Prim.Native.Nat.{_+_, _-_, _*_, _/_, _^_, _≤_, _<_};
 ghost use lib.Dec.{leb, ltb};
 ghost use Rattle.vector.specs.Numbers.{root};
 
-// The square root of s, rounded down: a guess, or Newton's step from it, where that is the root.
+// The square root of s, rounded down: a guess, or Newton's step from it, or the step after, where that is the root.
 pub fn isqrt(s: u64) -> u64
     requires { ⌜ s < 2 ^ 46 ⌝ }
     ensures { λ r. ⌜ r ≡ root s ⌝ }
@@ -15,11 +15,23 @@ pub fn isqrt(s: u64) -> u64
     if is_root(s, n) {
         return n;
     }
-    let m = (n + s / n) / 2;
+    let m = newton(s, n);
     if is_root(s, m) {
         return m;
     }
+    let k = newton(s, m);
+    if is_root(s, k) {
+        return k;
+    }
     bisected(s)
+}
+
+// Newton's step from n toward the root of s.
+pub fn newton(s: u64, n: u64) -> u64
+    requires { ⌜ (s < 2 ^ 46) × (0 < n) × (n < 2 ^ 46) ⌝ }
+    ensures { λ r. ⌜ r ≡ (n + s / n) / 2 ⌝ }
+{
+    (n + s / n) / 2
 }
 
 // A number near the root of s, where s is the square length of the sum of two or three near vectors.
@@ -59,7 +71,7 @@ fn near_three(s: u64) -> u64
 
 // Whether r is the root of s: r² ≤ s < (r + 1)², where (r + 1)² is r² + 2r + 1.
 pub fn is_root(s: u64, r: u64) -> bool
-    requires { ⌜ r ≤ 2 ^ 27 ⌝ }
+    requires { ⌜ r ≤ 2 ^ 28 ⌝ }
     ensures { λ t. ⌜ t ≡ (leb (r * r) s && ltb s ((r + 1) * (r + 1))) ⌝ }
 {
     r * r <= s && s - r * r <= 2 * r

@@ -19,10 +19,10 @@ abbrev μ-loop : tie.MeasureT-loop
 μ-loop r xs ends n ys₀ marks₀ most s₀ i₀ k₀ ys marks s i k = n - i
 
 same-length : tie.Need-same-length Inv-loop μ-loop
-same-length c = c .before .before .before .before .before .add-convex .kept .1 .1 .1 .1 .1 .1 .0 ∙ c .before .before .before .before .before .before .before .before .before .loop .inv .0
+same-length c = c .before .before .before .before .before .add-convex .kept .1 .1 .1 .1 .1 .0 ∙ c .before .before .before .before .before .before .before .before .before .loop .inv .0
 
 same-length-2 : tie.Need-same-length-2 Inv-loop μ-loop
-same-length-2 c = c .before .before .before .before .before .add-convex .kept .1 .1 .1 .1 .1 .1 .1 .0 ∙ c .before .before .before .before .before .before .before .before .before .loop .inv .1
+same-length-2 c = c .before .before .before .before .before .add-convex .kept .1 .1 .1 .1 .1 .1 .0 ∙ c .before .before .before .before .before .before .before .before .before .loop .inv .1
 
 returns : tie.Need-returns Inv-loop μ-loop
 returns c h = absurd (omega arith)
@@ -54,9 +54,9 @@ loop-again : tie.Need-loop-again Inv-loop μ-loop
 loop-again c =
     let l = c .before .before .before .before .before .before .before .before .before .before in
     let a = c .before .before .before .before .before .before in (
-      a .add-convex .kept .1 .1 .1 .1 .1 .1 .0 ∙ l .loop .inv .0,
-      a .add-convex .kept .1 .1 .1 .1 .1 .1 .1 .0 ∙ l .loop .inv .1,
-      λ g p. a .add-convex .ensures g (l .loop .inv .2 g p) (not-false _ (c .before .if1 .left)),
+      a .add-convex .kept .1 .1 .1 .1 .1 .0 ∙ l .loop .inv .0,
+      a .add-convex .kept .1 .1 .1 .1 .1 .1 .0 ∙ l .loop .inv .1,
+      λ g p. a .add-convex .ensures _ g (omega (arith, a .before .before .before .loop-test .taken)) (l .loop .inv .2 g p) (not-false _ (c .before .if1 .left)),
     )
 
 pub open-region-spec : {M : Type 1} → statement M
@@ -66,7 +66,7 @@ open-region-spec =
     Inv-loop
     μ-loop
     (λ c. (refl, refl, λ g p. narrow-start _ _ _ _ g p _ _ (c .before .before .pre .0 .1) (c .before .before .pre .0 .2)))
-    (λ c κs. let l = c .before .before .before in let s = l .before .before .before in let p = s .pre .1 in ((s .pre .0 .0, omega arith, s .pre .0 .3), (p .0, l .loop .inv .2 (p .0) (p .1))))
+    (λ c κs. let l = c .before .before .before in let s = l .before .before .before in let p = s .pre .1 in ((s .pre .0 .0, s .pre .0 .3), (_, omega (arith, c .before .before .loop-test .taken), p .0, l .loop .inv .2 (p .0) (p .1))))
     same-length
     same-length-2
     returns

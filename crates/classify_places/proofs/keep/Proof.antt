@@ -14,14 +14,14 @@ use Rattle.classify_places.proofs.keep.Tie as tie
 
 returns : tie.Need-returns
 returns c =
-    let s = c .before .before .before .before .before in
+    let s = c .before .before .before .before .before .before in
     let r = s .args .r in
     let ps = s .args .near .now in
-    let e = stored-same (r .reach) (c .before .before .before .struct-told .given .1 .0 .1) in
-    let m = stored-same (r .margin) (c .before .before .struct-told2 .given .1 .1 .0 .1) in
-    let l : set (set (c .store .last .0) 3 (toZ w64 (ofZ w64 (r .reach)))) 4 (toZ w64 (ofZ w64 (r .margin))) ≡ set (set (put 0 (three (r .b)) ps) 3 (r .reach)) 4 (r .margin) =
-    λ i. set (set (c .store .ensures i) 3 (e i)) 4 (m i) in
+    let e = stored-same (r .reach) (c .before .before .before .before .struct-told .given .1 .0 .1) in
+    let m = stored-same (r .margin) (c .before .before .before .struct-told2 .given .1 .1 .0 .1) in
+    let l : set (set (c .before .store .last .0) 3 (toZ w64 (ofZ w64 (r .reach)))) 4 (toZ w64 (ofZ w64 (r .margin))) ≡ set (set (put 0 (three (r .b)) ps) 3 (r .reach)) 4 (r .margin) =
+    λ i. set (set (c .before .store .ensures i) 3 (e i)) 4 (m i) in
     ap placeIn l ∙ all-cells 5 (λ ps. placeIn (set (set (put 0 (three (r .b)) ps) 3 (r .reach)) 4 (r .margin)) ≡ r) (λ a b c d e. refl) ps (search needs)
 
 pub keep-spec : {M : Type 1} → statement M
-keep-spec = tie.close (tie.spec (λ c κs. search needs) (λ c. search needs) (λ c. search needs) returns)
+keep-spec = tie.close (tie.spec (λ c κs. search needs) (λ c. search needs) (λ c. search needs) (λ c. search needs) returns)

@@ -1,5 +1,6 @@
 -- `cutting_cover::cover` prepares the rows, and covers what they were prepared to. Assumes nothing.
 use native.Mathlib.Nat.{le-refl}
+use lib.ListN.{replicate}
 use Rattle.cutting_walk.proofs.RowsLaws.{rows-fits, rows-ready}
 use Rattle.cutting_cover.proofs.cover.Statement.{statement}
 use Rattle.cutting_cover.proofs.cover.Tie as tie
@@ -13,8 +14,8 @@ cover-spec =
     let s = c .before .before .before .before .before .before .before in
     let r = s .pre .1 .0 in
     let p = c .before .before .before .prepare .ensures in
-    (s .pre .0, ((r .0, rows-ready (r .0) _ _ (r .1) _ _ (le-refl _) (le-refl _) (p .0) (p .1)), s .pre .1 .1)))
-    (λ c. c .before .before .cover-prepared .kept .1 .1 .1 .1 .1 .0)
+    (s .pre .0, ((r .0, rows-ready (r .0) _ _ (r .1) _ (replicate 65 0) (le-refl _) (le-refl _) (p .0) (p .1)), s .pre .1 .1)))
+    (λ c. c .before .before .cover-prepared .kept .1 .1 .1 .1 .0)
     (λ c g r.
     let p = c .before .before .before .before .before .before .prepare .ensures in
-    c .before .before .cover-prepared .ensures g (rows-ready g _ _ r _ _ (le-refl _) (le-refl _) (p .0) (p .1))))
+    c .before .before .cover-prepared .ensures g (rows-ready g _ _ r _ (replicate 65 0) (le-refl _) (le-refl _) (p .0) (p .1))))

@@ -17,23 +17,25 @@ wants c κs =
     let s = c .before .before in
     let b = s .args .budget in
     let out = now (s .args .out) in
-    let e = tail-lent (2 * b) out (omega arith) in
-    ((s .pre .0 .0, s .pre .0 .1, omega (arith, ap length e, length-drop (2 * b) out)), subst (λ l. Hinted (s .args .p .hint) (sizesIn 0 (s .args .p .n) l)) (sym e) (s .pre .1))
+    let e = tail-lent (2 * b) out (omega (arith, s .pre .list)) in
+    ((s .pre .budget, s .pre .few, omega (arith, s .pre .list, ap length e, length-drop (2 * b) out)), subst (λ l. Hinted (s .args .p .hint) (sizesIn 0 (s .args .p .n) l)) (sym e) (s .pre .hinted))
 
 returns : tie.Need-returns
 returns c =
     let s = c .before .before .before .before .before in
     let b = s .args .budget in
     let out = now (s .args .out) in
-    let h : 2 * b ≤ length out = omega arith in
-    let k = c .before .before .inner-push .ensures in (
-      record {
-        rest = c .before .before .inner-push .last .0;
+    let h : 2 * b ≤ length out = omega (arith, s .pre .list) in
+    let p = c .before .before .inner-push in
+    record {
+      behind = record {
+        rest = p .last .0;
         list = tail-back (2 * b) out h _;
-        keeps = subst (λ l. Keeps (innerPush b (stateOf (s .args .p) l) (range (s .args .low) (s .args .high))) l (c .before .before .inner-push .last .0) (c .before .before .inner-push .result)) (tail-lent (2 * b) out h) (k .0);
-      },
-      (k .1 .0, subst (λ l. Hinted (c .before .before .inner-push .result .hint) (sizesIn 0 (c .before .before .inner-push .result .n) l)) (sym (tail-after (2 * b) out h _)) (k .1 .1)),
-    )
+        keeps = subst (λ l. Keeps (innerPush b (stateOf (s .args .p) l) (range (s .args .low) (s .args .high))) l (p .last .0) (p .result)) (tail-lent (2 * b) out h) (p .ensures .0);
+      };
+      few = p .ensures .1 .0;
+      hinted = subst (λ l. Hinted (p .result .hint) (sizesIn 0 (p .result .n) l)) (sym (tail-after (2 * b) out h _)) (p .ensures .1 .1);
+    }
 
 pub push-inner-spec : {M : Type 1} → statement M
 push-inner-spec =

@@ -1,4 +1,4 @@
--- `vector_roots::is_root` is its two tests: for r up to 2²⁷ the square does not leave the 64 bits, and 2 r or less is left of s below the next one.
+-- `vector_roots::is_root` is its two tests: for r up to 2²⁸ the square does not leave the 64 bits, and 2 r or less is left of s below the next one.
 -- Assumes nothing.
 use Prim.Native.Nat.{_*_}
 use native.Mathlib.Nat.{mul-le-mul, lt-of-le-of-lt}

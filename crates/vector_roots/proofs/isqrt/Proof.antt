@@ -1,4 +1,4 @@
--- `vector_roots::isqrt` is the root: a guess, or the step from it, is returned only where it passes the two tests, which no other number does.
+-- `vector_roots::isqrt` is the root: a guess, or a step from it, is returned only where it passes the two tests, which no other number does.
 -- Assumes nothing.
 use Prim.Native.Nat.{ℕ, _+_, _/_, _^_, _≤_, _<_}
 use mathlib.Core.Path.{sym, _∙_}
@@ -8,9 +8,17 @@ use Rattle.vector.proofs.RootLaws.{root-tested, root-below}
 use Rattle.vector_roots.proofs.isqrt.Statement.{statement}
 use Rattle.vector_roots.proofs.isqrt.Tie as tie
 
--- how far the step leads: n is at least 2¹⁹
-step : {s n : ℕ} → s < 2 ^ 46 → 2 ^ 19 ≤ n → s / n ≤ 2 ^ 27
+-- how far a step leads: n is at least 2¹⁸
+step : {s n : ℕ} → s < 2 ^ 46 → 2 ^ 18 ≤ n → s / n ≤ 2 ^ 28
 step {s} {n} h l = div-le-of-le-mul n (omega arith)
+
+-- the first step, from a guess of at least 2¹⁹
+first : (c : tie.After-newton) → let m = c .newton .result in (2 ^ 18 ≤ m) × (m ≤ 2 ^ 28)
+first c =
+    let g = c .before .before .before .guess .ensures in
+    let e = c .newton .ensures in
+    let q = step {n = c .before .before .before .guess .result} (c .before .before .before .before .pre) (omega (arith, g)) in
+    (omega (arith, g, e), omega (arith, g, e, q))
 
 pub isqrt-spec : {M : Type 1} → statement M
 isqrt-spec =
@@ -19,13 +27,19 @@ isqrt-spec =
     (λ c κs. tt)
     (λ c κs. omega arith)
     (λ c. (root-tested (c .before .before .before .args .s) (c .before .before .guess .result) (sym (c .before .is-root .ensures) ∙ c .if1 .taken), omega arith))
-    (λ c. omega arith)
-    (λ c. record { fits = omega (arith, step (c .before .before .before .pre) (c .before .before .guess .ensures .0)) })
-    (λ c κs. omega (arith, step (c .before .before .before .pre) (c .before .before .guess .ensures .0)))
+    (λ c κs. (c .before .before .before .pre, omega arith, omega arith))
+    (λ c κs. first c .1)
     (λ c.
-    let start = c .before .before .before .before .before in
-    let n = c .before .before .before .before .guess .result in
-    let e = root-tested (start .args .s) ((n + start .args .s / n) / 2) (sym (c .before .is-root2 .ensures) ∙ c .if2 .taken) in
+    let start = c .before .before .before .before .before .before in
+    let e = root-tested (start .args .s) (c .before .before .newton .result) (sym (c .before .is-root2 .ensures) ∙ c .if2 .taken) in
     (e, root-below e (start .pre)))
-    (λ c κs. c .before .before .before .before .before .pre)
+    (λ c κs. let b = first (c .before .before) in (c .before .before .before .before .before .before .pre, omega (arith, b), omega (arith, b)))
+    (λ c κs.
+    let b = first (c .before .before .before) in
+    omega (arith, b, c .newton2 .ensures, step {n = c .before .before .before .newton .result} (c .before .before .before .before .before .before .before .pre) (b .0)))
+    (λ c.
+    let start = c .before .before .before .before .before .before .before .before .before in
+    let e = root-tested (start .args .s) (c .before .before .newton2 .result) (sym (c .before .is-root3 .ensures) ∙ c .if3 .taken) in
+    (e, root-below e (start .pre)))
+    (λ c κs. c .before .before .before .before .before .before .before .before .before .pre)
     (λ c. c .bisected .ensures))
