@@ -1,5 +1,6 @@
 -- Trixels as lists of numbers, as the cutting lends them to the next level, and what goes from a trixel to its children.
 --   trixelIn xs        the trixel of eighteen numbers: its corners, then its normals
+--   withCorners t xs, withNormals t xs   the list with the corners of t, with its normals
 --   KeptTrixel xs      the list has a small trixel, and behind it the first ray of it
 --   OtherRays t j      j has the second and the third ray of t
 --   JudgedOf t xs es j   j has the class of t for every region that was prepared to xs and es, and these rays
@@ -10,6 +11,8 @@ use mathlib.Core.Path.{_≡_}
 use mathlib.Core.List.{List}
 use lib.IntN.{ℤ}
 use Rattle.vector.specs.declared.Vec3.{Vec3}
+use Rattle.answer.specs.Lent.{put}
+use Rattle.vector.specs.Vectors.{three}
 use Rattle.vector_products.specs.Stored.{vecIn}
 use Rattle.mesh.specs.declared.Trixel.{Trixel}
 use Rattle.mesh.specs.declared.Cut.{Cut}
@@ -21,6 +24,12 @@ use Rattle.cutting_walk.specs.declared.Judged.{Judged}
 
 abbrev pub trixelIn : List ℤ → Trixel
 trixelIn xs = record { v0 = vecIn xs 0; v1 = vecIn xs 3; v2 = vecIn xs 6; p0 = vecIn xs 9; p1 = vecIn xs 12; p2 = vecIn xs 15 }
+
+abbrev pub withCorners : Trixel → List ℤ → List ℤ
+withCorners t xs = put 6 (three (t .v2)) (put 3 (three (t .v1)) (put 0 (three (t .v0)) xs))
+
+abbrev pub withNormals : Trixel → List ℤ → List ℤ
+withNormals t xs = put 15 (three (t .p2)) (put 12 (three (t .p1)) (put 9 (three (t .p0)) xs))
 
 pub record KeptTrixel (xs : List ℤ) : Type 0 where
   pub small : SmallTrixel (trixelIn xs)

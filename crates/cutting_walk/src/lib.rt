@@ -15,7 +15,7 @@ ghost use Rattle.vector_products.specs.Stored.{vecIn};
 ghost use Rattle.classify_region.specs.PreparedLists.{countIn, Ready};
 ghost use Rattle.classify_near.specs.Narrow.{BesideIn};
 ghost use Rattle.cutting_tally.specs.Tally.{tallyIn, Room};
-ghost use Rattle.cutting_walk.specs.Kept.{trixelIn, KeptTrixel, JudgedOf, CutParts, ChildKept};
+ghost use Rattle.cutting_walk.specs.Kept.{trixelIn, withCorners, withNormals, KeptTrixel, JudgedOf, CutParts, ChildKept};
 ghost use Rattle.cutting_walk.specs.Walk.{foundIn, foundBelow, childLevel, LevelFits, Divisible, Needs, CutNeeds, Gives, Settled};
 
 // A trixel as numbers: its corners, its normals and its first ray.
@@ -49,23 +49,37 @@ pub fn trixel_in(xs: &TrixelNumbers) -> Trixel
     }
 }
 
-// Keeps the trixel t and its first ray r.
-pub fn keep(xs: &mut TrixelNumbers, t: Trixel, r: Vec3)
-    ensures { λ _. ⌜ (trixelIn (now (xs .exit)) ≡ t) × (vecIn (now (xs .exit)) 18 ≡ r) ⌝ }
+// Keeps the corners of t.
+fn keep_corners(xs: &mut TrixelNumbers, t: Trixel)
+    ensures { λ _. ⌜ now (xs .exit) ≡ withCorners t (now (xs .entry)) ⌝ }
 {
     let v0 = t.v0;
     let v1 = t.v1;
     let v2 = t.v2;
-    let p0 = t.p0;
-    let p1 = t.p1;
-    let p2 = t.p2;
     vector_products::store(xs, 0, v0);
     vector_products::store(xs, 3, v1);
     vector_products::store(xs, 6, v2);
+}
+
+// Keeps the normals of t.
+fn keep_normals(xs: &mut TrixelNumbers, t: Trixel)
+    ensures { λ _. ⌜ now (xs .exit) ≡ withNormals t (now (xs .entry)) ⌝ }
+{
+    let p0 = t.p0;
+    let p1 = t.p1;
+    let p2 = t.p2;
     vector_products::store(xs, 9, p0);
     vector_products::store(xs, 12, p1);
     vector_products::store(xs, 15, p2);
+}
+
+// Keeps the trixel t and its first ray r.
+pub fn keep(xs: &mut TrixelNumbers, t: Trixel, r: Vec3)
+    ensures { λ _. ⌜ (trixelIn (now (xs .exit)) ≡ t) × (vecIn (now (xs .exit)) 18 ≡ r) ⌝ }
+{
     vector_products::store(xs, 18, r);
+    keep_corners(xs, t);
+    keep_normals(xs, t);
 }
 
 // The class of a kept trixel, and its other rays.

@@ -1,4 +1,4 @@
--- `cutting_walk::keep` stores the seven vectors one after the other, and what was stored is read back. Assumes nothing.
+-- `cutting_walk::keep` stores the ray, the corners and the normals, and what was stored is read back. Assumes nothing.
 use mathlib.Core.Path.{_≡_, refl, sym, ap, subst, _∙_}
 use mathlib.Core.List.{List}
 use lib.ListN.{length}
@@ -10,13 +10,13 @@ use Rattle.answer.specs.Lent.{put}
 use Rattle.vector.specs.Vectors.{three}
 use Rattle.vector_products.specs.Stored.{vecIn}
 use Rattle.mesh.specs.declared.Trixel.{Trixel}
-use Rattle.cutting_walk.specs.Kept.{trixelIn}
+use Rattle.cutting_walk.specs.Kept.{trixelIn, withCorners, withNormals}
 use Rattle.cutting_walk.proofs.keep.Statement.{statement}
 use Rattle.cutting_walk.proofs.keep.Tie as tie
 
 -- a list with the vectors of the trixel, and one more
 abbrev filled : Trixel → Vec3 → List ℤ → List ℤ
-filled t r xs = put 18 (three r) (put 15 (three (t .p2)) (put 12 (three (t .p1)) (put 9 (three (t .p0)) (put 6 (three (t .v2)) (put 3 (three (t .v1)) (put 0 (three (t .v0)) xs))))))
+filled t r xs = withNormals t (withCorners t (put 18 (three r) xs))
 
 abbrev Holds : Trixel → Vec3 → List ℤ → Type 0
 Holds t r xs = (trixelIn xs ≡ t) × (vecIn xs 18 ≡ r)
@@ -26,28 +26,12 @@ holds t r xs long = all-cells 21 (λ xs. Holds t r (filled t r xs)) (λ a b c d 
 
 returns : tie.Need-returns
 returns c =
-    let s6 = c .before .before in
-    let s5 = s6 .before .before in
-    let s4 = s5 .before .before in
-    let s3 = s4 .before .before in
-    let s2 = s3 .before .before in
-    let s1 = s2 .before .before in
-    let s = s1 .before .before .before .before .before .before .before .before in
+    let s = c .before .before .before .before .before .before in
     let t = s .args .t in
     let r = s .args .r in
-    let l : c .store7 .last .0 ≡ filled t r (s .args .xs .now) =
-    c .store7 .ensures ∙ ap (λ xs. put 18 (three r) xs) (s6 .store6 .ensures ∙ ap (λ xs. put 15 (three (t .p2)) xs) (s5 .store5 .ensures ∙ ap (λ xs. put 12 (three (t .p1)) xs) (s4 .store4 .ensures ∙ ap (λ xs. put 9 (three (t .p0)) xs) (s3 .store3 .ensures ∙ ap (λ xs. put 6 (three (t .v2)) xs) (s2 .store2 .ensures ∙ ap (λ xs. put 3 (three (t .v1)) xs) (s1 .store .ensures)))))) in
+    let l : c .keep-normals .last .0 ≡ filled t r (s .args .xs .now) =
+    c .keep-normals .ensures ∙ ap (withNormals t) (c .before .before .keep-corners .ensures ∙ ap (withCorners t) (c .before .before .before .before .store .ensures)) in
     subst (Holds t r) (sym l) (holds t r (s .args .xs .now) (search needs))
 
 pub keep-spec : {M : Type 1} → statement M
-keep-spec =
-    tie.close
-    (tie.spec
-    (λ c κs. search needs)
-    (λ c κs. search needs)
-    (λ c κs. search needs)
-    (λ c κs. search needs)
-    (λ c κs. search needs)
-    (λ c κs. search needs)
-    (λ c κs. search needs)
-    returns)
+keep-spec = tie.close (tie.spec (λ c κs. search needs) (λ c κs. search needs) (λ c κs. search needs) returns)
