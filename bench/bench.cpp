@@ -139,7 +139,7 @@ static bool print(const char *name, size_t count, Times t, bool same)
 
 // ---- rows
 
-static bool lookup_row(size_t n, unsigned depth)
+static std::vector<int32_t> some_points(size_t n)
 {
     std::mt19937_64 random(20261115);
     std::normal_distribution<double> normal;
@@ -149,10 +149,48 @@ static bool lookup_row(size_t n, unsigned depth)
         int32_t x = lround(a / q * K), y = lround(b / q * K), z = lround(c / q * K);
         if (literal::is_vector(x, y, z)) { p.push_back(x); p.push_back(y); p.push_back(z); }
     }
+    return p;
+}
+
+static bool lookup_row(const std::vector<int32_t> &p, unsigned depth)
+{
+    size_t n = p.size() / 3;
     std::vector<uint64_t> id(n), want(n);
     Times t = best([&] { for (size_t i = 0; i < n; i++) id[i] = lookup(p[3 * i], p[3 * i + 1], p[3 * i + 2], depth); },
                    [&] { for (size_t i = 0; i < n; i++) literal::lookup(p[3 * i], p[3 * i + 1], p[3 * i + 2], depth, want[i]); });
     return print(("lookups at depth " + std::to_string(depth)).c_str(), n, t, id == want);
+}
+
+// The same points from floats half a unit beyond them; the literal lookup takes them by C's own product and cast.
+template <class Float> static bool report_row(const char *name, const std::vector<int32_t> &p, unsigned depth, int64_t (*call)(Float, Float, Float, uint32_t))
+{
+    size_t n = p.size() / 3;
+    std::vector<Float> v;
+    for (int32_t c : p) v.push_back((Float)((abs(c) == K || c == 0 ? c : c < 0 ? c - 0.5 : c + 0.5) / K));
+    std::vector<uint64_t> id(n), want(n);
+    auto whole = [&](size_t i) { return (int32_t)(v[i] * (Float)K); };
+    Times t = best([&] { for (size_t i = 0; i < n; i++) id[i] = (uint64_t)call(v[3 * i], v[3 * i + 1], v[3 * i + 2], depth); },
+                   [&] { for (size_t i = 0; i < n; i++) literal::lookup(whole(3 * i), whole(3 * i + 1), whole(3 * i + 2), depth, want[i]); });
+    return print(name, n, t, id == want);
+}
+
+// What the floats cost by themselves: vectors of half the length, which are refused as 8 before any trixel is looked at.
+static bool refused_line(const std::vector<int32_t> &p)
+{
+    size_t n = p.size() / 3;
+    std::vector<int32_t> half;
+    std::vector<double> f64;
+    std::vector<float> f32;
+    for (int32_t c : p) { half.push_back(c / 2); f64.push_back(c / 2 / K); f32.push_back((float)(c / 2 / K)); }
+    std::vector<uint64_t> none(n);
+    std::vector<int64_t> wide(n), narrow(n);
+    Times whole = best([&] { for (size_t i = 0; i < n; i++) none[i] = lookup(half[3 * i], half[3 * i + 1], half[3 * i + 2], 12); }, [] {}, 20);
+    Times floats = best([&] { for (size_t i = 0; i < n; i++) wide[i] = htm_lookup_f64(f64[3 * i], f64[3 * i + 1], f64[3 * i + 2], 12); },
+                        [&] { for (size_t i = 0; i < n; i++) narrow[i] = htm_lookup_f32(f32[3 * i], f32[3 * i + 1], f32[3 * i + 2], 12); }, 20);
+    printf("refused as 8, ns each: from integers %.1f, from f64 %.1f, from f32 %.1f\n", whole.ours * 1000 / n, floats.ours * 1000 / n, floats.literal * 1000 / n);
+    bool same = true;
+    for (size_t i = 0; i < n; i++) same &= none[i] == 0 && wide[i] == -8 && narrow[i] == -8;
+    return same;
 }
 
 // A small cover is made several times a round, a large one in fewer rounds.
@@ -189,7 +227,11 @@ static bool small_rows()
 
 static bool large_rows()
 {
-    bool same = lookup_row(200000, 12);
+    std::vector<int32_t> points = some_points(200000);
+    bool same = lookup_row(points, 12);
+    same &= report_row("the same from f64", points, 12, htm_lookup_f64);
+    same &= report_row("the same from f32", points, 12, htm_lookup_f32);
+    same &= refused_line(points);
     for (unsigned budget : {64u, 256u, 2048u}) {
         std::string end = ", budget " + std::to_string(budget);
         for (int degrees : {1, 5, 30}) same &= cover_row("cap of " + std::to_string(degrees) + " degrees" + end, cap(degrees, budget));

@@ -14,12 +14,12 @@
  * After a refusal every lent element has its old value, and an element that a call is not said to write always keeps its own.
  *
  * Refusals, by number. A call that gives an int64_t gives -N for refusal N, and 10 comes after all other checks of the call:
- *    1 long    file over 10508 bytes             6 budget  over 2048
- *    2 torn    a record does not fit the rest    7 crowd   over 64 convexes, 100 halfspaces in one, 512 in all
- *    3 kind    unknown kind, or not its length   8 vector  a direction or a point that is no pointing
- *    4 order   records out of order, or missing  9 offset  not from -K to K
- *    5 depth   not from 1 to 12                 10 space   a lent list is too short
- *                                               11 name    no name or identifier; corners below depth 12 */
+ *    1 long    file over 10508 bytes             7 crowd   over 64 convexes, 100 halfspaces in one, 512 in all
+ *    2 torn    a record does not fit the rest    8 vector  a direction or a point that is no pointing
+ *    3 kind    unknown kind, or not its length   9 offset  not from -K to K
+ *    4 order   records out of order, or missing 10 space   a lent list is too short
+ *    5 depth   not from 1 to 12                 11 name    no name or identifier; corners below depth 12
+ *    6 budget  over 2048                        12 float   a float not finite, or beyond 1 in size */
 #ifndef HTM_H
 #define HTM_H
 
@@ -33,6 +33,12 @@ extern "C" {
 /* The identifier of the trixel of the given depth, 1 to 12, in which the pointing (x, y, z) lies.
  * 0 for a refusal: a depth not from 1 to 12, or a pointing that breaks the rule above. No identifier is 0. */
 uint64_t lookup(int32_t x, int32_t y, int32_t z, uint32_t depth);
+
+/* The same of a mount's report, three floats in double or in single precision: each is multiplied by K and truncated toward zero,
+ * so that -0.3 becomes -314572; then the lookup follows. The identifier, below 2^26.
+ * -N for refusal N: 5, then 12 where a float is a NaN, an infinity or beyond 1 in size, then 8. */
+int64_t htm_lookup_f64(double x, double y, double z, uint32_t depth);
+int64_t htm_lookup_f32(float x, float y, float z, uint32_t depth);
 
 /* The name of an identifier of depth 1 to 31, from out[0] on: S or N and as many digits 0 to 3 as the depth, in ASCII, with no
  * zero byte after it. Its length, 2 to 32.

@@ -10,6 +10,7 @@ from math import gcd, isqrt
 import cover_cases
 import htm
 import region_cases as regions
+import report_cases as reports
 from htm import K, Refused
 
 HOME = pathlib.Path(__file__).resolve().parent.parent / 'crates' / 'query'
@@ -33,6 +34,16 @@ def lookup(words):
         return 'usage'
     i = htm.lookup(tuple(numbers[:3]), numbers[3])
     return f'{i} {htm.name_of(i)}'
+
+
+def report(width):
+    def answer(words):
+        bits, depth = [reports.bits_of(w, width) for w in words[:3]], [number(w, False, 0, 2**32 - 1) for w in words[3:]]
+        if len(words) != 4 or None in bits + depth:
+            return 'usage'
+        i = htm.lookup_report(bits, width, *depth)
+        return f'{i} {htm.name_of(i)}'
+    return answer
 
 
 def with_identifier(call):
@@ -60,6 +71,8 @@ def holds(words):
 
 COMMANDS = {
     b'lookup': lookup,
+    b'double': report(64),
+    b'single': report(32),
     b'name': with_identifier(htm.name_of),
     b'id': identifier,
     b'corners': with_identifier(lambda i: ' '.join(str(c) for v in htm.corners(i) for c in v)),
@@ -393,6 +406,10 @@ def long_lines():
     yield b'id N' + b'3' * (LINE - 4)
 
 
+def mounts():
+    yield from reports.lines(DRAWS, [list(exactly(n, 12)) for n in (K - 2, K + 2)])
+
+
 def points():
     yield from regions.points(DRAWS, direction)
 
@@ -404,7 +421,7 @@ def covers():
 def cases():
     groups = (document_01, document_000, depths, borders, corners_and_middles, ties, lengths, octants, anywhere, no_vectors, identifiers, names,
               trixel_corners, regions.damaged, regions.two_faults, regions.limits, regions.edges, regions.writer_rows, points, regions.region_shapes,
-              odd_numbers, other_shapes, long_lines, covers)
+              odd_numbers, other_shapes, long_lines, covers, mounts)
     for group in groups:
         yield from group()
     yield b'id N00000000000'                        # the last line, which ends without a line feed

@@ -124,6 +124,32 @@ static size_t take_file(struct text *rest, uint8_t file[MOST])
     return n;
 }
 
+/* The bits of a float in hexadecimal digits. */
+static uint64_t take_bits(struct text *rest)
+{
+    struct text word = take_word(rest);
+    uint64_t n = 0;
+    for (size_t i = 0; i < word.n; i++)
+        n = n << 4 | (uint64_t)digit(word.at[i]);
+    return n;
+}
+
+static double take_double(struct text *rest)
+{
+    uint64_t bits = take_bits(rest);
+    double v;
+    memcpy(&v, &bits, sizeof v);
+    return v;
+}
+
+static float take_single(struct text *rest)
+{
+    uint32_t bits = (uint32_t)take_bits(rest);
+    float v;
+    memcpy(&v, &bits, sizeof v);
+    return v;
+}
+
 /* ---- lent lists: painted before a call, so that every element that it writes shows */
 
 static uint8_t colour(size_t i)
@@ -311,6 +337,28 @@ static void answer_lookup(struct text rest)
     print_name(id);
 }
 
+static void print_found(int64_t answer)
+{
+    if (print_refusal(answer))
+        return;
+    print("%" PRId64 " ", answer);
+    print_name((uint64_t)answer);
+}
+
+/* double X Y Z DEPTH */
+static void answer_double(struct text rest)
+{
+    double x = take_double(&rest), y = take_double(&rest), z = take_double(&rest);
+    print_found(htm_lookup_f64(x, y, z, (uint32_t)take_natural(&rest)));
+}
+
+/* single X Y Z DEPTH */
+static void answer_single(struct text rest)
+{
+    float x = take_single(&rest), y = take_single(&rest), z = take_single(&rest);
+    print_found(htm_lookup_f32(x, y, z, (uint32_t)take_natural(&rest)));
+}
+
 /* name ID */
 static void answer_name(struct text rest)
 {
@@ -417,10 +465,11 @@ static struct command {
     void (*answer)(struct text rest);
     struct tally tally;
 } commands[] = {
-    {"lookup", "lookup", answer_lookup, {0}},      {"name", "htm_name", answer_name, {0}},
-    {"id", "htm_identifier", answer_id, {0}},      {"corners", "htm_corners", answer_corners, {0}},
-    {"rows", "htm_read", answer_rows, {0}},        {"file", "htm_write", answer_file, {0}},
-    {"holds", "htm_holds", answer_holds, {0}},     {"cover", "htm_cover", answer_cover, {0}},
+    {"lookup", "lookup", answer_lookup, {0}},         {"double", "htm_lookup_f64", answer_double, {0}},
+    {"single", "htm_lookup_f32", answer_single, {0}}, {"name", "htm_name", answer_name, {0}},
+    {"id", "htm_identifier", answer_id, {0}},         {"corners", "htm_corners", answer_corners, {0}},
+    {"rows", "htm_read", answer_rows, {0}},           {"file", "htm_write", answer_file, {0}},
+    {"holds", "htm_holds", answer_holds, {0}},        {"cover", "htm_cover", answer_cover, {0}},
 };
 #define COMMANDS (sizeof commands / sizeof commands[0])
 

@@ -22,6 +22,8 @@ pub const SPACE: u32 = 10;
 
 pub const NAME: u32 = 11;
 
+pub const FLOAT: u32 = 12;
+
 // An identifier or a length, or the number of the first check that failed.
 pub enum Number {
     Gives(u64),

@@ -88,7 +88,7 @@ small-root false true false = lit< tt
 small-root false false true = lit< tt
 small-root false false false = lit< tt
 
-root-small : (p : Vec3) → rootNumber p < 8
+pub root-small : (p : Vec3) → rootNumber p < 8
 unfolding rootNumber
 root-small p = small-root (notNegative (p .z)) (notNegative (p .y)) (notNegative (p .x))
 
@@ -100,7 +100,7 @@ descend-low p (suc n) t i =
     let m : 4 * i * 4 ^ n ≤ (4 * i + digit p t) * 4 ^ n = mul-le-mul-right (4 ^ n) (omega arith) in
     omega (arith, descend-low p n (child (digit p t) t) (4 * i + digit p t))
 
-descend-high : (p : Vec3) (n : ℕ) (t : Trixel) (i : ℕ) → descend p n t i < (i + 1) * 4 ^ n
+pub descend-high : (p : Vec3) (n : ℕ) (t : Trixel) (i : ℕ) → descend p n t i < (i + 1) * 4 ^ n
 unfolding descend
 descend-high p zero t i = omega arith
 descend-high p (suc n) t i =

@@ -1,6 +1,7 @@
 pub mod AnswersKept
 pub mod CLaws
 pub mod CoverAnswers
+pub mod LocatedLaws
 pub mod PromiseKept
 pub mod Refusals
 pub mod Starred

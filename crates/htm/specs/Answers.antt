@@ -1,5 +1,8 @@
--- What the cover and the C entry answer, and what the cover's lent list holds afterwards. Document 01, 'The two lists' and 'What is sent back'.
+-- What the cover, the lookup of a report and the C entry answer, and what the cover's lent list holds afterwards. Document 01, 'The two lists' and
+-- 'What is sent back'; document 02, F-1.
 -- The answers of the other calls: `lookup`, `identifierOf`, `corners`, `nameAnswer` (mesh); `readAnswer`, `writeAnswer`, `pointTest` (region).
+--   located p d        the lookup of a pointing in another form: 5, then what p is refused with, then the ordinary lookup, which refuses 8
+--   lookupReport r d   the lookup of a mount's report: 5, 12, 8
 --   entry x y z d      the lookup from C: the identifier, or 0 for a refusal
 --   coverInto f before     the file that is covered, or its refusal, with 10 after all other checks
 --   coverAnswer f before   both counts and seen
@@ -10,9 +13,13 @@ use Prim.Native.Nat.{ℕ, _*_}
 use mathlib.Core.List.{List}
 use lib.ListN.{drop}
 use lib.IntN.{ℤ}
-use Rattle.answer.specs.Answer.{Answer, refused, gives, then, with-value}
+use Rattle.answer.specs.Answer.{Answer, refused, gives, check, then, with-value, Depth}
 use Rattle.answer.specs.Lent.{stored, room}
+use Rattle.vector.specs.declared.Vec3.{Vec3}
+use Rattle.vector.specs.Numbers.{isDepth}
 use Rattle.vector.specs.Vectors.{vec}
+use Rattle.mount.specs.declared.Report.{Report}
+use Rattle.mount.specs.Reports.{pointing}
 use Rattle.mesh.specs.Lookup.{lookup}
 use Rattle.region.specs.Budgets.{budgetOf}
 use Rattle.region.specs.Reader.{File, read}
@@ -20,6 +27,14 @@ use Rattle.ranges.specs.Ranges.{Range, rangesIn}
 use Rattle.cutting.specs.declared.Counts.{Counts}
 use Rattle.htm.specs.declared.CoverOf.{CoverOf}
 use Rattle.cutting.specs.Cover.{cover, countsOf, bothListed}
+
+-- ---- the lookup of a pointing that comes in another form: it is a point like any other
+
+unfoldable pub located : Answer Vec3 → ℕ → Answer ℕ
+located p d = check Depth (isDepth d) (then p (λ v. lookup v d))
+
+abbrev pub lookupReport : Report → ℕ → Answer ℕ
+lookupReport r d = located (pointing r) d
 
 -- ---- lookup from C: the identifier, or 0 for a refusal
 

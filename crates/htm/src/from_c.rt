@@ -5,15 +5,19 @@ use crate::to_c;
 use answer::SPACE;
 use cutting::COUNTED;
 use mesh::CornersOf;
+use mount::Double;
+use mount::Report;
+use mount::Single;
 use region::HeaderOf;
 use region::HeldOf;
 ghost use mathlib.Core.Path.{_≡_};
 ghost use lib.ListN.{length};
 ghost use Rattle.vector.specs.Vectors.{vec};
+ghost use Rattle.mount.specs.Reports.{singleReport, doubleReport};
 ghost use Rattle.mesh.specs.Names.{identifierOf};
 ghost use Rattle.mesh.specs.Answers.{nameAnswer, nameAfter};
 ghost use Rattle.region.specs.Answers.{pointTest, writeAnswer, writeAfter};
-ghost use Rattle.htm.specs.Answers.{orZero, entry};
+ghost use Rattle.htm.specs.Answers.{lookupReport, orZero, entry};
 ghost use Rattle.htm.specs.CalledFromC.{numberForC, heldForC, statusOf, cornersForC, cornersAfterC, readForC, rowsAfterC, headerAfterC, coverForC, coverAfterC, countsAfterC};
 
 // The lookup: the identifier, or 0 for a refusal.
@@ -22,6 +26,22 @@ pub extern "C" fn lookup(x: i32, y: i32, z: i32, depth: u32) -> u64
     ensures { λ r. ⌜ r ≡ entry x y z depth ⌝ }
 {
     to_c::or_zero(crate::locate(x, y, z, depth))
+}
+
+// The lookup of a mount's report in single precision: the identifier, or minus the number of the refusal.
+#[no_mangle]
+pub extern "C" fn htm_lookup_f32(x: f32, y: f32, z: f32, depth: u32) -> i64
+    ensures { λ r. ⌜ r ≡ numberForC (lookupReport (singleReport x y z) depth) ⌝ }
+{
+    to_c::number_or_minus(crate::locate_report(Report::Single(Single { x: x, y: y, z: z }), depth))
+}
+
+// The same in double precision.
+#[no_mangle]
+pub extern "C" fn htm_lookup_f64(x: f64, y: f64, z: f64, depth: u32) -> i64
+    ensures { λ r. ⌜ r ≡ numberForC (lookupReport (doubleReport x y z) depth) ⌝ }
+{
+    to_c::number_or_minus(crate::locate_report(Report::Double(Double { x: x, y: y, z: z }), depth))
 }
 
 // The name of an identifier, at the beginning of `out`: its length, or minus the number of the refusal.

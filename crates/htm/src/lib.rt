@@ -1,22 +1,27 @@
 // The public face: every exported call; those for a host in C stand in from_c.rt. Each answers by the rule that its contract names, for good and bad
 // input alike, and none has a `requires`. A refusal carries its number only (crate answer), and then every lent element keeps its value.
+use answer::DEPTH;
 use answer::Number;
 use answer::SPACE;
 use cutting::Counts;
 use limits::HALFSPACES;
 use mesh::CornersOf;
+use mount::Report;
 use region::HeaderOf;
 use region::HeldOf;
 use vector::Vec3;
+use vector::VectorOf;
 ghost use mathlib.Core.Path.{_≡_};
 ghost use Rattle.answer.specs.Calls.{numberOf};
 ghost use Rattle.vector.specs.Vectors.{vec};
+ghost use Rattle.vector.specs.Answers.{vectorGiven};
 ghost use Rattle.mesh.specs.Lookup as mesh_lookup;
 ghost use Rattle.mesh.specs.Names.{identifierOf};
 ghost use Rattle.mesh.specs.Identifiers as identifiers;
 ghost use Rattle.mesh.specs.Answers.{cornersGiven, nameAnswer, nameAfter};
 ghost use Rattle.region.specs.Answers.{headerGiven, readAnswer, readAfter, writeAnswer, writeAfter, heldGiven, pointTest};
-ghost use Rattle.htm.specs.Answers.{coverGiven, coverAnswer, coverAfter};
+ghost use Rattle.htm.specs.Answers as answers;
+ghost use Rattle.htm.specs.Answers.{lookupReport, coverGiven, coverAnswer, coverAfter};
 
 pub mod from_c;
 mod to_c;
@@ -42,6 +47,26 @@ pub fn locate(x: i32, y: i32, z: i32, depth: u32) -> Number
     ensures { λ r. ⌜ numberOf r ≡ mesh_lookup.lookup (vec x y z) depth ⌝ }
 {
     mesh_lookup::lookup(pointing(x, y, z), depth)
+}
+
+// The same of a mount's report, three floats of single or double precision; refusals 5, 12, 8.
+pub fn locate_report(report: Report, depth: u32) -> Number
+    ensures { λ r. ⌜ numberOf r ≡ lookupReport report depth ⌝ }
+{
+    located(mount::pointing(report), depth)
+}
+
+// The lookup of a pointing that comes in another form; refusals 5, then its own, then 8.
+fn located(said: VectorOf, depth: u32) -> Number
+    ensures { λ r. ⌜ numberOf r ≡ answers.located (vectorGiven said) depth ⌝ }
+{
+    if !limits::is_depth(depth) {
+        return Number::Refused(DEPTH);
+    }
+    match said {
+        VectorOf::Gives(p) => mesh_lookup::lookup(p, depth),
+        VectorOf::Refused(n) => Number::Refused(n),
+    }
 }
 
 // The name of an identifier, written at the beginning of `out`, and its length; refusals 11, then 10.

@@ -37,7 +37,7 @@ pub fn minus(n: u32) -> i64
     -(n as i64)
 }
 
-// A length, or minus the number of the refusal.
+// A length or an identifier to depth 12, or minus the number of the refusal.
 pub fn number_or_minus(answer: Number) -> i64
     requires { ⌜ ((n : ℕ) → numberOf answer ≡ gives n → n ≤ 2 ^ 32) ⌝ }
     ensures { λ r. ⌜ (r ≡ numberForC (numberOf answer)) × Upto (2 ^ 32) r ⌝ }

@@ -77,6 +77,18 @@ pub fn name(out: &mut Buffer, at: usize, id: u64) -> usize {
     }
 }
 
+// The answer of a lookup, and the line's end: identifier and name, or the refusal.
+pub fn located(out: &mut Buffer, at: usize, answer: Number) -> usize {
+    match answer {
+        Number::Gives(id) => {
+            let end = natural(out, at, id, b' ');
+            let end = name(out, end, id);
+            byte(out, end, b'\n')
+        },
+        Number::Refused(n) => refused(out, at, n),
+    }
+}
+
 // A length that is given as a number, up to `most`.
 pub fn least(n: u64, most: usize) -> usize
     ensures { λ r. ⌜ r ≤ most ⌝ }

@@ -88,6 +88,12 @@ fn answer(line: &[u8], out: &mut Buffer, at: usize) -> usize {
     if same(word, b"lookup") {
         return query_trixels::lookup(line, next, out, at);
     }
+    if same(word, b"double") {
+        return query_reports::double(line, next, out, at);
+    }
+    if same(word, b"single") {
+        return query_reports::single(line, next, out, at);
+    }
     if same(word, b"name") {
         return query_trixels::name(line, next, out, at);
     }

@@ -25,13 +25,7 @@ pub fn lookup(line: &[u8], next: usize, out: &mut Buffer, at: usize) -> usize {
     if !query_words::is_over(line, end) {
         return print::usage(out, at);
     }
-    match htm::locate(x, y, z, depth) {
-        Number::Gives(i) => {
-            let end = print::natural(out, at, i, b' ');
-            print_name(out, end, i)
-        },
-        Number::Refused(n) => print::refused(out, at, n),
-    }
+    print::located(out, at, htm::locate(x, y, z, depth))
 }
 
 // name ID

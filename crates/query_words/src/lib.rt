@@ -1,4 +1,4 @@
-// The words of a command line: numbers, pointings, files in hexadecimal digits and lists of numbers.
+// The words of a command line: numbers, pointings, files and floats in hexadecimal digits, lists of numbers.
 use check::same;
 ghost use mathlib.Core.Path.{_≡_};
 ghost use mathlib.Core.List.{[], _∷_};
@@ -204,6 +204,22 @@ pub fn file(word: &[u8], to: &mut [u8; MOST]) -> usize {
         to[i] = value as u8;
     }
     n
+}
+
+// The bits of a float: so many hexadecimal digits, no more and no fewer, and at most 16.
+pub fn bits_of(word: &[u8], digits: usize) -> Natural {
+    if word.len() != digits {
+        return Natural::Not;
+    }
+    let mut n: u64 = 0;
+    for i in 0..word.len() {
+        let value = digit(word[i]);
+        if 15 < value {
+            return Natural::Not;
+        }
+        n = n << 4 | value as u64;
+    }
+    Natural::Is(n)
 }
 
 // The value of a digit; 256 for another byte, so that two bytes give at most 255 only if both are digits.

@@ -1,5 +1,6 @@
 -- Numbers. Document 01, opening and 'Pointings and the mesh'.
 --   K, Kℕ          1048576, as a number with a sign and as one without
+--   signed s n     n, or −n where s
 --   quot a b       a divided by b, truncated toward zero
 --   between a b z  a ≤ z ≤ b
 --   eqZ a b        a and b are equal
@@ -9,7 +10,7 @@
 use Prim.Native.Nat.{ℕ, zero, suc, _+_, _*_, _/_}
 use mathlib.Core.Bool.{Bool, true, false, cond, _&&_}
 use lib.Dec.{leb, eqb}
-use lib.IntN.{ℤ, pos, negsuc}
+use lib.IntN.{ℤ, pos, negsuc, negℤ}
 use lib.Signed.{quotZ, leZ}
 
 abbrev pub Kℕ : ℕ
@@ -17,6 +18,9 @@ Kℕ = 1048576
 
 abbrev pub K : ℤ
 K = pos Kℕ
+
+abbrev pub signed : Bool → ℕ → ℤ
+signed s n = cond s (negℤ (pos n)) (pos n)
 
 abbrev pub quot : ℤ → ℤ → ℤ
 quot a b = quotZ a b

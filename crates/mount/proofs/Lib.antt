@@ -1,0 +1,5 @@
+pub mod WidthLaws
+pub mod NanLaws
+pub mod ValueLaws
+pub mod ProductLaws
+pub mod Examples
