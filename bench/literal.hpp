@@ -441,7 +441,7 @@ static inline Ranges reduce_inner_set(const Ranges&a,size_t budget){
     return o;
 }
 struct Cover { Ranges outer,inner; u64 seen=0; size_t raw_outer=0,raw_inner=0; u64 nonposV=0,nonposB=0; };
-static inline size_t eff_budget(i64 b){return b==0?64:(size_t)b;}
+static inline size_t eff_budget(i64 b){return b==0?16:(size_t)b;}   // document 02, F-2
 static inline Cover cover_region(const Region&reg){
     Collect c; c.reg=&reg;
     for(int k=0;k<8;k++) visit(c,8+(u64)k,1,root(k));

@@ -48,7 +48,7 @@ int64_t region_cover(const struct region *r, struct cover *c)
         answer = htm_cover(r->file, r->bytes, lists, 4 * 2048, counts, 3);
     if (answer < 0)
         return answer;
-    uint64_t depth = header[1], budget = header[2] ? header[2] : 64;
+    uint64_t depth = header[1], budget = header[2] ? header[2] : HTM_DEFAULT_BUDGET;
     c->outer = counts[0];
     c->inner = counts[1];
     c->seen = counts[2];

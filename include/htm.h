@@ -30,6 +30,9 @@
 extern "C" {
 #endif
 
+/* What a budget of 0 in a region file counts as. */
+#define HTM_DEFAULT_BUDGET 16
+
 /* The identifier of the trixel of the given depth, 1 to 12, in which the pointing (x, y, z) lies.
  * 0 for a refusal: a depth not from 1 to 12, or a pointing that breaks the rule above. No identifier is 0. */
 uint64_t lookup(int32_t x, int32_t y, int32_t z, uint32_t depth);
@@ -56,7 +59,7 @@ int64_t htm_corners(uint64_t id, int32_t *out, size_t elements);
 
 /* The rows of a region file of so many bytes, five numbers a halfspace from rows[0] on: the number of its convex, from 0 on, then
  * its direction x, y, z and its offset d. header[0] is the count of rows, header[1] the depth and header[2] the budget, as written
- * (a budget of 0 counts as 64 in a cover, and is 0 here).
+ * (a budget of 0 counts as HTM_DEFAULT_BUDGET in a cover, and is 0 here).
  * 0, or -N for refusal N: that of the file's first failed check, 1 to 9; then -10 where rows has fewer than 5 * count elements
  * (2560 are always enough) or header fewer than 3. */
 int64_t htm_read(const uint8_t *file, size_t bytes, int32_t *rows, size_t elements, uint64_t *header, size_t n);
@@ -73,7 +76,7 @@ int64_t htm_holds(const uint8_t *file, size_t bytes, int32_t x, int32_t y, int32
 
 /* The cover of a region file of so many bytes: two lists of ranges of identifiers at the depth of the file's header.
  * A range is a pair low, high, both ends in it. The outer list begins at out[0], the inner list at out[2 * budget], where budget
- * is that of the header and 0 there counts as 64. Both lists ascend and have at most budget ranges. With the identifier of a
+ * is that of the header and 0 there counts as HTM_DEFAULT_BUDGET. Both lists ascend and have at most budget ranges. With the identifier of a
  * pointing by lookup at that depth: in an inner range, the region holds the pointing; in no outer range, it does not; in an outer
  * range only, htm_holds tells.
  * counts[0] and counts[1] are how many ranges the outer and the inner list have, counts[2] how many trixels were classified.

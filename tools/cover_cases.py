@@ -82,7 +82,7 @@ def budgets(sky):
     for region, depth in shapes:
         _, outer, inner, _ = htm.cover(file_of(region, depth, 2048))
         counts = {len(r) + k for r in (outer, inner) for k in (-1, 0, 1)}
-        yield from (line(region, depth, b) for b in sorted({0, 1, 2, 3, 4, 5, 8, 15, 63, 64, 65, 2047, 2048} | counts))
+        yield from (line(region, depth, b) for b in sorted({0, 1, 2, 3, 4, 5, 8, 15, 16, 17, 63, 64, 65, 2047, 2048} | counts))
 
 
 def long_lists(sky):

@@ -275,7 +275,7 @@ static int64_t try_write(uint32_t depth, uint32_t budget, const int32_t *rows, s
     return n;
 }
 
-/* The budget is the file's, 64 where it says 0; it counts only where the file is accepted. */
+/* The budget is the file's, HTM_DEFAULT_BUDGET where it says 0; it counts only where the file is accepted. */
 static int64_t try_cover(const uint8_t *file, size_t bytes, size_t budget, uint64_t out[LISTS], uint64_t counts[THREE])
 {
     const size_t all = LISTS * sizeof out[0], three = THREE * sizeof counts[0], pair = 2 * sizeof out[0];
@@ -448,7 +448,7 @@ static void answer_cover(struct text rest)
     uint64_t header[THREE] = {0}, counts[THREE];
     size_t bytes = take_file(&rest, file);
     int64_t accepted = htm_read(file, bytes, rows, ROWS, header, THREE);
-    size_t budget = header[2] ? (size_t)header[2] : 64;
+    size_t budget = header[2] ? (size_t)header[2] : HTM_DEFAULT_BUDGET;
     int64_t answer = try_cover(file, bytes, budget, lists, counts);
     must(answer == accepted, "reader and cover refuse alike");
     if (print_refusal(answer) || accepted < 0)

@@ -19,7 +19,7 @@ pub const DEEPEST: u32 = 12;
 // The largest budget, and the one that 0 means.
 pub const LARGEST_BUDGET: u32 = 2048;
 
-pub const DEFAULT_BUDGET: usize = 64;
+pub const DEFAULT_BUDGET: usize = 16;
 
 // The limits of a region: convexes, halfspaces in a convex, halfspaces in all.
 pub const CONVEXES: usize = 64;

@@ -1,4 +1,4 @@
--- The budget that is counted with is 1 or more: 0 stands for the default. Assumes nothing.
+-- The budget that is counted with is 1 or more: 0 stands for the default, which is 16. Assumes nothing.
 use Prim.Native.Nat.{ℕ, _≤_}
 use native.Mathlib.Omega.{arith}
 use mathlib.Core.Path.{_≡_, refl}
@@ -13,3 +13,6 @@ either b false e = omega (arith, eqb-false b 0 e)
 
 pub budget-one : (b : ℕ) → 1 ≤ budgetOf b
 budget-one b = either b (eqb b 0) refl
+
+pub zero-means : budgetOf 0 ≡ 16
+zero-means = refl
