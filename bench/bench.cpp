@@ -193,6 +193,24 @@ static bool refused_line(const std::vector<int32_t> &p)
     return same;
 }
 
+// Catalogue lines of seven digits.
+static bool line_row(size_t n, unsigned depth)
+{
+    std::mt19937_64 random(20261116);
+    std::normal_distribution<double> normal;
+    std::vector<std::string> lines;
+    while (lines.size() < n) {
+        double a = normal(random), b = normal(random), c = normal(random), q = sqrt(a * a + b * b + c * c);
+        char line[64];
+        snprintf(line, sizeof line, "%.7f %.7f %.7f\n", a / q, b / q, c / q);
+        lines.push_back(line);
+    }
+    std::vector<int64_t> id(n), want(n);
+    Times t = best([&] { for (size_t i = 0; i < n; i++) id[i] = htm_lookup_line((const uint8_t *)lines[i].data(), lines[i].size(), depth); },
+                   [&] { for (size_t i = 0; i < n; i++) want[i] = literal::lookup_line(lines[i], depth); });
+    return print(("lookups of lines at depth " + std::to_string(depth)).c_str(), n, t, id == want);
+}
+
 // A small cover is made several times a round, a large one in fewer rounds.
 static bool cover_row(const std::string &name, const Bytes &file, int times = 1, int rounds = 7)
 {
@@ -232,6 +250,7 @@ static bool large_rows()
     same &= report_row("the same from f64", points, 12, htm_lookup_f64);
     same &= report_row("the same from f32", points, 12, htm_lookup_f32);
     same &= refused_line(points);
+    same &= line_row(200000, 12);
     for (unsigned budget : {64u, 256u, 2048u}) {
         std::string end = ", budget " + std::to_string(budget);
         for (int degrees : {1, 5, 30}) same &= cover_row("cap of " + std::to_string(degrees) + " degrees" + end, cap(degrees, budget));

@@ -162,6 +162,32 @@ static inline int lookup(i64 x,i64 y,i64 z,i64 depth,u64&id){
     id=r; return 0;
 }
 
+// a catalogue line: three decimals parted by one blank and closed by a line feed; the identifier, or minus the refusal
+static inline bool decimal(const std::string&w,i64&v){
+    size_t s = !w.empty()&&w[0]=='-' ? 1 : 0;
+    if(w.size()<s+3||w.size()>s+9||(w[s]!='0'&&w[s]!='1')||w[s+1]!='.') return false;
+    for(size_t k=s+2;k<w.size();k++) if(w[k]<'0'||w[k]>'9') return false;
+    i64 power=1;
+    for(size_t k=s+2;k<w.size();k++) power*=10;
+    i64 n=(strtoll(w.substr(s,1).c_str(),nullptr,10)*power+strtoll(w.c_str()+s+2,nullptr,10))*K/power;
+    v = s ? -n : n;
+    return true;
+}
+static inline int64_t lookup_line(const std::string&l,i64 depth){
+    if(depth<1||depth>12) return -5;
+    i64 p[3];
+    size_t at=0;
+    for(int k=0;k<3;k++){
+        size_t end=l.find(k<2?' ':'\n',at);
+        if(end==std::string::npos||!decimal(l.substr(at,end-at),p[k])) return -13;
+        at=end+1;
+    }
+    if(at!=l.size()) return -13;
+    u64 id=0;
+    int r=lookup(p[0],p[1],p[2],depth,id);
+    return r ? -(int64_t)r : (int64_t)id;
+}
+
 // ---------------------------------------------------------------- region files and rows
 struct Row { i64 c,x,y,z,d; };
 struct Region { i64 depth=0,budget=0; std::vector<Row> rows; };

@@ -14,12 +14,13 @@
  * After a refusal every lent element has its old value, and an element that a call is not said to write always keeps its own.
  *
  * Refusals, by number. A call that gives an int64_t gives -N for refusal N, and 10 comes after all other checks of the call:
- *    1 long    file over 10508 bytes             7 crowd   over 64 convexes, 100 halfspaces in one, 512 in all
- *    2 torn    a record does not fit the rest    8 vector  a direction or a point that is no pointing
- *    3 kind    unknown kind, or not its length   9 offset  not from -K to K
- *    4 order   records out of order, or missing 10 space   a lent list is too short
- *    5 depth   not from 1 to 12                 11 name    no name or identifier; corners below depth 12
- *    6 budget  over 2048                        12 float   a float not finite, or beyond 1 in size */
+ *    1 long    file over 10508 bytes             8 vector  a direction or a point that is no pointing
+ *    2 torn    a record does not fit the rest    9 offset  not from -K to K
+ *    3 kind    unknown kind, or not its length  10 space   a lent list is too short
+ *    4 order   records out of order, or missing 11 name    no name or identifier; corners below depth 12
+ *    5 depth   not from 1 to 12                 12 float   a float not finite, or beyond 1 in size
+ *    6 budget  over 2048                        13 line    a catalogue line of another shape
+ *    7 crowd   over 64 convexes, 100 halfspaces in one, 512 in all */
 #ifndef HTM_H
 #define HTM_H
 
@@ -42,6 +43,12 @@ uint64_t lookup(int32_t x, int32_t y, int32_t z, uint32_t depth);
  * -N for refusal N: 5, then 12 where a float is a NaN, an infinity or beyond 1 in size, then 8. */
 int64_t htm_lookup_f64(double x, double y, double z, uint32_t depth);
 int64_t htm_lookup_f32(float x, float y, float z, uint32_t depth);
+
+/* The same of a catalogue line of so many bytes, its line feed included: three decimals parted by one blank and closed by one line
+ * feed, with nothing after it, in ASCII. A decimal is an optional minus, a 0 or 1, a point and one to seven digits. Its value times K
+ * is truncated toward zero, and the sign belongs to the whole number: -0.5 is -524288, -0.0 is 0. The longest line has 33 bytes.
+ * The identifier, or -N for refusal N: 5, then 13 where the line has another shape, then 8. */
+int64_t htm_lookup_line(const uint8_t *line, size_t bytes, uint32_t depth);
 
 /* The name of an identifier of depth 1 to 31, from out[0] on: S or N and as many digits 0 to 3 as the depth, in ASCII, with no
  * zero byte after it. Its length, 2 to 32.

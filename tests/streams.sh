@@ -1,6 +1,6 @@
 #!/usr/bin/env bash
-# The programs cover and query where standard input or output fails, is closed, is interrupted or moves a few bytes only.
-# `rt check cover query` builds them; the case of interrupted calls needs cc, and programs that this machine runs itself.
+# The programs cover, query and catalogue where standard input or output fails, is closed, is interrupted or moves a few bytes only.
+# `rt check cover query catalogue` builds them; the case of interrupted calls needs cc, and programs that this machine runs itself.
 set -u
 cd "$(dirname "$0")/.."
 work=$(mktemp -d)
@@ -16,26 +16,27 @@ said() {
     fi
 }
 
-for p in cover query; do
+for p in cover query catalogue; do
     in=crates/$p/stdin
+    args=$([ ! -f crates/$p/args ] || cat crates/$p/args)
     : > "$work/out"
-    target/bin/$p < $in 2> "$work/err" > /dev/full
+    target/bin/$p $args < $in 2> "$work/err" > /dev/full
     said $p 'standard output is cut short: No space left on device'
-    target/bin/$p < $in 2> "$work/err" >&-
+    target/bin/$p $args < $in 2> "$work/err" >&-
     said $p 'standard output is cut short: Bad file descriptor'
-    target/bin/$p < / 2> "$work/err" > "$work/out"
+    target/bin/$p $args < / 2> "$work/err" > "$work/out"
     said $p 'standard input is not read to its end: Is a directory'
-    target/bin/$p <&- 2> "$work/err" > "$work/out"
+    target/bin/$p $args <&- 2> "$work/err" > "$work/out"
     said $p 'standard input is not read to its end: Bad file descriptor'
     if [ -s "$work/out" ]; then
         echo "$p: an answer to nothing"
         failed=1
     fi
-    target/bin/$p < $in 2> "$work/err" > "$work/out"
+    target/bin/$p $args < $in 2> "$work/err" > "$work/out"
     said $p ''
     if command -v cc > /dev/null && [ "$(uname -m)" = x86_64 ]; then
         cc -shared -fPIC -o "$work/interrupted.so" tests/c/interrupted.c
-        LD_PRELOAD=$work/interrupted.so target/bin/$p < $in 2> "$work/err" > "$work/out"
+        LD_PRELOAD=$work/interrupted.so target/bin/$p $args < $in 2> "$work/err" > "$work/out"
         said $p ''
         cmp "$work/out" crates/$p/stdout || failed=1
     fi

@@ -1,5 +1,5 @@
 #!/usr/bin/env python3
-"""Makes the stored cases of the program query: crates/query/stdin and crates/query/stdout.
+"""Makes the stored cases of the programs query and catalogue: stdin and stdout in crates/query and crates/catalogue.
 
 Each run writes the same bytes. The answers come from the model, tools/htm.py; how a line is read is written here again, apart from the
 program (its head, crates/query/src/main.rt, has the grammar in words)."""
@@ -9,11 +9,14 @@ from math import gcd, isqrt
 
 import cover_cases
 import htm
+import line_cases
 import region_cases as regions
 import report_cases as reports
 from htm import K, Refused
 
-HOME = pathlib.Path(__file__).resolve().parent.parent / 'crates' / 'query'
+CRATES = pathlib.Path(__file__).resolve().parent.parent / 'crates'
+HOME = CRATES / 'query'
+CATALOGUE = CRATES / 'catalogue'
 LINE = 65536                                        # the longest line, without its line feed
 
 
@@ -73,6 +76,7 @@ COMMANDS = {
     b'lookup': lookup,
     b'double': report(64),
     b'single': report(32),
+    b'line': lambda words: line_cases.answer(words, number(words[-1], False, 0, 2**32 - 1) if words else None),
     b'name': with_identifier(htm.name_of),
     b'id': identifier,
     b'corners': with_identifier(lambda i: ' '.join(str(c) for v in htm.corners(i) for c in v)),
@@ -418,10 +422,14 @@ def covers():
     yield from cover_cases.lines(DRAWS, direction, into_rule)
 
 
+def lines():
+    yield from line_cases.lines(DRAWS, direction)
+
+
 def cases():
     groups = (document_01, document_000, depths, borders, corners_and_middles, ties, lengths, octants, anywhere, no_vectors, identifiers, names,
               trixel_corners, regions.damaged, regions.two_faults, regions.limits, regions.edges, regions.writer_rows, points, regions.region_shapes,
-              odd_numbers, other_shapes, long_lines, covers, mounts)
+              odd_numbers, other_shapes, long_lines, covers, mounts, lines)
     for group in groups:
         yield from group()
     yield b'id N00000000000'                        # the last line, which ends without a line feed
@@ -432,6 +440,9 @@ def main():
     assert not any(b'\n' in l for l in lines)
     (HOME / 'stdin').write_bytes(b'\n'.join(lines))
     (HOME / 'stdout').write_bytes(b''.join(answer(l).encode() + b'\n' for l in lines))
+    text = line_cases.text(DRAWS, direction)
+    (CATALOGUE / 'stdin').write_bytes(text)
+    (CATALOGUE / 'stdout').write_text(''.join(a + '\n' for a in line_cases.catalogue(text, int((CATALOGUE / 'args').read_text()))))
 
 
 if __name__ == '__main__':

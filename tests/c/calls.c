@@ -359,6 +359,14 @@ static void answer_single(struct text rest)
     print_found(htm_lookup_f32(x, y, z, (uint32_t)take_natural(&rest)));
 }
 
+/* line HEX DEPTH */
+static void answer_line(struct text rest)
+{
+    static uint8_t bytes[MOST];
+    size_t n = take_file(&rest, bytes);
+    print_found(htm_lookup_line(bytes, n, (uint32_t)take_natural(&rest)));
+}
+
 /* name ID */
 static void answer_name(struct text rest)
 {
@@ -466,10 +474,11 @@ static struct command {
     struct tally tally;
 } commands[] = {
     {"lookup", "lookup", answer_lookup, {0}},         {"double", "htm_lookup_f64", answer_double, {0}},
-    {"single", "htm_lookup_f32", answer_single, {0}}, {"name", "htm_name", answer_name, {0}},
-    {"id", "htm_identifier", answer_id, {0}},         {"corners", "htm_corners", answer_corners, {0}},
-    {"rows", "htm_read", answer_rows, {0}},           {"file", "htm_write", answer_file, {0}},
-    {"holds", "htm_holds", answer_holds, {0}},        {"cover", "htm_cover", answer_cover, {0}},
+    {"single", "htm_lookup_f32", answer_single, {0}}, {"line", "htm_lookup_line", answer_line, {0}},
+    {"name", "htm_name", answer_name, {0}},           {"id", "htm_identifier", answer_id, {0}},
+    {"corners", "htm_corners", answer_corners, {0}},  {"rows", "htm_read", answer_rows, {0}},
+    {"file", "htm_write", answer_file, {0}},          {"holds", "htm_holds", answer_holds, {0}},
+    {"cover", "htm_cover", answer_cover, {0}},
 };
 #define COMMANDS (sizeof commands / sizeof commands[0])
 

@@ -1,6 +1,6 @@
 -- Answers. Document 01, 'What is sent back': every call gives its values, or refuses with one number.
 --   Answer A       refused n, or gives a with a of the type A
---   Long .. Float  the twelve numbers by their words; Float is of document 02, F-1
+--   Long .. Line   the thirteen numbers by their words; Float and Line are of document 02, F-1 and F-3
 --   check n t a    the refusal n unless the test t passes, else the answer a
 --   then a f       f of what a gives; a refusal stays
 --   with-value     an answer's value changed; a refusal stays
@@ -46,6 +46,9 @@ Name = 11
 
 abbrev pub Float : ℕ
 Float = 12
+
+abbrev pub Line : ℕ
+Line = 13
 
 module _ {A : Type 0} where
   abbrev pub check : ℕ → Bool → Answer A → Answer A

@@ -24,6 +24,8 @@ pub const NAME: u32 = 11;
 
 pub const FLOAT: u32 = 12;
 
+pub const LINE: u32 = 13;
+
 // An identifier or a length, or the number of the first check that failed.
 pub enum Number {
     Gives(u64),

@@ -5,6 +5,7 @@ use native.Mathlib.Nat.{pow-le-pow-right, mul-le-mul}
 use native.Mathlib.Omega.{arith}
 use mathlib.Core.Path.{_≡_, sym}
 use mathlib.Core.Bool.{true, false}
+use mathlib.Core.List.{List}
 use lib.Dec.{lit<}
 use Rattle.answer.specs.Answer.{Answer, refused, gives, check, then, Depth, Vector}
 use Rattle.answer.proofs.AnswerLaws.{check-passed, check-gives, then-gives, same-value}
@@ -14,10 +15,11 @@ use Rattle.vector.specs.Vectors.{isVector}
 use Rattle.vector.proofs.DepthLaws.{depth-range}
 use Rattle.mount.specs.declared.Report.{Report}
 use Rattle.mount.specs.Reports.{pointing}
+use Rattle.lines.specs.Lines.{pointingIn}
 use Rattle.mesh.specs.Trixels.{rootTrixel}
 use Rattle.mesh.specs.Lookup.{rootNumber, identifier, lookup}
 use Rattle.cutting.proofs.CuttingLaws.{root-small, descend-high}
-use Rattle.htm.specs.Answers.{located, lookupReport}
+use Rattle.htm.specs.Answers.{located, lookupReport, locateLine}
 
 -- ---- the lookup
 
@@ -71,7 +73,10 @@ module _ (p : Answer Vec3) (d : ℕ) where
       let h = lookup-is (t .0) d i (t .3) in
       omega (arith, identifier-small (t .0) d (h .1), h .2)
 
--- ---- a mount's report
+-- ---- a mount's report, a catalogue line
 
 pub report-located : (r : Report) (d i : ℕ) → lookupReport r d ≡ gives i → GivenAt (pointing r) d i
 report-located r d = located-at (pointing r) d
+
+pub line-located : (l : List ℕ) (d i : ℕ) → locateLine l d ≡ gives i → GivenAt (pointingIn l) d i
+line-located l d = located-at (pointingIn l) d

@@ -1,8 +1,9 @@
--- What the cover, the lookup of a report and the C entry answer, and what the cover's lent list holds afterwards. Document 01, 'The two lists' and
--- 'What is sent back'; document 02, F-1.
+-- What the cover, the lookups of a report and of a catalogue line and the C entry answer, and what the cover's lent list holds afterwards. Document 01,
+-- 'The two lists' and 'What is sent back'; document 02, F-1 and F-3.
 -- The answers of the other calls: `lookup`, `identifierOf`, `corners`, `nameAnswer` (mesh); `readAnswer`, `writeAnswer`, `pointTest` (region).
 --   located p d        the lookup of a pointing in another form: 5, then what p is refused with, then the ordinary lookup, which refuses 8
 --   lookupReport r d   the lookup of a mount's report: 5, 12, 8
+--   locateLine l d     the lookup of a catalogue line: 5, 13, 8
 --   entry x y z d      the lookup from C: the identifier, or 0 for a refusal
 --   coverInto f before     the file that is covered, or its refusal, with 10 after all other checks
 --   coverAnswer f before   both counts and seen
@@ -20,6 +21,7 @@ use Rattle.vector.specs.Numbers.{isDepth}
 use Rattle.vector.specs.Vectors.{vec}
 use Rattle.mount.specs.declared.Report.{Report}
 use Rattle.mount.specs.Reports.{pointing}
+use Rattle.lines.specs.Lines.{pointingIn}
 use Rattle.mesh.specs.Lookup.{lookup}
 use Rattle.region.specs.Budgets.{budgetOf}
 use Rattle.region.specs.Reader.{File, read}
@@ -35,6 +37,9 @@ located p d = check Depth (isDepth d) (then p (λ v. lookup v d))
 
 abbrev pub lookupReport : Report → ℕ → Answer ℕ
 lookupReport r d = located (pointing r) d
+
+abbrev pub locateLine : List ℕ → ℕ → Answer ℕ
+locateLine l d = located (pointingIn l) d
 
 -- ---- lookup from C: the identifier, or 0 for a refusal
 

@@ -1,7 +1,7 @@
 -- The calls for a host in C: a number instead of an answer. Document 01, 'What is sent back', 'Regions' and 'The two lists'.
 -- A refusal is minus its number, and comes before any list is written. The lookup and the identifier of a name give 0 instead: `entry`, `orZero` (Answers).
 --   numberForC a         the number that is asked for, or minus the number of the refusal: the lengths of `nameAnswer` (mesh) and `writeAnswer` (region),
---                        the identifier of `lookupReport` (Answers)
+--                        the identifiers of `lookupReport` and `locateLine` (Answers)
 --   heldForC a           1 held, 0 not, or minus the number of the refusal
 --   statusOf a           0, or minus the number of the refusal
 --   cornersForC i out, cornersAfterC   the corners or the refusal, 11, then 10; the lent list afterwards: x, y, z of each corner

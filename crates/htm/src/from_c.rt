@@ -17,7 +17,7 @@ ghost use Rattle.mount.specs.Reports.{singleReport, doubleReport};
 ghost use Rattle.mesh.specs.Names.{identifierOf};
 ghost use Rattle.mesh.specs.Answers.{nameAnswer, nameAfter};
 ghost use Rattle.region.specs.Answers.{pointTest, writeAnswer, writeAfter};
-ghost use Rattle.htm.specs.Answers.{lookupReport, orZero, entry};
+ghost use Rattle.htm.specs.Answers.{lookupReport, locateLine, orZero, entry};
 ghost use Rattle.htm.specs.CalledFromC.{numberForC, heldForC, statusOf, cornersForC, cornersAfterC, readForC, rowsAfterC, headerAfterC, coverForC, coverAfterC, countsAfterC};
 
 // The lookup: the identifier, or 0 for a refusal.
@@ -42,6 +42,14 @@ pub extern "C" fn htm_lookup_f64(x: f64, y: f64, z: f64, depth: u32) -> i64
     ensures { λ r. ⌜ r ≡ numberForC (lookupReport (doubleReport x y z) depth) ⌝ }
 {
     to_c::number_or_minus(crate::locate_report(Report::Double(Double { x: x, y: y, z: z }), depth))
+}
+
+// The lookup of a catalogue line: the identifier, or minus the number of the refusal.
+#[no_mangle]
+pub extern "C" fn htm_lookup_line(line: &[u8], depth: u32) -> i64
+    ensures { λ r. ⌜ r ≡ numberForC (locateLine (now (line .entry)) depth) ⌝ }
+{
+    to_c::number_or_minus(crate::locate_line(line, depth))
 }
 
 // The name of an identifier, at the beginning of `out`: its length, or minus the number of the refusal.

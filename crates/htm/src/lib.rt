@@ -21,7 +21,7 @@ ghost use Rattle.mesh.specs.Identifiers as identifiers;
 ghost use Rattle.mesh.specs.Answers.{cornersGiven, nameAnswer, nameAfter};
 ghost use Rattle.region.specs.Answers.{headerGiven, readAnswer, readAfter, writeAnswer, writeAfter, heldGiven, pointTest};
 ghost use Rattle.htm.specs.Answers as answers;
-ghost use Rattle.htm.specs.Answers.{lookupReport, coverGiven, coverAnswer, coverAfter};
+ghost use Rattle.htm.specs.Answers.{lookupReport, locateLine, coverGiven, coverAnswer, coverAfter};
 
 pub mod from_c;
 mod to_c;
@@ -54,6 +54,13 @@ pub fn locate_report(report: Report, depth: u32) -> Number
     ensures { λ r. ⌜ numberOf r ≡ lookupReport report depth ⌝ }
 {
     located(mount::pointing(report), depth)
+}
+
+// The same of a catalogue line, its line feed included; refusals 5, 13, 8.
+pub fn locate_line(line: &[u8], depth: u32) -> Number
+    ensures { λ r. ⌜ numberOf r ≡ locateLine (now (line .entry)) depth ⌝ }
+{
+    located(lines::pointing_in(line), depth)
 }
 
 // The lookup of a pointing that comes in another form; refusals 5, then its own, then 8.

@@ -3,6 +3,7 @@
 //   lookup X Y Z DEPTH   identifier and name of the trixel that holds a pointing
 //   double X Y Z DEPTH   the same of a mount's report: the bits of three f64, 16 hexadecimal digits each
 //   single X Y Z DEPTH   the same of three f32, 8 digits each
+//   line HEX DEPTH       the same of a catalogue line, its line feed included
 //   name ID              the name of an identifier
 //   id NAME              the identifier of a name
 //   corners ID           nine numbers: v0 v1 v2, each x y z
@@ -12,9 +13,9 @@
 //   cover HEX            the lines that program cover prints for a file, joined by `|`
 //
 // A refusal is answered `refused N`, a line of another shape `usage`. Words are parted by one blank; numbers are decimal, X Y Z with an
-// optional minus. HEX is a file in hexadecimal digits, or `-` for one with no bytes. The letters of hexadecimal digits are small or capital. A line
-// ends with a line feed; the last line may do without. A line of more than 65536 bytes is of another shape. Where a read or a write fails, standard
-// error says so and no line more is answered.
+// optional minus. HEX is a file or a line in hexadecimal digits, or `-` for one with no bytes. The letters of hexadecimal digits are small or capital.
+// A line ends with a line feed; the last line may do without. A line of more than 65536 bytes is of another shape. Where a read or a write fails,
+// standard error says so and no line more is answered.
 
 fn main() {
     let mut line = io::large_buffer();

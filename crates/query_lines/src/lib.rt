@@ -94,6 +94,9 @@ fn answer(line: &[u8], out: &mut Buffer, at: usize) -> usize {
     if same(word, b"single") {
         return query_reports::single(line, next, out, at);
     }
+    if same(word, b"line") {
+        return query_trixels::line(line, next, out, at);
+    }
     if same(word, b"name") {
         return query_trixels::name(line, next, out, at);
     }

@@ -1,8 +1,9 @@
-// The commands of query about trixels: lookup, name, id, corners. Each is answered from the word at `next` on.
+// The commands of query about trixels: lookup, line, name, id, corners. Each is answered from the word at `next` on.
 use answer::Number;
 use mesh::Corners;
 use mesh::CornersOf;
 use print::Buffer;
+use query_words::MOST;
 use query_words::Natural;
 use query_words::NaturalAt;
 use query_words::PointAt;
@@ -26,6 +27,29 @@ pub fn lookup(line: &[u8], next: usize, out: &mut Buffer, at: usize) -> usize {
         return print::usage(out, at);
     }
     print::located(out, at, htm::locate(x, y, z, depth))
+}
+
+// line HEX DEPTH
+pub fn line(line: &[u8], next: usize, out: &mut Buffer, at: usize) -> usize {
+    let NaturalAt::Is(depth, end) = query_words::natural_at(line, query_words::after(line, next))
+    else {
+        return print::usage(out, at);
+    };
+    if !query_words::is_over(line, end) {
+        return print::usage(out, at);
+    }
+    let mut bytes = [0u8; MOST];
+    let n = query_words::file(query_words::word(line, next), &mut bytes);
+    locate_line(&bytes, n, depth, out, at)
+}
+
+// The lookup of a catalogue line of n bytes, if it has a length.
+fn locate_line(bytes: &[u8; MOST], n: usize, depth: u32, out: &mut Buffer, at: usize) -> usize {
+    let all: &[u8] = bytes;
+    if all.len() < n {
+        return print::usage(out, at);
+    }
+    print::located(out, at, htm::locate_line(&all[0..n], depth))
 }
 
 // name ID

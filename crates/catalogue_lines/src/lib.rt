@@ -1,0 +1,111 @@
+// Lines of a catalogue, each looked up as it ends. A line that lies in one block of the input is answered where it lies; of one that does not, the bytes
+// are kept until it ends. After a read that failed the line that has begun is not answered, and after a write that failed nothing more is read.
+use print::Buffer;
+use print::LOST;
+use streams::Input;
+
+// A loop must end, and no run reads so many blocks.
+const BLOCKS: u64 = u64::MAX;
+
+// So many bytes of a line are kept: more than the longest line has, so that what is kept of a longer one is too long too.
+pub const KEPT: usize = 64;
+
+// Between two parts of the input: how many bytes of a line are kept, and the place in what is printed.
+struct Place {
+    kept: usize,
+    at: usize,
+}
+
+// Answers the lines of the input. The result is how many bytes `line` holds of a last one that has no line feed and is to be answered.
+pub fn answer_lines(depth: u32, line: &mut [u8; KEPT], out: &mut Buffer) -> usize {
+    let mut block = io::large_buffer();
+    let mut kept = 0;
+    for _ in 0..BLOCKS {
+        let Input::Bytes(n) = streams::read(&mut block) else {
+            return 0;
+        };
+        if n == 0 {
+            return kept;
+        }
+        let place = answer_block(&block[..n], depth, line, kept, out);
+        if place.at == LOST {
+            return 0;
+        }
+        kept = place.kept;
+    }
+    0
+}
+
+// Answers the lines that end in a block; `line` has so many bytes of the first one already.
+fn answer_block(
+    block: &[u8],
+    depth: u32,
+    line: &mut [u8; KEPT],
+    kept: usize,
+    out: &mut Buffer,
+) -> Place {
+    let mut place = Place { kept: kept, at: 0 };
+    let mut start = 0;
+    while start < block.len() {
+        let end = bytes::scan::find(block, start, block.len(), b'\n');
+        if end < block.len() {
+            place = answer_part(&block[start..end + 1], depth, line, place, out);
+            start = end + 1;
+        } else {
+            place = keep_part(&block[start..], line, place);
+            start = end;
+        }
+    }
+    Place {
+        kept: place.kept,
+        at: print::flush(out, place.at),
+    }
+}
+
+// The part of a line that ends it: the whole line, or what is left of one whose beginning is kept.
+fn answer_part(
+    part: &[u8],
+    depth: u32,
+    line: &mut [u8; KEPT],
+    place: Place,
+    out: &mut Buffer,
+) -> Place {
+    if place.kept == 0 {
+        return Place {
+            kept: 0,
+            at: print::located(out, place.at, htm::locate_line(part, depth)),
+        };
+    }
+    let n = keep(line, place.kept, part);
+    Place {
+        kept: 0,
+        at: answer_kept(depth, line, n, out, place.at),
+    }
+}
+
+fn keep_part(part: &[u8], line: &mut [u8; KEPT], place: Place) -> Place {
+    Place {
+        kept: keep(line, place.kept, part),
+        at: place.at,
+    }
+}
+
+// More bytes of a line, while there is room for them. The result is how many bytes are kept.
+fn keep(line: &mut [u8; KEPT], kept: usize, part: &[u8]) -> usize {
+    let mut n = kept;
+    for i in 0..part.len() {
+        if KEPT <= n {
+            return n;
+        }
+        line[n] = part[i];
+        n += 1;
+    }
+    n
+}
+
+// Answers a line of which n bytes are kept.
+pub fn answer_kept(depth: u32, line: &[u8; KEPT], n: usize, out: &mut Buffer, at: usize) -> usize {
+    let all: &[u8] = line;
+    let k = print::least(n as u64, KEPT);
+    print::located(out, at, htm::locate_line(&all[0..k], depth))
+}
