@@ -219,14 +219,15 @@ static bool cover_row(const std::string &name, const Bytes &file, int times = 1,
     size_t budget = literal::eff_budget(region.budget);
     literal::Cover cover;
     std::vector<uint64_t> out(4 * budget, UNTOUCHED), want = out;
-    uint64_t counts[3] = {0, 0, 0};
+    uint64_t counts[6] = {0, 0, 0, 0, 0, 0};
     int64_t answer = 0;
-    Times t = best([&] { for (int k = 0; k < times; k++) answer = htm_cover(file.data(), file.size(), out.data(), out.size(), counts, 3); },
+    Times t = best([&] { for (int k = 0; k < times; k++) answer = htm_cover(file.data(), file.size(), out.data(), out.size(), counts, 6); },
                    [&] { for (int k = 0; k < times; k++) { literal::Region r; if (!literal::read_file(file, r)) cover = literal::cover_region(r); } }, rounds);
     t.ours /= times; t.literal /= times;
     for (size_t k = 0; k < cover.outer.size(); k++) { want[2 * k] = cover.outer[k].first; want[2 * k + 1] = cover.outer[k].second; }
     for (size_t k = 0; k < cover.inner.size(); k++) { want[2 * (budget + k)] = cover.inner[k].first; want[2 * (budget + k) + 1] = cover.inner[k].second; }
-    bool same = answer == 0 && counts[0] == cover.outer.size() && counts[1] == cover.inner.size() && counts[2] == cover.seen && out == want;
+    bool same = answer == 0 && counts[0] == cover.outer.size() && counts[1] == cover.inner.size() && counts[2] == cover.seen && counts[3] == cover.full
+                && counts[4] == cover.partial && counts[5] == cover.swallowed && out == want;
     return print(name.c_str(), cover.seen, t, same);
 }
 

@@ -1,4 +1,4 @@
-// The rules of document 01 written down literally in C++ with 128-bit integers, unproved: what the benchmarks compare with.
+// The rules of document 01, and of document 02's F-4, written down literally in C++ with 128-bit integers, unproved: what the benchmarks compare with.
 #pragma once
 #include <cstdint>
 #include <cstdio>
@@ -390,7 +390,7 @@ static inline int class_region(const Geo&g,const Region&reg){
 typedef std::pair<u64,u64> Range;
 typedef std::vector<Range> Ranges;
 
-struct Collect { const Region*reg; Ranges outer,inner; u64 seen=0; u64 nonposV=0,nonposB=0; };
+struct Collect { const Region*reg; Ranges outer,inner; u64 seen=0,full=0,partial=0; u64 nonposV=0,nonposB=0; };
 static inline void visit(Collect&c,u64 id,int d,const Trixel&t){
     Geo g=geo(t);
     c.seen++;
@@ -403,7 +403,7 @@ static inline void visit(Collect&c,u64 id,int d,const Trixel&t){
         int s=2*(D-d);
         Range r(id<<s,((id+1)<<s)-1);
         c.outer.push_back(r);
-        if(k==FULL) c.inner.push_back(r);
+        if(k==FULL){c.inner.push_back(r);c.full+=(u64)1<<s;} else c.partial++;
         return;
     }
     Cut q=cut(t);
@@ -417,14 +417,15 @@ static inline Ranges join_touching(const Ranges&a){
     }
     return o;
 }
-// literal: one join / one drop at a time
-static inline Ranges reduce_outer_naive(Ranges a,size_t budget){
+// literal: one join / one drop at a time; swallowed gains what lies in each gap that is joined over
+static inline Ranges reduce_outer_naive(Ranges a,size_t budget,u64&swallowed){
     while(a.size()>budget){
         size_t best=0; u64 bg=0; bool have=false;
         for(size_t i=0;i+1<a.size();i++){
             u64 gap=a[i+1].first-a[i].second;
             if(!have||gap<bg){have=true;bg=gap;best=i;}
         }
+        swallowed+=bg-1;
         a[best].second=a[best+1].second;
         a.erase(a.begin()+(long)best+1);
     }
@@ -442,13 +443,13 @@ static inline Ranges reduce_inner_naive(Ranges a,size_t budget){
     return a;
 }
 // the same, with an ordered set to find the smallest / earliest quickly (long lists)
-static inline Ranges reduce_outer_set(const Ranges&a,size_t budget){
+static inline Ranges reduce_outer_set(const Ranges&a,size_t budget,u64&swallowed){
     if(a.size()<=budget) return a;
     std::set<std::pair<u64,size_t>> q;             // (gap, position); gaps never change by joining
     for(size_t i=0;i+1<a.size();i++) q.insert({a[i+1].first-a[i].second,i});
     std::vector<char> joined(a.size(),0);
     size_t n=a.size();
-    while(n>budget){auto it=q.begin();joined[it->second]=1;q.erase(it);n--;}
+    while(n>budget){auto it=q.begin();joined[it->second]=1;swallowed+=it->first-1;q.erase(it);n--;}
     Ranges o;
     for(size_t i=0;i<a.size();i++){
         if(i>0&&joined[i-1]) o.back().second=a[i].second; else o.push_back(a[i]);
@@ -466,16 +467,16 @@ static inline Ranges reduce_inner_set(const Ranges&a,size_t budget){
     for(size_t i=0;i<a.size();i++) if(!gone[i]) o.push_back(a[i]);
     return o;
 }
-struct Cover { Ranges outer,inner; u64 seen=0; size_t raw_outer=0,raw_inner=0; u64 nonposV=0,nonposB=0; };
+struct Cover { Ranges outer,inner; u64 seen=0,full=0,partial=0,swallowed=0; size_t raw_outer=0,raw_inner=0; u64 nonposV=0,nonposB=0; };
 static inline size_t eff_budget(i64 b){return b==0?16:(size_t)b;}   // document 02, F-2
 static inline Cover cover_region(const Region&reg){
     Collect c; c.reg=&reg;
     for(int k=0;k<8;k++) visit(c,8+(u64)k,1,root(k));
-    Cover o; o.seen=c.seen; o.nonposV=c.nonposV; o.nonposB=c.nonposB;
+    Cover o; o.seen=c.seen; o.full=c.full; o.partial=c.partial; o.nonposV=c.nonposV; o.nonposB=c.nonposB;
     Ranges a=join_touching(c.outer), b=join_touching(c.inner);
     o.raw_outer=a.size(); o.raw_inner=b.size();
     size_t B=eff_budget(reg.budget);
-    if(a.size()<=3000) o.outer=reduce_outer_naive(a,B); else o.outer=reduce_outer_set(a,B);
+    if(a.size()<=3000) o.outer=reduce_outer_naive(a,B,o.swallowed); else o.outer=reduce_outer_set(a,B,o.swallowed);
     if(b.size()<=3000) o.inner=reduce_inner_naive(b,B); else o.inner=reduce_inner_set(b,B);
     return o;
 }
@@ -484,7 +485,8 @@ static inline std::string cover_text(const Bytes&f,char sep){
     if(e) return "refused "+std::to_string(e);
     Cover c=cover_region(g);
     std::string s="depth "+std::to_string(g.depth)+" outer "+std::to_string(c.outer.size())
-        +" inner "+std::to_string(c.inner.size())+" seen "+std::to_string(c.seen);
+        +" inner "+std::to_string(c.inner.size())+" seen "+std::to_string(c.seen)
+        +" full "+std::to_string(c.full)+" partial "+std::to_string(c.partial)+" swallowed "+std::to_string(c.swallowed);
     std::string a,b;
     for(const Range&r:c.outer){name_of(r.first,a);name_of(r.second,b);s+=sep;s+="o "+a+" "+b;}
     for(const Range&r:c.inner){name_of(r.first,a);name_of(r.second,b);s+=sep;s+="i "+a+" "+b;}

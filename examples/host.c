@@ -49,14 +49,15 @@ int main(void)
             printf("frame %d: no pointing, not filed\n", f->number);
     }
 
-    uint64_t lists[4 * BUDGET], counts[3];
-    int64_t answer = htm_cover(region, sizeof region, lists, 4 * BUDGET, counts, 3);
+    uint64_t lists[4 * BUDGET], counts[6];
+    int64_t answer = htm_cover(region, sizeof region, lists, 4 * BUDGET, counts, 6);
     if (answer < 0) {
         printf("refused %" PRId64 "\n", -answer);
         return 1;
     }
     const uint64_t *outer = lists, *inner = lists + 2 * BUDGET;
     printf("outer ranges %" PRIu64 ", inner ranges %" PRIu64 ", trixels seen %" PRIu64 "\n", counts[0], counts[1], counts[2]);
+    printf("identifiers: full %" PRIu64 ", partial %" PRIu64 ", swallowed %" PRIu64 "\n", counts[3], counts[4], counts[5]);
 
     for (unsigned i = 0; i < n; i++) {
         const struct frame *f = &frames[i];

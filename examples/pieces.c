@@ -42,10 +42,10 @@ int64_t region_cover(const struct region *r, struct cover *c)
 {
     static int32_t rows[ROW_ELEMENTS];
     static uint64_t lists[4 * 2048];
-    uint64_t header[3], counts[3];
+    uint64_t header[3], counts[6];
     int64_t answer = htm_read(r->file, r->bytes, rows, ROW_ELEMENTS, header, 3);
     if (answer == 0)
-        answer = htm_cover(r->file, r->bytes, lists, 4 * 2048, counts, 3);
+        answer = htm_cover(r->file, r->bytes, lists, 4 * 2048, counts, 6);
     if (answer < 0)
         return answer;
     uint64_t depth = header[1], budget = header[2] ? header[2] : HTM_DEFAULT_BUDGET;

@@ -87,9 +87,11 @@ int64_t htm_holds(const uint8_t *file, size_t bytes, int32_t x, int32_t y, int32
  * pointing by lookup at that depth: in an inner range, the region holds the pointing; in no outer range, it does not; in an outer
  * range only, htm_holds tells.
  * counts[0] and counts[1] are how many ranges the outer and the inner list have, counts[2] how many trixels were classified.
- * The elements of out that belong to no range keep their values, and so do the elements of counts from 3 on.
+ * counts[3] to counts[5] are in identifiers at the depth: those below full trixels, the partial trixels, and those in the gaps
+ * that the outer list was joined over to keep to the budget. Their sum is how many identifiers the outer ranges contain.
+ * The elements of out that belong to no range keep their values, and so do the elements of counts from 6 on.
  * 0, or -N for refusal N: that of the file's first failed check, 1 to 9; then -10 where out has fewer than 4 * budget elements, at
- * most 8192, or counts fewer than 3. */
+ * most 8192, or counts fewer than 6. */
 int64_t htm_cover(const uint8_t *file, size_t bytes, uint64_t *out, size_t elements, uint64_t *counts, size_t n);
 
 #ifdef __cplusplus

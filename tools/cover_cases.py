@@ -80,7 +80,7 @@ def budgets(sky):
     tilted = sky.direction()
     shapes = [(cap(NORTH, DEGREE[60]), 4), (cap(AXES[1], 300000), 5), (cap(tilted, DEGREE[30]), 6), ([sky.polygon(tilted, 4, 300)], 7), (cap((K3, K3, -K3), 1000), 4)]
     for region, depth in shapes:
-        _, outer, inner, _ = htm.cover(file_of(region, depth, 2048))
+        _, outer, inner, *_ = htm.cover(file_of(region, depth, 2048))
         counts = {len(r) + k for r in (outer, inner) for k in (-1, 0, 1)}
         yield from (line(region, depth, b) for b in sorted({0, 1, 2, 3, 4, 5, 8, 15, 16, 17, 63, 64, 65, 2047, 2048} | counts))
 

@@ -18,6 +18,7 @@
 #define CORNERS (9 + BEHIND)
 #define ROWS (2560 + BEHIND)
 #define THREE (3 + BEHIND)
+#define COUNTS (6 + BEHIND)
 #define FILE_BYTES (10508 + BEHIND)
 #define LISTS (8192 + BEHIND)
 #define MOST 32768 /* no command line has more bytes of a file, or more numbers */
@@ -275,32 +276,42 @@ static int64_t try_write(uint32_t depth, uint32_t budget, const int32_t *rows, s
     return n;
 }
 
-/* The budget is the file's, HTM_DEFAULT_BUDGET where it says 0; it counts only where the file is accepted. */
-static int64_t try_cover(const uint8_t *file, size_t bytes, size_t budget, uint64_t out[LISTS], uint64_t counts[THREE])
+/* How many identifiers are in so many ranges. */
+static uint64_t contained(const uint64_t *pairs, uint64_t count)
 {
-    const size_t all = LISTS * sizeof out[0], three = THREE * sizeof counts[0], pair = 2 * sizeof out[0];
+    uint64_t sum = 0;
+    for (uint64_t i = 0; i < count; i++)
+        sum += pairs[2 * i + 1] - pairs[2 * i] + 1;
+    return sum;
+}
+
+/* The budget is the file's, HTM_DEFAULT_BUDGET where it says 0; it counts only where the file is accepted. */
+static int64_t try_cover(const uint8_t *file, size_t bytes, size_t budget, uint64_t out[LISTS], uint64_t counts[COUNTS])
+{
+    const size_t all = LISTS * sizeof out[0], six = COUNTS * sizeof counts[0], pair = 2 * sizeof out[0];
     static uint64_t again[LISTS];
-    uint64_t tally[THREE];
+    uint64_t tally[COUNTS];
     paint(out, all);
-    paint(counts, three);
+    paint(counts, six);
     paint(again, all);
-    paint(tally, three);
-    int64_t answer = htm_cover(file, bytes, out, LISTS, counts, THREE);
+    paint(tally, six);
+    int64_t answer = htm_cover(file, bytes, out, LISTS, counts, COUNTS);
     if (answer < 0) {
-        bool kept = stays(out, 0, all) && stays(counts, 0, three);
-        must_refuse(answer, htm_cover(file, bytes, again, 0, tally, 0), kept && stays(again, 0, all) && stays(tally, 0, three));
+        bool kept = stays(out, 0, all) && stays(counts, 0, six);
+        must_refuse(answer, htm_cover(file, bytes, again, 0, tally, 0), kept && stays(again, 0, all) && stays(tally, 0, six));
         return answer;
     }
     must_fit(counts[0] <= budget && counts[1] <= budget, "both lists keep to the budget");
     must(stays(out, counts[0] * pair, budget * pair), "what is between both lists stays");
     must(stays(out, (budget + counts[1]) * pair, all), "what is behind the inner list stays");
-    must(stays(counts, 3 * sizeof counts[0], three), "what is behind the counts stays");
-    int64_t short_lists = htm_cover(file, bytes, again, 4 * budget - 1, tally, THREE);
-    must_be_short(short_lists, stays(again, 0, all) && stays(tally, 0, three));
-    int64_t short_counts = htm_cover(file, bytes, again, LISTS, tally, 2);
-    must_be_short(short_counts, stays(again, 0, all) && stays(tally, 0, three));
-    int64_t exact = htm_cover(file, bytes, again, 4 * budget, tally, 3);
-    must_be_exact(exact == 0 && memcmp(again, out, all) == 0 && memcmp(tally, counts, three) == 0);
+    must(stays(counts, 6 * sizeof counts[0], six), "what is behind the counts stays");
+    must(contained(out, counts[0]) == counts[3] + counts[4] + counts[5], "the outer ranges contain full + partial + swallowed");
+    int64_t short_lists = htm_cover(file, bytes, again, 4 * budget - 1, tally, COUNTS);
+    must_be_short(short_lists, stays(again, 0, all) && stays(tally, 0, six));
+    int64_t short_counts = htm_cover(file, bytes, again, LISTS, tally, 5);
+    must_be_short(short_counts, stays(again, 0, all) && stays(tally, 0, six));
+    int64_t exact = htm_cover(file, bytes, again, 4 * budget, tally, 6);
+    must_be_exact(exact == 0 && memcmp(again, out, all) == 0 && memcmp(tally, counts, six) == 0);
     return answer;
 }
 
@@ -453,7 +464,7 @@ static void answer_cover(struct text rest)
     static uint8_t file[MOST];
     static int32_t rows[ROWS];
     static uint64_t lists[LISTS];
-    uint64_t header[THREE] = {0}, counts[THREE];
+    uint64_t header[THREE] = {0}, counts[COUNTS];
     size_t bytes = take_file(&rest, file);
     int64_t accepted = htm_read(file, bytes, rows, ROWS, header, THREE);
     size_t budget = header[2] ? (size_t)header[2] : HTM_DEFAULT_BUDGET;
@@ -462,6 +473,7 @@ static void answer_cover(struct text rest)
     if (print_refusal(answer) || accepted < 0)
         return;
     print("depth %" PRIu64 " outer %" PRIu64 " inner %" PRIu64 " seen %" PRIu64, header[1], counts[0], counts[1], counts[2]);
+    print(" full %" PRIu64 " partial %" PRIu64 " swallowed %" PRIu64, counts[3], counts[4], counts[5]);
     print_ranges('o', lists, counts[0]);
     print_ranges('i', lists + 2 * budget, counts[1]);
 }

@@ -32,16 +32,16 @@ use Rattle.ranges.proofs.Sound.{In, Has, SpacedBy}
 use Rattle.ranges.proofs.ListLaws.{Between, between-widen, between-append, between-spaced, has-left, has-right, has-cases, row, has-row, row-has, between-row, own, row-own}
 use Rattle.cutting.specs.Cover.{Found, descendants, leftOut, takenFull, takenPartial, cutInto, four, parted, visit, visitRoot, cutting, cover, coverOf, SeenBound}
 
-by-class : (c : Class) {X : Type 0} → (c ≡ Outside → X) → (c ≡ Partial → X) → (c ≡ Full → X) → X
+pub by-class : (c : Class) {X : Type 0} → (c ≡ Outside → X) → (c ≡ Partial → X) → (c ≡ Full → X) → X
 by-class Outside f g h = f refl
 by-class Partial f g h = g refl
 by-class Full f g h = h refl
 
 -- one of the two lists of what was found
-data Which : Type 0 where
+pub data Which : Type 0 where
   accepted full : Which
 
-abbrev listOf : Which → Found → List Range
+abbrev pub listOf : Which → Found → List Range
 listOf accepted f = f .accepted
 listOf full f = f .full
 
@@ -157,7 +157,7 @@ module _ (g : Region) where
   cut-between accepted n i F h = rows-between n i (λ k. F k .accepted) h
   cut-between full n i F h = rows-between n i (λ k. F k .full) h
 
-  found-between : (w : Which) (n : ℕ) (t : Trixel) (i : ℕ) → Between (i * 4 ^ n) ((i + 1) * 4 ^ n) (listOf w (visit n g t i))
+  pub found-between : (w : Which) (n : ℕ) (t : Trixel) (i : ℕ) → Between (i * 4 ^ n) ((i + 1) * 4 ^ n) (listOf w (visit n g t i))
   found-between w zero t i = by-class (regionClass g t)
       (λ e. rw (found-outside 0 t i e) (outside-between w 0 i))
       (λ e. rw (found-last t i e) (last-between w i))
@@ -240,13 +240,17 @@ module _ (g : Region) (d : ℕ) where
       (λ a. row-has L n a (λ m x. own L 8 (4 ^ (d - 1)) h k m n x lo hi))
       (λ b. row-has (λ m. L (4 + m)) n b (λ m x. own L 8 (4 ^ (d - 1)) h k (4 + m) n x lo hi))
 
-  pub accepted-ascends : SpacedBy 0 (cutting d g .accepted)
+  -- either list lies among the identifiers of the depth
+  pub cutting-between : (w : Which) → Between (8 * 4 ^ (d - 1)) (16 * 4 ^ (d - 1)) (listOf w (cutting d g))
   unfolding cutting
-  accepted-ascends = between-spaced (8 * 4 ^ (d - 1)) (16 * 4 ^ (d - 1)) (cutting d g .accepted) (eight (rootList accepted) (root-between accepted))
+  cutting-between accepted = eight (rootList accepted) (root-between accepted)
+  cutting-between full = eight (rootList full) (root-between full)
+
+  pub accepted-ascends : SpacedBy 0 (cutting d g .accepted)
+  accepted-ascends = between-spaced (8 * 4 ^ (d - 1)) (16 * 4 ^ (d - 1)) (cutting d g .accepted) (cutting-between accepted)
 
   pub full-ascends : SpacedBy 0 (cutting d g .full)
-  unfolding cutting
-  full-ascends = between-spaced (8 * 4 ^ (d - 1)) (16 * 4 ^ (d - 1)) (cutting d g .full) (eight (rootList full) (root-between full))
+  full-ascends = between-spaced (8 * 4 ^ (d - 1)) (16 * 4 ^ (d - 1)) (cutting d g .full) (cutting-between full)
 
   module _ (p : Vec3) (l : Long p) where
     pub cutting-accepts : holds g p ≡ true → Has (cutting d g .accepted) (identifier p d)

@@ -1,2 +1,3 @@
+pub mod ContentsLaws
 pub mod CuttingLaws
 pub mod Examples

@@ -16,10 +16,12 @@ ghost use lib.ListN.{length, drop};
 ghost use Rattle.answer.specs.Lent.{put};
 ghost use Rattle.classify_region.specs.PreparedLists.{countIn, Ready};
 ghost use Rattle.classify_near.specs.Narrow.{BesideIn};
+ghost use Rattle.ranges.specs.Ranges.{rangesIn};
+ghost use Rattle.ranges.specs.Contents.{identifiers};
 ghost use Rattle.ranges.proofs.Pushing.{innerEnd};
 ghost use Rattle.ranges_stored.specs.Stored.{stateOf};
 ghost use Rattle.cutting.specs.Cover.{countsList, counted};
-ghost use Rattle.cutting_tally.specs.Tally.{tallyIn, BehindEnd, Room};
+ghost use Rattle.cutting_tally.specs.Tally.{tallyIn, BehindEnd, Room, Contained};
 ghost use Rattle.cutting_walk.specs.Walk.{RootNeeds, RootsGive, Finishes, Covers, SomeRows, CoversRows};
 ghost use Rattle.cutting_walk.specs.Kept.{trixelIn, KeptTrixel};
 ghost use Rattle.mesh.specs.Trixels.{rootTrixel};
@@ -96,17 +98,29 @@ fn end_inner(out: &mut [u64], s: &TallyNumbers) -> usize
     ranges_lists::inner_end(&mut out[2 * budget..], cutting_tally::pending(s), budget)
 }
 
-// The same, and the counts.
+// How many identifiers the first n ranges of a list contain.
+fn identifiers_in(list: &[u64], n: usize) -> u64
+    requires { ⌜ (2 * n ≤ length (now list)) × (identifiers (rangesIn n (now list)) ≤ 2 ^ 25) ⌝ }
+    ensures { λ m. ⌜ m ≡ identifiers (rangesIn n (now (list .entry))) ⌝ }
+{
+    let mut sum: u64 = 0;
+    let mut i: usize = 0;
+    while i < n {
+        sum = sum + (ranges_stored::above(list[2 * i], list[2 * i + 1]) + 1);
+        i += 1;
+    }
+    sum
+}
+
+// The end of both lists, and the counts.
 fn finish(out: &mut [u64], s: &TallyNumbers) -> Counts
     requires { ⌜ Room (tallyIn (now s)) (now out) ⌝ }
+    requires { ⌜ Contained (tallyIn (now s)) (now out) ⌝ }
     ensures { λ c. ⌜ Finishes (tallyIn (now (s .entry))) (now (out .entry)) c (now (out .exit)) ⌝ }
 {
+    let contained = identifiers_in(out, cutting_tally::outer_count(s) as usize);
     let m = end_inner(out, s);
-    Counts {
-        outer: cutting_tally::outer_count(s),
-        inner: m as u64,
-        seen: cutting_tally::seen(s),
-    }
+    cutting_tally::counts(s, m as u64, contained)
 }
 
 // The cover of the region that was prepared to `xs` and `ends`.
@@ -148,4 +162,7 @@ pub fn put_counts(counts: &mut [u64], c: Counts)
     counts[0] = c.outer;
     counts[1] = c.inner;
     counts[2] = c.seen;
+    counts[3] = c.full;
+    counts[4] = c.partial;
+    counts[5] = c.swallowed;
 }

@@ -1,6 +1,6 @@
 -- The cutting as it goes on: a range that is accepted is pushed onto the outer list, at the front of the lent list, and a full one onto the inner list
 -- behind it, and neither touches the other's part. What several trixels find one after the other is what they find together. Assumes nothing.
-use Prim.Native.Nat.{ℕ, zero, suc, _+_, _-_, _*_, _≤_}
+use Prim.Native.Nat.{ℕ, zero, suc, _+_, _-_, _*_, _^_, _≤_}
 use native.Mathlib.Omega.{arith}
 use mathlib.Core.Path.{_≡_, refl, sym, ap, subst, _∙_}
 use mathlib.Core.List.{List, [], _∷_, _++_, map, foldl, append-assoc, append-nil}
@@ -12,13 +12,16 @@ use Rattle.ranges_stored.specs.declared.Hint.{Hint}
 use Rattle.ranges_stored.specs.declared.Pending.{Pending}
 use Rattle.ranges.specs.Ranges.{Range, pairs, range, rangesIn}
 use Rattle.ranges.specs.Lists.{gaps, size, outerOf, innerOf}
+use Rattle.ranges.specs.Contents.{identifiers, swallowedOf}
+use Rattle.ranges.proofs.ContentsLaws.{identifiers-append}
 use Rattle.ranges.proofs.Pushing.{outerPush, outerPass, empty, innerPush, innerEnd, innerPass}
 use Rattle.ranges_stored.specs.Stored.{sizesIn, written, Writes, Hinted, nothingYet, stateOf, Keeps}
 use Rattle.ranges.proofs.OnePass.{one-pass}
 use Rattle.ranges_stored.proofs.StoredLaws.{laid, laid-put, length-written}
-use Rattle.ranges_lists.proofs.Pushes.{writes-none, writes-push, keeps-none, keeps-push, keeps-end}
+use Rattle.ranges_lists.proofs.Pushes.{writes-in, writes-none, writes-push, keeps-none, keeps-push, keeps-end}
 use Rattle.cutting.specs.Cover.{Found, leftOut, takenFull, takenPartial, both, four, cutInto, visitRoot, cutting, listed, countsOf, bothListed}
-use Rattle.cutting_tally.specs.Tally.{Tally, nothing, innerState, Walked, Adds, Behind, BehindEnd, oneMore}
+use Rattle.cutting.proofs.ContentsLaws.{outer-counted, counts-small}
+use Rattle.cutting_tally.specs.Tally.{Tally, countsIn, nothing, innerState, Walked, Adds, Behind, BehindEnd, Contained, oneMore}
 
 -- ---- the front part of a list, and what is behind it
 
@@ -80,19 +83,25 @@ fold-snoc step s (x ∷ rs) r = fold-snoc step (step s x) rs r
 both-assoc : (a b c : Found) → both (both a b) c ≡ both a (both b c)
 both-assoc a b c =
     let n : a .seen + b .seen + c .seen ≡ a .seen + (b .seen + c .seen) = omega arith in
+    let p : a .partial + b .partial + c .partial ≡ a .partial + (b .partial + c .partial) = omega arith in
     λ i. record {
       accepted = append-assoc (a .accepted) (b .accepted) (c .accepted) i;
       full = append-assoc (a .full) (b .full) (c .full) i;
       seen = n i;
+      partial = p i;
     }
 
 both-nothing : (a : Found) → both nothing a ≡ a
-both-nothing a = let n : 0 + a .seen ≡ a .seen = omega arith in λ i. record { accepted = a .accepted; full = a .full; seen = n i }
+both-nothing a =
+    let n : 0 + a .seen ≡ a .seen = omega arith in
+    let p : 0 + a .partial ≡ a .partial = omega arith in
+    λ i. record { accepted = a .accepted; full = a .full; seen = n i; partial = p i }
 
 nothing-more : (a : Found) → both a nothing ≡ a
 nothing-more a =
     let n : a .seen + 0 ≡ a .seen = omega arith in
-    λ i. record { accepted = append-nil (a .accepted) i; full = append-nil (a .full) i; seen = n i }
+    let p : a .partial + 0 ≡ a .partial = omega arith in
+    λ i. record { accepted = append-nil (a .accepted) i; full = append-nil (a .full) i; seen = n i; partial = p i }
 
 -- one after the other, and four together
 four-together : (a v0 v1 v2 v3 : Found) → both (both (both (both a v0) v1) v2) v3 ≡ both a (four v0 v1 v2 v3)
@@ -122,6 +131,8 @@ module _ (b : ℕ) (start : List ℕ) (a : Found) (s : Tally) (out : List ℕ) (
     outer = subst (λ rs. Writes (outerPass b rs) (take (2 * b) start) (w .front) (s .outer)) (sym (append-nil (a .accepted))) (w .outer);
     inner = subst (λ rs. Keeps (innerState b rs) (drop (2 * b) start) (w .back) (s .inner)) (sym (append-nil (a .full))) (w .inner);
     seen = ap (λ n. n + 1) (w .seen);
+    full = w .full ∙ ap identifiers (sym (append-nil (a .full)));
+    partial = omega (arith, w .partial);
   }
 
   -- a range more in the outer list
@@ -150,7 +161,7 @@ module _ (b : ℕ) (start : List ℕ) (a : Found) (s : Tally) (out : List ℕ) (
         (writes-push b (outerPass b (a .accepted)) r (take (2 * b) start) (w .front) front′ (s .outer) n (w .outer)
         (record { count = v .count ∙ ap (λ rs. length (outerPush b rs r)) same; list = refl }))
 
-    pub taken-partial : Walked b start (both a (takenPartial r)) (record { outer = n; hint = h; inner = s .inner; seen = s .seen + 1; budget = s .budget }) out′
+    pub taken-partial : Walked b start (both a (takenPartial r)) (record { outer = n; hint = h; inner = s .inner; seen = s .seen + 1; budget = s .budget; full = s .full; partial = s .partial + 1 }) out′
     taken-partial = record {
       front = front′;
       back = w .back;
@@ -159,11 +170,14 @@ module _ (b : ℕ) (start : List ℕ) (a : Found) (s : Tally) (out : List ℕ) (
       outer = pushed-outer;
       inner = subst (λ rs. Keeps (innerState b rs) (drop (2 * b) start) (w .back) (s .inner)) (sym (append-nil (a .full))) (w .inner);
       seen = ap (λ n. n + 1) (w .seen);
+      full = w .full ∙ ap identifiers (sym (append-nil (a .full)));
+      partial = omega (arith, w .partial);
     }
 
     -- and in the inner list behind it
     pub taken-full : (out″ : List ℕ) (p : Pending) → Behind b out′ out″ (innerPush b (stateOf (s .inner) (drop (2 * b) out′)) r) p
-        → Walked b start (both a (takenFull r)) (record { outer = n; hint = h; inner = p; seen = s .seen + 1; budget = s .budget }) out″
+        → Walked b start (both a (takenFull r)) (record { outer = n; hint = h; inner = p; seen = s .seen + 1; budget = s .budget; full = s .full + (r .high - r .low + 1); partial = s .partial }) out″
+    unfolding identifiers
     taken-full out″ p k =
         let before : take (2 * b) out′ ≡ front′ = ap (take (2 * b)) pushed-list ∙ take-at front′ (w .back) (2 * b) pushed-width in
         let after : drop (2 * b) out′ ≡ w .back = ap (drop (2 * b)) pushed-list ∙ drop-at front′ (w .back) (2 * b) pushed-width in
@@ -177,6 +191,8 @@ module _ (b : ℕ) (start : List ℕ) (a : Found) (s : Tally) (out : List ℕ) (
               (keeps-push b (innerState b (a .full)) (drop (2 * b) start) (w .back) (k .rest) (s .inner) (w .inner) r p
               (subst (λ l. Keeps (innerPush b (stateOf (s .inner) l) r) l (k .rest) p) after (k .keeps)));
           seen = ap (λ n. n + 1) (w .seen);
+          full = omega (arith, w .full, identifiers-append (a .full) (r ∷ []));
+          partial = omega (arith, w .partial);
         }
 
 -- ---- a trixel that is cut
@@ -194,20 +210,31 @@ none-adds {s} {out} start a w = subst (λ f. Walked (s .budget) start f s out) (
 pub more-adds : (v w : Found) {s s₁ s₂ : Tally} {out out₁ out₂ : List ℕ} → Adds v s out s₁ out₁ → Adds w s₁ out₁ s₂ out₂ → Adds (both v w) s out s₂ out₂
 more-adds v w {s₂ = s₂} {out₂ = out₂} h k start a z = subst (λ f. Walked (s₂ .budget) start f s₂ out₂) (both-assoc a v w) (k start _ (h start _ z))
 
+cut-both : (f : Found) → both leftOut f ≡ cutInto f
+cut-both f = let p : 0 + f .partial ≡ f .partial = omega arith in λ i. record { accepted = f .accepted; full = f .full; seen = 1 + f .seen; partial = p i }
+
 -- the trixel itself, then what is found in it
 pub cut-adds : (f : Found) {s r s′ : Tally} {out out′ : List ℕ} → r ≡ oneMore s → Adds f r out s′ out′ → Adds (cutInto f) s out s′ out′
 cut-adds f {s} {r} {s′} {out} {out′} e h start a w =
-    subst (λ v. Walked (s′ .budget) start v s′ out′) (both-assoc a leftOut f)
+    subst (λ v. Walked (s′ .budget) start v s′ out′) (both-assoc a leftOut f ∙ ap (both a) (cut-both f))
     (h start _ (subst (λ q. Walked (q .budget) start (both a leftOut) q out) (sym e) (left-out (s .budget) start a s out w)))
 
 -- ---- the beginning and the end
+
+-- the stored outer ranges are those of the rule
+pub outer-stored : {b : ℕ} {start : List ℕ} {a : Found} {s : Tally} {out : List ℕ} → Walked b start a s out → 1 ≤ b → s .outer ≤ b
+    → rangesIn (s .outer) out ≡ outerOf b (a .accepted)
+outer-stored {b} {start} {a} {s} w one few =
+    ap (rangesIn (s .outer)) (w .list) ∙ in-front (s .outer) (w .front) (w .back) (omega (arith, w .width))
+    ∙ writes-in (outerPass b (a .accepted)) (take (2 * b) start) (w .front) (s .outer) (w .outer)
+    ∙ one-pass b (a .accepted) one .0
 
 module _ (b : ℕ) (start : List ℕ) (long : 4 * b ≤ length start) where
   wide : length (take (2 * b) start) ≡ 2 * b
   wide = length-take-le (2 * b) start (omega arith)
 
-  pub walk-start : (h : Hint) → Walked b start nothing (record { outer = 0; hint = h; inner = nothingYet; seen = 0; budget = b }) start
-  unfolding outerPass
+  pub walk-start : (h : Hint) → Walked b start nothing (record { outer = 0; hint = h; inner = nothingYet; seen = 0; budget = b; full = 0; partial = 0 }) start
+  unfolding outerPass identifiers
   walk-start h = record {
     front = take (2 * b) start;
     back = drop (2 * b) start;
@@ -216,6 +243,8 @@ module _ (b : ℕ) (start : List ℕ) (long : 4 * b ≤ length start) where
     outer = writes-none (take (2 * b) start);
     inner = keeps-none (drop (2 * b) start);
     seen = refl;
+    full = refl;
+    partial = refl;
   }
 
   -- two lists in the lent list: each stands in its own part
@@ -233,11 +262,13 @@ module _ (b : ℕ) (start : List ℕ) (long : 4 * b ≤ length start) where
       ap (put (2 * b) (pairs n)) whole
       ∙ (λ i. take-at F R (2 * b) lF i ++ (pairs n ++ (ap (λ k. drop k (F ++ R)) past ∙ drop-append-add F R m ∙ ap (λ k. drop k R) none) i))
 
-  pub walk-end : (a : Found) (s : Tally) (out out′ : List ℕ) (n : ℕ) → Walked b start a s out → 1 ≤ b → s .outer ≤ b
+  -- the outer list contains m identifiers
+  pub walk-end : (a : Found) (s : Tally) (out out′ : List ℕ) (n m : ℕ) → Walked b start a s out → 1 ≤ b → s .outer ≤ b
       → BehindEnd b out out′ (innerEnd b (stateOf (s .inner) (drop (2 * b) out))) n
-      → (record { outer = s .outer; inner = n; seen = s .seen } ≡ countsOf (listed b a)) × (out′ ≡ bothListed b (listed b a) start)
+      → m ≡ identifiers (rangesIn (s .outer) out) → identifiers (outerOf b (a .accepted)) ≡ identifiers (a .full) + a .partial + swallowedOf b (a .accepted)
+      → (countsIn s n m ≡ countsOf (listed b a)) × (out′ ≡ bothListed b (listed b a) start)
   unfolding innerPass
-  walk-end a s out out′ n w one few e =
+  walk-end a s out out′ n m w one few e c all =
       let after : drop (2 * b) out ≡ w .back = ap (drop (2 * b)) (w .list) ∙ drop-at (w .front) (w .back) (2 * b) (w .width) in
       let before : take (2 * b) out ≡ w .front = ap (take (2 * b)) (w .list) ∙ take-at (w .front) (w .back) (2 * b) (w .width) in
       let o : outerPass b (a .accepted) ≡ outerOf b (a .accepted) = one-pass b (a .accepted) one .0 in
@@ -245,9 +276,11 @@ module _ (b : ℕ) (start : List ℕ) (long : 4 * b ≤ length start) where
       let k : Writes (innerPass b (a .full)) (drop (2 * b) start) (e .rest) n =
       keeps-end b (innerState b (a .full)) (drop (2 * b) start) (w .back) (e .rest) (s .inner) (w .inner) n
       (subst (λ l. Writes (innerEnd b (stateOf (s .inner) l)) l (e .rest) n) after (e .writes)) in
+      let x : m - s .full - s .partial ≡ swallowedOf b (a .accepted) =
+      omega (arith, c, ap identifiers (outer-stored w one few), all, w .full, w .partial) in
       let lo : s .outer ≡ length (outerOf b (a .accepted)) = w .outer .count ∙ ap length o in
       let li : n ≡ length (innerOf b (a .full)) = k .count ∙ ap length i in (
-        λ j. record { outer = lo j; inner = li j; seen = w .seen j },
+        λ j. record { outer = lo j; inner = li j; seen = w .seen j; full = w .full j; partial = w .partial j; swallowed = x j },
         e .list
             ∙ (λ j. before j ++ e .rest)
             ∙ (λ j. (w .outer .list ∙ ap (λ rs. written rs (take (2 * b) start)) o) j ++ (k .list ∙ ap (λ rs. written rs (drop (2 * b) start)) i) j)
@@ -256,3 +289,11 @@ module _ (b : ℕ) (start : List ℕ) (long : 4 * b ≤ length start) where
 
 pub roots-done : {b : ℕ} {start : List ℕ} {s : Tally} {out : List ℕ} (d k : ℕ) (g : Region) → k ≡ 8 → Walked b start (foundTo (d - 1) g k) s out → Walked b start (cutting d g) s out
 roots-done {b} {start} {s} {out} d k g e w = subst (λ f. Walked b start f s out) (ap (foundTo (d - 1) g) e ∙ found-all d g) w
+
+-- after the whole cutting
+pub cutting-contained : {b : ℕ} {start : List ℕ} {s : Tally} {out : List ℕ} (d : ℕ) (g : Region) → Walked b start (cutting d g) s out → 1 ≤ b → s .outer ≤ b → d ≤ 12
+    → Contained s out
+cutting-contained {b} d g w one few h =
+    let e = ap identifiers (outer-stored w one few) in
+    let c = outer-counted g d b one in
+    record { few = omega (arith, e, c, counts-small g d b one h); counted = omega (arith, e, c, w .full, w .partial) }

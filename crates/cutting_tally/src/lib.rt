@@ -1,22 +1,24 @@
-// What a cutting has found so far, with its budget, as eleven numbers, and the two lists in the lent list. specs/Tally says what they are.
+// What a cutting has found so far, with its budget, as thirteen numbers, and the two lists in the lent list. specs/Tally says what they are.
+use cutting::Counts;
 use ranges_lists::Pushed;
 use ranges_stored::Hint;
 use ranges_stored::Pending;
 ghost use mathlib.Core.Path.{_≡_};
+ghost use Prim.Native.Nat.{_+_, _-_, _≤_};
 ghost use lib.Dec.{ltb};
 ghost use lib.ListN.{length};
 ghost use Rattle.ranges.specs.Ranges.{range};
 ghost use Rattle.cutting.specs.Cover.{takenFull, takenPartial};
-ghost use Rattle.cutting_tally.specs.Tally.{tallyIn, withOuter, withInner, oneMore, noTally, Taken, InnerRoom, Innered, Inside, Countable, Room, Outered};
+ghost use Rattle.cutting_tally.specs.Tally.{tallyIn, withOuter, withInner, oneMore, oneFull, onePartial, noTally, countsIn, Taken, InnerRoom, Innered, Inside, Countable, SmallRange, Room, Outered};
 
 // The tally as numbers.
-pub type TallyNumbers = [u64; 11];
+pub type TallyNumbers = [u64; 13];
 
 // Before the first trixel.
 pub fn no_tally(budget: usize) -> TallyNumbers
     ensures { λ s. ⌜ tallyIn s ≡ noTally budget ⌝ }
 {
-    let mut s = [0u64; 11];
+    let mut s = [0u64; 13];
     s[10] = budget as u64;
     s
 }
@@ -28,15 +30,23 @@ pub fn outer_count(s: &TallyNumbers) -> u64
     s[0]
 }
 
-// How many trixels are classified.
-pub fn seen(s: &TallyNumbers) -> u64
-    ensures { λ n. ⌜ n ≡ tallyIn (now (s .entry)) .seen ⌝ }
+// The counts, where the inner list has `inner` ranges and the outer list contains `contained` identifiers: what is left of them was swallowed.
+pub fn counts(s: &TallyNumbers, inner: u64, contained: u64) -> Counts
+    requires { ⌜ tallyIn (now s) .full + tallyIn (now s) .partial ≤ contained ⌝ }
+    ensures { λ c. ⌜ c ≡ countsIn (tallyIn (now (s .entry))) inner contained ⌝ }
 {
-    s[9]
+    Counts {
+        outer: s[0],
+        inner: inner,
+        seen: s[9],
+        full: s[11],
+        partial: s[12],
+        swallowed: contained - s[11] - s[12],
+    }
 }
 
 pub fn budget_of(s: &[u64]) -> usize
-    requires { ⌜ length (now s) ≡ 11 ⌝ }
+    requires { ⌜ length (now s) ≡ 13 ⌝ }
     ensures { λ n. ⌜ n ≡ tallyIn (now (s .entry)) .budget ⌝ }
 {
     s[10] as usize
@@ -44,7 +54,7 @@ pub fn budget_of(s: &[u64]) -> usize
 
 // What stands beside the inner list.
 pub fn pending(s: &[u64]) -> Pending
-    requires { ⌜ length (now s) ≡ 11 ⌝ }
+    requires { ⌜ length (now s) ≡ 13 ⌝ }
     ensures { λ p. ⌜ p ≡ tallyIn (now (s .entry)) .inner ⌝ }
 {
     Pending {
@@ -68,7 +78,7 @@ fn flag(t: bool) -> u64
 
 // Notes how many outer ranges are stored now.
 fn note_outer(s: &mut [u64], m: Pushed)
-    requires { ⌜ length (now s) ≡ 11 ⌝ }
+    requires { ⌜ length (now s) ≡ 13 ⌝ }
     ensures { λ _. ⌜ tallyIn (now (s .exit)) ≡ withOuter m (tallyIn (now (s .entry))) ⌝ }
 {
     let hint = m.hint;
@@ -79,7 +89,7 @@ fn note_outer(s: &mut [u64], m: Pushed)
 
 // Notes what stands beside the inner list now.
 fn note_inner(s: &mut [u64], p: Pending)
-    requires { ⌜ length (now s) ≡ 11 ⌝ }
+    requires { ⌜ length (now s) ≡ 13 ⌝ }
     ensures { λ _. ⌜ tallyIn (now (s .exit)) ≡ withInner p (tallyIn (now (s .entry))) ⌝ }
 {
     let some = p.some;
@@ -94,16 +104,41 @@ fn note_inner(s: &mut [u64], p: Pending)
 
 // One more is classified.
 pub fn seen_more(s: &mut [u64])
-    requires { ⌜ length (now s) ≡ 11 ⌝ }
+    requires { ⌜ length (now s) ≡ 13 ⌝ }
     requires { ⌜ Countable (tallyIn (now s)) ⌝ }
     ensures { λ _. ⌜ tallyIn (now (s .exit)) ≡ oneMore (tallyIn (now (s .entry))) ⌝ }
 {
     s[9] = s[9] + 1;
 }
 
+// And it is partial, at the depth.
+fn partial_more(s: &mut [u64])
+    requires { ⌜ length (now s) ≡ 13 ⌝ }
+    requires { ⌜ Countable (tallyIn (now s)) ⌝ }
+    ensures { λ _. ⌜ tallyIn (now (s .exit)) ≡ onePartial (tallyIn (now (s .entry))) ⌝ }
+{
+    let seen = s[9] + 1;
+    let partial = s[12] + 1;
+    s[9] = seen;
+    s[12] = partial;
+}
+
+// And it is full, with the identifiers from low to high at the depth.
+fn full_more(s: &mut [u64], low: u64, high: u64)
+    requires { ⌜ length (now s) ≡ 13 ⌝ }
+    requires { ⌜ Countable (tallyIn (now s)) ⌝ }
+    requires { ⌜ SmallRange (range low high) ⌝ }
+    ensures { λ _. ⌜ tallyIn (now (s .exit)) ≡ oneFull (high - low + 1) (tallyIn (now (s .entry))) ⌝ }
+{
+    let seen = s[9] + 1;
+    let full = s[11] + (high - low + 1);
+    s[9] = seen;
+    s[11] = full;
+}
+
 // A range of the outer list.
 fn push_outer(out: &mut [u64], s: &mut [u64], low: u64, high: u64)
-    requires { ⌜ length (now s) ≡ 11 ⌝ }
+    requires { ⌜ length (now s) ≡ 13 ⌝ }
     requires { ⌜ Room (tallyIn (now s)) (now out) ⌝ }
     ensures { λ _. ⌜ Outered (range low high) (tallyIn (now (s .entry))) (now (out .entry)) (tallyIn (now (s .exit))) (now (out .exit)) ⌝ }
 {
@@ -129,7 +164,7 @@ fn push_inner(out: &mut [u64], budget: usize, p: Pending, low: u64, high: u64) -
 
 // A range of the inner list, and what stands beside it then.
 fn add_inner(out: &mut [u64], s: &mut [u64], low: u64, high: u64)
-    requires { ⌜ length (now s) ≡ 11 ⌝ }
+    requires { ⌜ length (now s) ≡ 13 ⌝ }
     requires { ⌜ InnerRoom (tallyIn (now s) .budget) (tallyIn (now s) .inner) (now out) ⌝ }
     ensures { λ _. ⌜ Inside (range low high) (tallyIn (now (s .entry))) (now (out .entry)) (tallyIn (now (s .exit))) (now (out .exit)) ⌝ }
 {
@@ -138,23 +173,24 @@ fn add_inner(out: &mut [u64], s: &mut [u64], low: u64, high: u64)
 
 // A partial trixel at the depth is accepted.
 pub fn take_partial(out: &mut [u64], s: &mut [u64], low: u64, high: u64)
-    requires { ⌜ length (now s) ≡ 11 ⌝ }
+    requires { ⌜ length (now s) ≡ 13 ⌝ }
     requires { ⌜ Room (tallyIn (now s)) (now out) ⌝ }
     requires { ⌜ Countable (tallyIn (now s)) ⌝ }
     ensures { λ _. ⌜ Taken (takenPartial (range low high)) (tallyIn (now (s .entry))) (now (out .entry)) (tallyIn (now (s .exit))) (now (out .exit)) ⌝ }
 {
     push_outer(out, s, low, high);
-    seen_more(s);
+    partial_more(s);
 }
 
 // A full trixel is accepted.
 pub fn take_full(out: &mut [u64], s: &mut [u64], low: u64, high: u64)
-    requires { ⌜ length (now s) ≡ 11 ⌝ }
+    requires { ⌜ length (now s) ≡ 13 ⌝ }
     requires { ⌜ Room (tallyIn (now s)) (now out) ⌝ }
     requires { ⌜ Countable (tallyIn (now s)) ⌝ }
+    requires { ⌜ SmallRange (range low high) ⌝ }
     ensures { λ _. ⌜ Taken (takenFull (range low high)) (tallyIn (now (s .entry))) (now (out .entry)) (tallyIn (now (s .exit))) (now (out .exit)) ⌝ }
 {
     push_outer(out, s, low, high);
     add_inner(out, s, low, high);
-    seen_more(s);
+    full_more(s, low, high);
 }

@@ -27,13 +27,14 @@ use Rattle.ranges_stored.specs.Stored.{noHint}
 use Rattle.ranges_stored.proofs.HintLaws.{hinted-any}
 use Rattle.cutting.specs.declared.Counts.{Counts}
 use Rattle.cutting.specs.Cover.{descendants, leftOut, takenFull, takenPartial, both, visit, cutting, listed, countsOf, bothListed}
-use Rattle.cutting_tally.specs.Tally.{Tally, nothing, noTally, Walked, Adds, Room, Taken, oneMore}
+use Rattle.cutting_tally.specs.Tally.{Tally, nothing, noTally, Walked, Adds, Room, Countable, SmallRange, Contained, Taken, oneMore}
 use Rattle.cutting_walk.specs.declared.Level.{Level}
 use Rattle.cutting_walk.specs.declared.Judged.{Judged}
 use Rattle.cutting_walk.specs.Kept.{trixelIn, KeptTrixel, JudgedOf, ChildKept}
 use Rattle.cutting_walk.specs.Walk.{foundIn, foundBelow, childLevel, firstFound, LevelFits, ChildrenFit, Needs, CutNeeds, Gives, Done, Settled, Dividing, RootNeeds, RootsGive, Finishes, Covers}
 use Rattle.cutting.proofs.CuttingLaws.{full-stretch, power, found-outside, found-full, found-last, found-cut}
-use Rattle.cutting_tally.proofs.WalkLaws.{left-out, none-adds, more-adds, four-adds, cut-adds, foundTo, walk-start, walk-end, roots-done}
+use Rattle.cutting.proofs.ContentsLaws.{outer-counted}
+use Rattle.cutting_tally.proofs.WalkLaws.{cutting-contained, left-out, none-adds, more-adds, four-adds, cut-adds, foundTo, walk-start, walk-end, roots-done}
 use Rattle.cutting_walk.proofs.KeptLaws.{parts-kept}
 
 -- ---- the range of a trixel
@@ -52,20 +53,23 @@ last-range i =
 -- ---- how large identifiers and counts get
 
 module _ {i left span seen : ℕ} (l : LevelFits i left span seen) where
-  pub range-fits : (i * span + (span - 1) < 2 ^ 40) × (1 ≤ span)
+  pub range-fits : (i * span + (span - 1) < 2 ^ 26) × (1 ≤ span)
   range-fits =
       let e : (i + 1) * span ≡ i * span + span = full-stretch i span in
       let q : 1 ≤ span = subst (λ x. 1 ≤ x) (sym (l .power)) (power left) in
       (omega (arith, l .small), q)
 
-  pub small-id : i < 2 ^ 40
+  pub small-range : SmallRange (range (i * span) (i * span + (span - 1)))
+  small-range = record { order = omega arith; small = range-fits .0 }
+
+  pub small-id : i < 2 ^ 26
   small-id =
       let q : 1 ≤ span = range-fits .1 in
       let m : (i + 1) * 1 ≤ (i + 1) * span = mul-le-mul-left (i + 1) q in
       omega (arith, l .small)
 
-  pub seen-fits : seen < 2 ^ 62
-  seen-fits = omega (arith, l .few)
+pub countable : {i left span : ℕ} {s : Tally} {out : List ℕ} → LevelFits i left span (s .seen) → Room s out → Countable s
+countable l h = record { few = omega (arith, l .few); full = h .full; partial = h .partial }
 
 pub levels : {left m : ℕ} → left ≡ suc m → 4 ^ suc left ≡ 4 * 4 ^ suc m
 levels {left} {m} z = ap (λ x. 4 ^ suc x) z ∙ pow-suc 4 (suc m) ∙ omega arith
@@ -80,13 +84,13 @@ down {i} {left} {span} {seen} {m} {now} l z e =
     record {
       last = record {
         power = quarter;
-        small = subst (λ x. (4 * i + 3 + 1) * x ≤ 2 ^ 40) (sym quarter) (subst (λ x. x ≤ 2 ^ 40) (sym whole) (subst (λ x. (i + 1) * x ≤ 2 ^ 40) part (l .small)));
+        small = subst (λ x. (4 * i + 3 + 1) * x ≤ 2 ^ 26) (sym quarter) (subst (λ x. x ≤ 2 ^ 26) (sym whole) (subst (λ x. (i + 1) * x ≤ 2 ^ 26) part (l .small)));
         few = omega (arith, l .few, levels z, power (suc m));
       };
     }
 
 module _ {i left span seen : ℕ} (l : ChildrenFit i left span seen) where
-  pub small-ids : 4 * i + 3 < 2 ^ 40
+  pub small-ids : 4 * i + 3 < 2 ^ 26
   small-ids = small-id (l .last)
 
   -- a child, where up to it no more was seen than the children before it can have
@@ -113,7 +117,16 @@ at-least-four n = omega (arith, pow-suc 4 n, power n)
 
 -- one more is seen, and the lists stay
 room-more : {s r : Tally} {out : List ℕ} → Room s out → r ≡ oneMore s → Room r out
-room-more {s} {r} {out} h e = subst (λ q. Room q out) (sym e) (record { budget = h .budget; outer = h .outer; inner = h .inner; list = h .list; hinted = h .hinted; innerHinted = h .innerHinted })
+room-more {s} {r} {out} h e = subst (λ q. Room q out) (sym e) (record {
+  budget = h .budget;
+  outer = h .outer;
+  inner = h .inner;
+  list = h .list;
+  hinted = h .hinted;
+  innerHinted = h .innerHinted;
+  full = omega (arith, h .full);
+  partial = omega (arith, h .partial);
+})
 
 module _ {j : Judged} {l : Level} {s r : Tally} {out out′ : List ℕ} where
   done : Done (j .class) l s out r out′ → Settled true j l s out r out′
@@ -273,7 +286,16 @@ module _ {depth : ℕ} {xs : List ℤ} {es : List ℕ} {ys : List ℤ} {ms : Lis
     power = p;
     few = omega arith;
     room = subst (λ q. Room q out₀) (sym (n .fresh))
-        (record { budget = n .budget; outer = omega arith; inner = omega arith; list = n .list; hinted = hinted-any refl _; innerHinted = hinted-any refl _ });
+        (record {
+          budget = n .budget;
+          outer = omega arith;
+          inner = omega arith;
+          list = n .list;
+          hinted = hinted-any refl _;
+          innerHinted = hinted-any refl _;
+          full = omega arith;
+          partial = omega arith;
+        });
     budget = refl;
     seen = omega (arith, ap (λ q. q .seen) (n .fresh));
     walked = λ g p. subst (λ q. Walked (q .budget) out₀ nothing q out₀) (sym (n .fresh)) (walk-start (s₀ .budget) out₀ (n .list) noHint);
@@ -317,9 +339,14 @@ pub cover-start : {depth b : ℕ} {xs : List ℤ} {es : List ℕ} {s : Tally} {o
 cover-start {depth} {xs = xs} {es = es} {out = out} d r h e =
     subst (λ q. RootNeeds depth xs es q out) (sym e) (record { low = d .0; high = d .1; ready = r; fresh = refl; budget = h .0; list = h .1 })
 
+-- what the end of both lists needs
+pub cover-contained : {depth : ℕ} {xs : List ℤ} {es : List ℕ} {s₀ s : Tally} {out₀ out : List ℕ} → RootsGive depth xs es s₀ out₀ s out → Ready xs es (countIn es) → depth ≤ 12
+    → Contained s out
+cover-contained {depth} r h d = cutting-contained depth (h .0) (r .cut (h .0) (h .1)) (r .room .budget) (r .room .outer) d
+
 pub cover-end : {depth b : ℕ} {xs : List ℤ} {es : List ℕ} {s₀ s : Tally} {out₀ out out′ : List ℕ} {c : Counts} → RootsGive depth xs es s₀ out₀ s out → s₀ ≡ noTally b
     → 4 * b ≤ length out₀ → Finishes s out c out′ → Covers xs es b depth out₀ c out′
 cover-end {depth} {b} {s = s} {out₀} {out} {out′} {c} r e long f g p =
     let same : s .budget ≡ b = r .budget ∙ ap (λ q. q .budget) e in
-    let w = walk-end (s .budget) out₀ (omega (arith, same)) (cutting depth g) s out out′ (f .inner) (r .cut g p) (r .room .budget) (r .room .outer) (f .behind) in
+    let w = walk-end (s .budget) out₀ (omega (arith, same)) (cutting depth g) s out out′ (f .inner) _ (r .cut g p) (r .room .budget) (r .room .outer) (f .behind) refl (outer-counted g depth (s .budget) (r .room .budget)) in
     subst (λ b. (c ≡ countsOf (listed b (cutting depth g))) × (out′ ≡ bothListed b (listed b (cutting depth g)) out₀)) same (f .counts ∙ w .0, w .1)

@@ -32,9 +32,11 @@ use Rattle.classify_region.specs.PreparedLists.{Prepared, countIn, Ready}
 use Rattle.classify_near.specs.Narrow.{BesideIn}
 use Rattle.ranges.proofs.Pushing.{innerEnd}
 use Rattle.ranges_stored.specs.Stored.{stateOf}
+use Rattle.ranges.specs.Ranges.{rangesIn}
+use Rattle.ranges.specs.Contents.{identifiers}
 use Rattle.cutting.specs.declared.Counts.{Counts}
 use Rattle.cutting.specs.Cover.{Found, both, parted, visit, cutting, listed, countsOf, bothListed}
-use Rattle.cutting_tally.specs.Tally.{Tally, nothing, noTally, oneMore, Walked, Adds, BehindEnd, Room, Taken}
+use Rattle.cutting_tally.specs.Tally.{Tally, countsIn, nothing, noTally, oneMore, Walked, Adds, BehindEnd, Room, Taken}
 use Rattle.cutting_walk.specs.declared.Level.{Level}
 use Rattle.cutting_walk.specs.declared.Judged.{Judged}
 use Rattle.cutting_walk.specs.Kept.{trixelIn, KeptTrixel, OtherRays, CutParts}
@@ -58,8 +60,8 @@ firstFound (suc k) l t g = both (firstFound k l t g) (foundIn (childLevel l k) (
 
 pub record LevelFits (i left span seen : ℕ) : Type 0 where
   pub power : span ≡ 4 ^ left
-  pub small : (i + 1) * span ≤ 2 ^ 40
-  pub few : 3 * seen + 4 ^ suc left ≤ 2 ^ 60
+  pub small : (i + 1) * span ≤ 2 ^ 26
+  pub few : 3 * seen + 4 ^ suc left ≤ 2 ^ 28
 
 pub record ChildrenFit (i left span seen : ℕ) : Type 0 where
   pub last : LevelFits (4 * i + 3) left span (seen + (4 ^ suc left - 1))
@@ -67,7 +69,7 @@ pub record ChildrenFit (i left span seen : ℕ) : Type 0 where
 -- there is a level below, and identifiers for four children
 pub record Divisible (l : Level) : Type 0 where
   pub above : 1 ≤ l .left
-  pub ids : 4 * l .id + 3 < 2 ^ 40
+  pub ids : 4 * l .id + 3 < 2 ^ 26
 
 -- ---- what a cutting needs, and what it gives
 
@@ -138,7 +140,7 @@ pub record RootsGive (depth : ℕ) (xs : List ℤ) (es : List ℕ) (s : Tally) (
 pub record Finishes (s : Tally) (out : List ℕ) (c : Counts) (out′ : List ℕ) : Type 0 where
   pub inner : ℕ
   pub behind : BehindEnd (s .budget) out out′ (innerEnd (s .budget) (stateOf (s .inner) (drop (2 * s .budget) out))) inner
-  pub counts : c ≡ record { outer = s .outer; inner = inner; seen = s .seen }
+  pub counts : c ≡ countsIn s inner (identifiers (rangesIn (s .outer) out))
 
 -- the lists stand in the lent list, and the counts are theirs
 abbrev pub Covers : List ℤ → List ℕ → ℕ → ℕ → List ℕ → Counts → List ℕ → Type 0

@@ -62,7 +62,7 @@ module _ (x : File) (before : List ℕ) (space : 4 * budgetOf (x .budget) ≤ le
   half : 2 * budgetOf (x .budget) ≤ length before
   half = omega arith
 
-  outer-back : outerIn (countsOf (cover x)) (bothLists x before) ≡ cover x .outer
+  pub outer-back : outerIn (countsOf (cover x)) (bothLists x before) ≡ cover x .outer
   outer-back =
       ap (rangesIn (length (cover x .outer))) (outer-part (2 * budgetOf (x .budget)) (pairs (cover x .outer)) (pairs (cover x .inner)) before few half)
       ∙ read-back (cover x .outer) _
@@ -75,14 +75,14 @@ module _ (x : File) (before : List ℕ) (space : 4 * budgetOf (x .budget) ≤ le
 -- ---- the three answers
 
 -- what a cover that gives says of its file
-record Covered (f before : List ℕ) (c : Counts) : Type 0 where
-  file : File
-  accepted : Accepted f file
-  space : 4 * budgetOf (file .budget) ≤ length before
-  counts : countsOf (cover file) ≡ c
-  lists : bothLists file before ≡ coverAfter f before
+pub record Covered (f before : List ℕ) (c : Counts) : Type 0 where
+  pub file : File
+  pub accepted : Accepted f file
+  pub space : 4 * budgetOf (file .budget) ≤ length before
+  pub counts : countsOf (cover file) ≡ c
+  pub lists : bothLists file before ≡ coverAfter f before
 
-covered : (f before : List ℕ) (c : Counts) → coverAnswer f before ≡ gives c → Covered f before c
+pub covered : (f before : List ℕ) (c : Counts) → coverAnswer f before ≡ gives c → Covered f before c
 unfolding coverAnswer coverAfter
 covered f before c e =
     let v = value-gives (λ x. countsOf (cover x)) (coverInto f before) c e in

@@ -1,5 +1,6 @@
 pub mod AnswersKept
 pub mod CLaws
+pub mod Counted
 pub mod CoverAnswers
 pub mod LocatedLaws
 pub mod PromiseKept

@@ -6,7 +6,7 @@
 --   locateLine l d     the lookup of a catalogue line: 5, 13, 8
 --   entry x y z d      the lookup from C: the identifier, or 0 for a refusal
 --   coverInto f before     the file that is covered, or its refusal, with 10 after all other checks
---   coverAnswer f before   both counts and seen
+--   coverAnswer f before   the counts: both lists', seen, full, partial and swallowed
 --   coverAfter f before    the list afterwards: the outer list at element 0, the inner list at element 2 × budget
 --   coverGiven r           what the call answered
 --   outerIn, innerIn       the two lists, read back from the lent list
@@ -50,7 +50,7 @@ orZero (gives i) = i
 unfoldable pub entry : ℤ → ℤ → ℤ → ℕ → ℕ
 entry x y z d = orZero (lookup (vec x y z) d)
 
--- ---- the cover: both counts and seen; the outer list at element 0 and the inner list at element 2 × budget
+-- ---- the cover: the counts; the outer list at element 0 and the inner list at element 2 × budget
 
 abbrev pub coverInto : List ℕ → List ℕ → Answer File
 coverInto f before = then (read f) (λ x. room (4 * budgetOf (x .budget)) before x)

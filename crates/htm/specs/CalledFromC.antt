@@ -8,7 +8,7 @@
 --   refusalOf f          the refusal of a file for which a lent list is too short: the file's own, or 10
 --   inBoth n a list      what a call has to write, or its refusal; then 10 where the second lent list has fewer than n elements
 --   readForC, rowsAfterC, headerAfterC     the reader's header; the lent list and the header's afterwards: count, depth, budget
---   coverForC, coverAfterC, countsAfterC   the cover's counts; the lent list and the list of counts afterwards: outer, inner, seen
+--   coverForC, coverAfterC, countsAfterC   the cover's counts; the lent list and the list of counts afterwards (`countsList`)
 use Prim.Native.Nat.{ℕ}
 use mathlib.Core.Bool.{Bool, cond}
 use mathlib.Core.List.{List, [], _∷_, _++_}

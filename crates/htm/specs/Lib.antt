@@ -3,3 +3,4 @@ pub mod CalledFromC
 pub mod Starred
 pub mod Refusals
 pub mod Promise
+pub mod Counted

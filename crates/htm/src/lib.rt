@@ -26,7 +26,7 @@ ghost use Rattle.htm.specs.Answers.{lookupReport, locateLine, coverGiven
 pub mod from_c;
 mod to_c;
 
-// Both counts and seen, or the number of the first check that failed.
+// The six counts, or the number of the first check that failed.
 pub enum CoverOf {
     Gives(Counts),
     Refused(u32),
@@ -122,8 +122,8 @@ pub fn holds(file: &[u8], x: i32, y: i32, z: i32) -> HeldOf
     region_points::point_test(file, pointing(x, y, z))
 }
 
-// The cover of a region file: the outer list from element 0 of `out`, the inner list from element 2 × budget, pairs low and high; both counts and
-// seen. The file's refusals, then 10 where `out` has fewer than 4 × budget elements.
+// The cover of a region file: the outer list from element 0 of `out`, the inner list from element 2 × budget, pairs low and high; both counts,
+// seen, full, partial and swallowed. The file's refusals, then 10 where `out` has fewer than 4 × budget elements.
 pub fn cover(file: &[u8], out: &mut [u64]) -> CoverOf
     ensures { λ r. ⌜ coverGiven r ≡ coverAnswer (now (file .entry)) (now (out .entry)) ⌝ }
     ensures { λ r. ⌜ now (out .exit) ≡ coverAfter (now (file .entry)) (now (out .entry)) ⌝ }

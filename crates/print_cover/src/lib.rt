@@ -67,7 +67,10 @@ fn first_line(out: &mut Buffer, at: usize, depth: u32, counts: Counts) -> usize 
     let end = labelled(out, at, b"depth ", depth as u64);
     let end = labelled(out, end, b" outer ", counts.outer);
     let end = labelled(out, end, b" inner ", counts.inner);
-    labelled(out, end, b" seen ", counts.seen)
+    let end = labelled(out, end, b" seen ", counts.seen);
+    let end = labelled(out, end, b" full ", counts.full);
+    let end = labelled(out, end, b" partial ", counts.partial);
+    labelled(out, end, b" swallowed ", counts.swallowed)
 }
 
 fn labelled(out: &mut Buffer, at: usize, label: &[u8], n: u64) -> usize {

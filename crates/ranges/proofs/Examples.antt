@@ -1,10 +1,12 @@
 -- Worked examples of the two lists, by computing: document 01's 'with budget 4 the first two outer ranges become S00 S10', the last range kept,
--- the shortest dropped, and the earliest among equals. Assumes nothing.
+-- the shortest dropped, and the earliest among equals; and what ranges contain and the outer list swallows. Assumes nothing.
 use Prim.Native.Nat.{ℕ}
 use mathlib.Core.Path.{_≡_, refl}
 use mathlib.Core.List.{List, [], _∷_}
+use Rattle.algebra.specs.Lists.{some}
 use Rattle.ranges.specs.Ranges.{Range}
 use Rattle.ranges.specs.Lists.{joined, joinedFrom, smallest, place, earliest, whileMore, gaps, joinAt, joinSmallest, outerOf, without, dropShortest, innerOf}
+use Rattle.ranges.specs.Contents.{identifiers, different, swallowedFrom, swallowedOf}
 
 abbrev r : ℕ → ℕ → Range
 r low high = record { low = low; high = high }
@@ -23,3 +25,15 @@ pub inner-examples : (innerOf 2 (r 1 2 ∷ r 4 5 ∷ r 7 9 ∷ r 11 12 ∷ []) �
     × (innerOf 1 (r 1 4 ∷ r 5 6 ∷ r 8 9 ∷ []) ≡ r 1 6 ∷ [])
 unfolding joined joinedFrom smallest place earliest whileMore without dropShortest innerOf
 inner-examples = (refl, refl)
+
+-- the gaps 33, 37, 41 and 45 have one identifier each; with budget 1 all are swallowed, and of 32 to 63 nothing else
+pub swallowed-examples : (swallowedOf 5 accepted ≡ 0) × (swallowedOf 4 accepted ≡ 1) × (swallowedOf 1 accepted ≡ 4)
+    × (swallowedOf 1 (r 1 1 ∷ r 5 5 ∷ r 7 7 ∷ r 100 100 ∷ []) ≡ 96) × (swallowedOf 2 (r 1 1 ∷ r 5 5 ∷ r 7 7 ∷ r 100 100 ∷ []) ≡ 4)
+    × (swallowedOf 1 (r 1 4 ∷ r 5 6 ∷ r 7 7 ∷ []) ≡ 0) × (swallowedOf 1 [] ≡ 0)
+unfolding joined joinedFrom smallest place earliest gaps joinAt joinSmallest swallowedFrom swallowedOf
+swallowed-examples = (refl, refl, refl, refl, refl, refl, refl)
+
+pub contents-examples : (identifiers accepted ≡ 28) × (different 64 accepted ≡ 28) × (identifiers (outerOf 4 accepted) ≡ 29)
+    × (identifiers [] ≡ 0) × (different 9 [] ≡ 0) × (different 9 (r 2 5 ∷ r 4 6 ∷ []) ≡ 5)
+unfolding joined joinedFrom smallest place earliest whileMore gaps joinAt joinSmallest outerOf identifiers different some
+contents-examples = (refl, refl, refl, refl, refl, refl)

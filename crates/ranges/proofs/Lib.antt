@@ -1,3 +1,4 @@
+pub mod ContentsLaws
 pub mod Earliest
 pub mod Examples
 pub mod InnerPass

@@ -27,7 +27,7 @@ not-above n r h = and-no-left (leb n (r .high)) (lt-leb (r .low) n h)
 in-low : (n : ℕ) (r : Range) → isIn n r ≡ true → r .low ≤ n
 in-low n r e = leb-true (r .low) n (and-left (leb (r .low) n) (leb n (r .high)) e)
 
-in-high : (n : ℕ) (r : Range) → isIn n r ≡ true → n ≤ r .high
+pub in-high : (n : ℕ) (r : Range) → isIn n r ≡ true → n ≤ r .high
 in-high n r e = leb-true n (r .high) (and-right (leb (r .low) n) (leb n (r .high)) e)
 
 -- ---- the words of Sound

@@ -1,5 +1,13 @@
--- `cutting_cover::finish` ends the inner list, and reads the counts. Assumes nothing.
+-- `cutting_cover::finish` adds up what the outer list contains, ends the inner list, and reads the counts. Assumes nothing.
+use Prim.Native.Nat.{_*_, _^_, _≤_}
+use native.Mathlib.Omega.{arith}
+use mathlib.Core.Path.{sym, ap, subst, _∙_}
 use borrow.Author.Needs.{needs}
+use lib.ListN.{length}
+use denote.Ref.{now}
+use Rattle.ranges.specs.Ranges.{rangesIn}
+use Rattle.ranges.specs.Contents.{identifiers}
+use Rattle.cutting_tally.specs.Tally.{tallyIn, countsIn}
 use Rattle.cutting_cover.proofs.finish.Statement.{statement}
 use Rattle.cutting_cover.proofs.finish.Tie as tie
 
@@ -8,9 +16,20 @@ finish-spec =
     tie.close
     (tie.spec
     (λ c κs. search needs)
+    (λ c κs.
+    let s = c .before .before .before in
+    let out = now (s .args .out) in
+    subst (λ n. (2 * n ≤ length out) × (identifiers (rangesIn n out) ≤ 2 ^ 25)) (sym (c .outer-count .ensures))
+    (omega (arith, s .pre .0 .outer, s .pre .0 .list), s .pre .1 .few))
     (λ c κs. search needs)
-    (λ c κs. search needs)
+    (λ c κs.
+    let n = c .before .before .before .before .before .outer-count in
+    let s = c .before .before .before .before .before .before .before .before in
+    omega (arith, s .pre .1 .counted, c .before .before .before .before .identifiers-in .ensures ∙ ap (λ n. identifiers (rangesIn n (now (s .args .out)))) (n .ensures)))
     (λ c. search needs)
     (λ c.
-    let e = c .before .before .before .before .end-inner in
-    record { inner = e .result; behind = e .ensures; counts = λ i. record { outer = c .before .outer-count .ensures i; inner = e .result; seen = c .seen .ensures i } }))
+    let e = c .before .before .before .end-inner in
+    let n = c .before .before .before .before .before .before .outer-count in
+    let s = c .before .before .before .before .before .before .before .before .before in
+    let k = c .before .before .before .before .before .identifiers-in .ensures ∙ ap (λ n. identifiers (rangesIn n (now (s .args .out)))) (n .ensures) in
+    record { inner = e .result; behind = e .ensures; counts = c .counts .ensures ∙ ap (λ m. countsIn (tallyIn (now (s .args .s))) (e .result) m) k }))

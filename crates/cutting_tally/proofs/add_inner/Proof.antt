@@ -14,4 +14,6 @@ add-inner-spec =
     (λ c κs. search needs)
     (λ c. search needs)
     (λ c. search needs)
-    (λ c. search (needs, inside)))
+    (λ c.
+    let p = c .before .before .before .before .before in
+    inside (p .push-inner .ensures) (p .before .before .before .budget-of .ensures) (p .before .pending .ensures) (c .before .before .note-inner .ensures)))

@@ -1,4 +1,4 @@
--- `cutting_tally::take_partial` pushes the range onto the outer list. Assumes nothing.
+-- `cutting_tally::take_partial` pushes the range onto the outer list, and counts the trixel. Assumes nothing.
 use borrow.Author.Needs.{needs}
 use Rattle.cutting_tally.proofs.TallyLaws.{partial-taken, outer-counts}
 use Rattle.cutting_tally.proofs.take_partial.Statement.{statement}

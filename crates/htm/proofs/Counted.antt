@@ -1,0 +1,35 @@
+-- The ranges contain what the counts say: document 02, F-4, from the laws of the cutting (ContentsLaws of cutting). Assumes nothing.
+use Prim.Native.Nat.{ℕ}
+use mathlib.Core.Path.{sym, subst, subst₂}
+use Rattle.region.specs.Regions.{Region}
+use Rattle.region.specs.Budgets.{budgetOf}
+use Rattle.region.proofs.BudgetLaws.{budget-one}
+use Rattle.ranges.proofs.Sound.{outer-few}
+use Rattle.cutting.specs.Cover.{cutting, cover, coverOf, countsOf}
+use Rattle.cutting.proofs.ContentsLaws.{full-contains, accepted-contains, outer-contains}
+use Rattle.htm.specs.Answers.{bothLists, outerIn}
+use Rattle.htm.specs.Counted.{Contents, Counted, CountedOfAnswers}
+use Rattle.htm.proofs.AnswersKept.{covered, outer-back}
+
+-- of any depth, budget and region
+contents : (d b : ℕ) (g : Region) → Contents (cutting d g) (coverOf d b g .outer) (countsOf (coverOf d b g))
+unfolding coverOf
+contents d b g = record {
+  in-full = full-contains g d (budgetOf b);
+  in-accepted = accepted-contains g d (budgetOf b);
+  in-outer = outer-contains g d (budgetOf b) (budget-one b);
+}
+
+pub all-counted : Counted
+all-counted f x a = contents (x .depth) (x .budget) (x .region)
+
+pub answers-counted : CountedOfAnswers
+unfolding coverOf
+answers-counted f before c e =
+    let v = covered f before c e in
+    let x = v .file in
+    let few = outer-few (budgetOf (x .budget)) (budget-one (x .budget)) (cutting (x .depth) (x .region) .accepted) in
+    let found = cutting (x .depth) (x .region) in
+    let lists : Contents found (outerIn (countsOf (cover x)) (bothLists x before)) (countsOf (cover x)) =
+    subst (λ o. Contents found o (countsOf (cover x))) (sym (outer-back x before (v .space) few)) (contents (x .depth) (x .budget) (x .region)) in
+    (x, v .accepted, subst₂ (λ y l. Contents found (outerIn y l) y) (v .counts) (v .lists) lists)

@@ -1,0 +1,30 @@
+-- What the ranges contain: document 02, F-4. For every accepted file, of its cutting, its outer list and the three counts of identifiers holds
+--   in-full       the full trixels have `full` identifiers at the depth
+--   in-accepted   the accepted trixels, full ones and partial ones at the depth, have full + partial
+--   in-outer      the outer ranges contain full + partial + swallowed
+-- each identifier counted once (`Contains`, ranges/specs/Contents). `Counted` says so of the rules, `CountedOfAnswers` of what the cover answers and of the
+-- outer list that stands in the lent list afterwards. Both are proved: proofs/Counted.
+use Prim.Native.Nat.{ℕ, _+_}
+use mathlib.Core.Path.{_≡_}
+use mathlib.Core.List.{List}
+use Rattle.answer.specs.Answer.{gives}
+use Rattle.region.specs.Reader.{File, Accepted}
+use Rattle.ranges.specs.Ranges.{Range}
+use Rattle.ranges.specs.Contents.{Contains}
+use Rattle.cutting.specs.declared.Counts.{Counts}
+use Rattle.cutting.specs.Cover.{Found, cutting, cover, countsOf}
+use Rattle.htm.specs.Answers.{coverAnswer, coverAfter, outerIn}
+
+-- of what a cutting found, a list of ranges and the counts
+pub record Contents (found : Found) (outer : List Range) (c : Counts) : Type 0 where
+  pub in-full : Contains (found .full) (c .full)
+  pub in-accepted : Contains (found .accepted) (c .full + c .partial)
+  pub in-outer : Contains outer (c .full + c .partial + c .swallowed)
+
+abbrev pub Counted : Type 0
+Counted = (f : List ℕ) (x : File) → Accepted f x → Contents (cutting (x .depth) (x .region)) (cover x .outer) (countsOf (cover x))
+
+abbrev pub CountedOfAnswers : Type 0
+CountedOfAnswers =
+    (f before : List ℕ) (c : Counts) → coverAnswer f before ≡ gives c
+    → (x : File) × Accepted f x × Contents (cutting (x .depth) (x .region)) (outerIn c (coverAfter f before)) c

@@ -1,0 +1,241 @@
+-- What the outer list contains: the identifiers of the ranges that went in, and those in the gaps that were joined over. Joining two touching ranges
+-- changes no count, and joining over a gap adds what lies in it; and in a list that ascends no identifier is counted twice. Assumes nothing.
+use Prim.Native.Nat.{ℕ, zero, suc, _+_, _-_, _*_, _≤_, _<_, min}
+use mathlib.Core.Path.{_≡_, refl, sym, ap, _∙_, subst}
+use mathlib.Core.Bool.{Bool, true, false, cond, _||_, true≢false}
+use mathlib.Core.List.{List, [], _∷_, _++_}
+use native.Mathlib.Omega.{arith}
+use lib.Dec.{eqb, leb}
+use lib.ListN.{length, getD, drop}
+use lib.Seq.{getD-drop}
+use borrow.Author.Tests.{leb-true, leb-false, lt-ltb, le-ltb, eqb-true, eqb-false}
+use Rattle.algebra.specs.Lists.{some}
+use Rattle.algebra.proofs.Tests.{split, or-left, or-right}
+use Rattle.ranges.specs.Ranges.{Range, isIn, inSome, Ascends, rangesIn}
+use Rattle.ranges.specs.Lists.{over, touch, joined, joinedFrom, smallest, place, earliest, gap, gaps, joinAt, joinSmallest, outerOf}
+use Rattle.ranges.specs.Contents.{identifiers, different, Contains, inGap, swallowedFrom, swallowedOf}
+use Rattle.ranges.proofs.Earliest.{place-here, place-later, earliest-inside}
+use Rattle.ranges.proofs.Loop.{reduced-ind, reduced-keeps}
+use Rattle.ranges.proofs.OuterPass.{length-gaps, joinSmallest-shrinks}
+use Rattle.ranges.proofs.ListLaws.{is-in, in-high, not-below, not-above, Between, between-le, between-widen}
+
+-- ---- lists in a row, and in a stretch
+
+pub identifiers-append : (xs ys : List Range) → identifiers (xs ++ ys) ≡ identifiers xs + identifiers ys
+unfolding identifiers
+identifiers-append [] ys = omega arith
+identifiers-append (r ∷ xs) ys = omega (arith, identifiers-append xs ys)
+
+-- a stretch has room for no more identifiers than it is long
+pub identifiers-few : (a b : ℕ) (rs : List Range) → Between a b rs → a + identifiers rs ≤ b
+unfolding identifiers
+identifiers-few a b [] p = omega arith
+identifiers-few a b (r ∷ rs) p = omega (arith, identifiers-few (r .high + 1) b rs (p .2))
+
+-- ---- touching ranges join
+
+joined-between : (a b : ℕ) (r : Range) (rs : List Range) → Between a b (r ∷ rs) → Between a b (joinedFrom r rs)
+unfolding joinedFrom
+joined-between a b r [] p = p
+joined-between a b r (s ∷ rs) p =
+    split (touch r s)
+    (λ t. rw t (joined-between a b (over r s) rs (p .0, omega arith, p .2 .2)))
+    (λ t. rw t (p .0, p .1, joined-between (r .high + 1) b s rs (p .2)))
+
+joined-same : (a b : ℕ) (r : Range) (rs : List Range) → Between a b (r ∷ rs) → identifiers (joinedFrom r rs) ≡ identifiers (r ∷ rs)
+unfolding joinedFrom identifiers
+joined-same a b r [] p = refl
+joined-same a b r (s ∷ rs) p =
+    split (touch r s)
+    (λ t. rw t (omega (arith, eqb-true (r .high + 1) (s .low) t, joined-same a b (over r s) rs (p .0, omega arith, p .2 .2))))
+    (λ t. rw t (omega (arith, joined-same (r .high + 1) b s rs (p .2))))
+
+module _ (a b : ℕ) where
+  pub between-joined : (rs : List Range) → Between a b rs → Between a b (joined rs)
+  unfolding joined
+  between-joined [] p = p
+  between-joined (r ∷ rs) p = joined-between a b r rs p
+
+  pub identifiers-joined : (rs : List Range) → Between a b rs → identifiers (joined rs) ≡ identifiers rs
+  unfolding joined
+  identifiers-joined [] p = refl
+  identifiers-joined (r ∷ rs) p = joined-same a b r rs p
+
+-- ---- join over a gap
+
+joinAt-between : (i a b : ℕ) (rs : List Range) → Between a b rs → Between a b (joinAt i rs)
+unfolding joinAt
+joinAt-between i a b [] p = p
+joinAt-between i a b (r ∷ []) p = p
+joinAt-between zero a b (r ∷ s ∷ rs) p = (p .0, omega arith, p .2 .2)
+joinAt-between (suc i) a b (r ∷ s ∷ rs) p = (p .0, p .1, joinAt-between i (r .high + 1) b (s ∷ rs) (p .2))
+
+-- the place of the gap g, if it is one of them
+over-gap : (g a b : ℕ) (rs : List Range) → Between a b rs → place g (gaps rs) < length (gaps rs)
+    → identifiers (joinAt (place g (gaps rs)) rs) ≡ identifiers rs + inGap g
+unfolding gaps
+over-gap g a b [] p h = absurd (omega arith)
+over-gap g a b (r ∷ []) p h = absurd (omega arith)
+over-gap g a b (r ∷ s ∷ rs) p h =
+    split (eqb g (gap r s))
+    (λ t.
+    let e = eqb-true g (gap r s) t in
+    rw (place-here g (gap r s) (gaps (s ∷ rs)) e) (first e))
+    (λ t.
+    let e = place-later g (gap r s) (gaps (s ∷ rs)) (eqb-false g (gap r s) t) in
+    rw e (next (place g (gaps (s ∷ rs))) (over-gap g (r .high + 1) b (s ∷ rs) (p .2) (omega arith))))
+  where
+    first : g ≡ gap r s → identifiers (joinAt 0 (r ∷ s ∷ rs)) ≡ identifiers (r ∷ s ∷ rs) + inGap g
+    first e = unfold joinAt identifiers in omega arith
+
+    next : (i : ℕ) → identifiers (joinAt i (s ∷ rs)) ≡ identifiers (s ∷ rs) + inGap g
+        → identifiers (joinAt (suc i) (r ∷ s ∷ rs)) ≡ identifiers (r ∷ s ∷ rs) + inGap g
+    next i e = unfold joinAt identifiers in omega arith
+
+some-gap : (rs : List Range) → 1 < length rs → 0 < length (gaps rs)
+some-gap [] h = absurd (omega arith)
+some-gap (r ∷ rs) h = omega (arith, length-gaps r rs)
+
+module _ (a b : ℕ) where
+  pub identifiers-joinSmallest : (rs : List Range) → 1 < length rs → Between a b rs
+      → identifiers (joinSmallest rs) ≡ identifiers rs + inGap (smallest (gaps rs))
+  unfolding joinSmallest earliest
+  identifiers-joinSmallest rs h p = over-gap (smallest (gaps rs)) a b rs p (earliest-inside (gaps rs) (some-gap rs h))
+
+  pub between-joinSmallest : (rs : List Range) → Between a b rs → Between a b (joinSmallest rs)
+  unfolding joinSmallest
+  between-joinSmallest rs p = joinAt-between (earliest (gaps rs)) a b rs p
+
+-- ---- the outer list
+
+module _ (B : ℕ) (one : 1 ≤ B) where
+  none-swallowed : (fuel : ℕ) (xs : List Range) → length xs ≤ B → swallowedFrom B fuel xs ≡ 0
+  unfolding swallowedFrom
+  none-swallowed zero xs h = refl
+  none-swallowed (suc fuel) xs h = rw (le-ltb B (length xs) h)
+
+  more-swallowed : (xs : List Range) → B < length xs
+      → swallowedFrom B (length xs) xs ≡ inGap (smallest (gaps xs)) + swallowedFrom B (length (joinSmallest xs)) (joinSmallest xs)
+  unfolding swallowedFrom
+  more-swallowed xs h =
+      ap (λ n. swallowedFrom B n xs) (sym (joinSmallest-shrinks xs (omega arith))) ∙ rw (lt-ltb B (length xs) h)
+
+  module _ (a b : ℕ) (rs : List Range) (p : Between a b rs) where
+    pub between-outer : Between a b (outerOf B rs)
+    unfolding outerOf
+    between-outer =
+        reduced-keeps joinSmallest B joinSmallest-shrinks one (Between a b) (λ xs h. between-joinSmallest a b xs) (joined rs) (between-joined a b rs p)
+
+    pub identifiers-outer : identifiers (outerOf B rs) ≡ identifiers rs + swallowedOf B rs
+    unfolding outerOf swallowedOf
+    identifiers-outer =
+        reduced-ind joinSmallest B joinSmallest-shrinks one
+        (λ xs ys. Between a b xs → identifiers ys ≡ identifiers xs + swallowedFrom B (length xs) xs)
+        (λ xs h q. omega (arith, none-swallowed (length xs) xs h))
+        (λ xs ys h ih q.
+        let s = more-swallowed xs h in
+        let j = identifiers-joinSmallest a b xs (omega arith) q in
+        omega (arith, ih (between-joinSmallest a b xs q)))
+        (joined rs) (between-joined a b rs p)
+        ∙ ap (λ n. n + swallowedFrom B (length (joined rs)) (joined rs)) (identifiers-joined a b rs p)
+
+-- ---- in a list that ascends each identifier is counted once
+
+-- one range alone: its identifiers below m
+different-one : (m : ℕ) (r : Range) → different m (r ∷ []) ≡ min m (r .high + 1) - r .low
+unfolding different some
+different-one zero r = omega arith
+different-one (suc m) r =
+    let ih = different-one m r in
+    split (leb (r .low) m)
+    (λ l.
+    split (leb m (r .high))
+    (λ h. rw (is-in m r (leb-true (r .low) m l) (leb-true m (r .high) h)) (omega (arith, leb-true (r .low) m l, leb-true m (r .high) h)))
+    (λ h. rw (not-below m r (omega (arith, leb-false m (r .high) h))) (omega (arith, leb-false m (r .high) h))))
+    (λ l. rw (not-above m r (omega (arith, leb-false (r .low) m l))) (omega (arith, leb-false (r .low) m l)))
+
+-- below a stretch there is none
+none-below : (a b n : ℕ) (rs : List Range) → Between a b rs → n < a → inSome n rs ≡ false
+unfolding some
+none-below a b n [] p h = refl
+none-below a b n (r ∷ rs) p h = rw (not-above n r (omega arith)) (none-below (r .high + 1) b n rs (p .2) (omega arith))
+
+-- two tests that are never both passed
+apart-tests : (x y : Bool) (p q s : ℕ) → (x ≡ true → y ≡ false) → s ≡ p + q
+    → cond (x || y) (suc s) s ≡ cond (x || false) (suc p) p + cond y (suc q) q
+apart-tests true true p q s n e = absurd (true≢false (n refl))
+apart-tests true false p q s n e = omega arith
+apart-tests false true p q s n e = omega arith
+apart-tests false false p q s n e = e
+
+-- the first range and the others share no identifier
+different-cons : (b m : ℕ) (r : Range) (rs : List Range) → Between (r .high + 1) b rs
+    → different m (r ∷ rs) ≡ different m (r ∷ []) + different m rs
+unfolding different some
+different-cons b zero r rs p = refl
+different-cons b (suc m) r rs p =
+    apart-tests (isIn m r) (inSome m rs) (different m (r ∷ [])) (different m rs) (different m (r ∷ rs))
+    (λ e. none-below (r .high + 1) b m rs p (omega (arith, in-high m r e))) (different-cons b m r rs p)
+
+different-none : (m : ℕ) → different m [] ≡ 0
+unfolding different some
+different-none zero = refl
+different-none (suc m) = different-none m
+
+different-all : (a b : ℕ) (rs : List Range) → Between a b rs → different b rs ≡ identifiers rs
+unfolding identifiers
+different-all a b [] p = different-none b
+different-all a b (r ∷ rs) p =
+    let l = between-le (r .high + 1) b rs (p .2) in
+    omega (arith, different-cons b b r rs (p .2), different-one b r, different-all (r .high + 1) b rs (p .2))
+
+-- a list ends before any number that no identifier in it reaches
+ends-before : (a b m : ℕ) (rs : List Range) → ((i : ℕ) → inSome i rs ≡ true → i < m) → a ≤ m → Between a b rs → Between a m rs
+unfolding some
+ends-before a b m [] f h p = h
+ends-before a b m (r ∷ rs) f h p =
+    let l = f (r .high) (or-left (inSome (r .high) rs) (is-in (r .high) r (p .1) (omega arith))) in
+    (p .0, p .1, ends-before (r .high + 1) b m rs (λ i e. f i (or-right (isIn i r) e)) (omega arith) (p .2))
+
+pub between-contains : (a b : ℕ) (rs : List Range) → Between a b rs → Contains rs (identifiers rs)
+between-contains a b rs p = record {
+  counted = refl;
+  once = λ m f. different-all 0 m rs (ends-before 0 b m rs f (omega arith) (between-widen 0 b a b rs (omega arith) (omega arith) p));
+}
+
+ascends-from : (a : ℕ) (r : Range) (rs : List Range) → a ≤ r .low → Ascends (r ∷ rs) → (b : ℕ) × Between a b (r ∷ rs)
+ascends-from a r [] h p = (r .high + 1, (h, p, omega arith))
+ascends-from a r (s ∷ rs) h p = let e = ascends-from (r .high + 1) s rs (omega arith) (p .2) in (e .0, (h, p .0, e .1))
+
+pub ascends-between : (rs : List Range) → Ascends rs → (b : ℕ) × Between 0 b rs
+ascends-between [] p = (0, omega arith)
+ascends-between (r ∷ rs) p = ascends-from 0 r rs (omega arith) p
+
+-- so of every list that ascends: what it contains, and what its outer list contains
+pub ascends-contains : (rs : List Range) → Ascends rs → Contains rs (identifiers rs)
+ascends-contains rs p = let e = ascends-between rs p in between-contains 0 (e .0) rs (e .1)
+
+pub outer-contains : (B : ℕ) → 1 ≤ B → (rs : List Range) → Ascends rs → Contains (outerOf B rs) (identifiers rs + swallowedOf B rs)
+outer-contains B one rs p =
+    let e = ascends-between rs p in
+    subst (Contains (outerOf B rs)) (identifiers-outer B one 0 (e .0) rs (e .1))
+    (between-contains 0 (e .0) (outerOf B rs) (between-outer B one 0 (e .0) rs (e .1)))
+
+-- ---- pairs in a list, range by range
+
+pub identifiers-next : (n : ℕ) (l : List ℕ)
+    → identifiers (rangesIn (suc n) l) ≡ identifiers (rangesIn n l) + (getD l (2 * n + 1) 0 - getD l (2 * n) 0 + 1)
+unfolding rangesIn identifiers
+identifiers-next zero l = omega arith
+identifiers-next (suc n) l =
+    let low : getD (drop 2 l) (2 * n) 0 ≡ getD l (2 * suc n) 0 = getD-drop 2 l (2 * n) 0 ∙ ap (λ k. getD l k 0) (omega arith) in
+    let high : getD (drop 2 l) (2 * n + 1) 0 ≡ getD l (2 * suc n + 1) 0 = getD-drop 2 l (2 * n + 1) 0 ∙ ap (λ k. getD l k 0) (omega arith) in
+    let ih = identifiers-next n (drop 2 l) in
+    omega arith
+
+-- the first k of n ranges have no more
+pub identifiers-first : (k n : ℕ) (l : List ℕ) → k ≤ n → identifiers (rangesIn k l) ≤ identifiers (rangesIn n l)
+unfolding rangesIn identifiers
+identifiers-first zero n l h = omega arith
+identifiers-first (suc k) zero l h = absurd (omega arith)
+identifiers-first (suc k) (suc n) l h = omega (arith, identifiers-first k n (drop 2 l) (omega arith))
