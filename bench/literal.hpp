@@ -269,7 +269,7 @@ static inline int write_file(i64 depth,i64 budget,const std::vector<i64>&list,By
 
 // ---------------------------------------------------------------- point test
 static inline bool half_holds(const Row&h,const Vec&p){
-    return dot(Vec{h.x,h.y,h.z},p) > (i128)h.d*K;
+    return dot(Vec{h.x,h.y,h.z},p) >= (i128)h.d*K;   // closed: document 02, F-5
 }
 static inline bool region_holds(const Region&g,const Vec&p){
     size_t i=0;

@@ -5,8 +5,8 @@
  * Depth 1 is one of the eight roots, S0 to N3, which are 8 to 15; identifiers and names go to depth 31, lookups, corners and
  * region files to depth 12.
  *
- * Boundaries: a halfspace of direction n and offset d holds the point p when n.p > d*K, strictly: a point on the plane is not
- * held. A range of identifiers has both its ends in it. A point on the edge of two trixels is in one of them, that of lookup.
+ * Boundaries: a halfspace of direction n and offset d holds the point p when n.p >= d*K: a point on the plane is held, also by
+ * the opposite halfspace. A range of identifiers has both its ends in it. A point on the edge of two trixels is in one of them, that of lookup.
  *
  * Memory: a list is passed as a pointer and its number of elements. The caller owns every list; the library reads or writes it
  * during the call, allocates nothing and keeps nothing. A pointer is not null, and lists that are written do not overlap others.

@@ -428,7 +428,7 @@ def lines():
 
 def cases():
     groups = (document_01, document_000, depths, borders, corners_and_middles, ties, lengths, octants, anywhere, no_vectors, identifiers, names,
-              trixel_corners, regions.damaged, regions.two_faults, regions.limits, regions.edges, regions.writer_rows, points, regions.region_shapes,
+              trixel_corners, regions.damaged, regions.two_faults, regions.limits, regions.edges, regions.writer_rows, points, regions.planes, regions.region_shapes,
               odd_numbers, other_shapes, long_lines, covers, mounts, lines)
     for group in groups:
         yield from group()

@@ -1,5 +1,6 @@
 """Cases of the region commands of the program query: rows, file, holds. Used by cases.py."""
 import re
+from math import isqrt
 from struct import pack
 
 import htm
@@ -172,6 +173,26 @@ def points(draws, direction):
         yield rows_line(file)
         yield file_line(1 + draws.below(12), draws.below(2049), [n for r in htm.rows_of(region) for n in r])
         yield from (holds_line(file, direction()) for _ in range(3))
+
+
+def planes():
+    """Points exactly on planes and one unit to either side: one halfspace, its opposite, both as two convexes and as one; d = K and d = -K."""
+    for axis in range(3):
+        for z in (-K, 1 - K, -741455, -1, 0, 1, 300000, 741455, K - 1, K):
+            for sign in (1, -1):
+                n = [0, 0, 0]
+                n[axis] = sign * K
+                away, p = isqrt(K*K - z*z), [0, 0, 0]
+                p[axis], p[axis - 1] = z, away if axis else -away
+                for d in (sign * z - 1, sign * z, sign * z + 1):
+                    if -K <= d <= K:
+                        h, o = (tuple(n), d), (tuple(-c for c in n), -d)
+                        yield from (holds_line(file_of(r), tuple(p)) for r in ([[h]], [[o]], [[h], [o]], [[h, o]]))
+    for x in (0, 1, 20000, 524288, 741455, K):
+        y = isqrt(K*K - x*x)
+        h, o = ((x, y, 0), 0), ((-x, -y, 0), 0)
+        for p in ((-y, x, 0), (y, -x, 0), (0, 0, K), (0, 0, -K), (x, y, 0)):
+            yield from (holds_line(file_of(r), p) for r in ([[h]], [[o]], [[h], [o]], [[h, o]]))
 
 
 def region_shapes():

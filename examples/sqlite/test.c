@@ -1,5 +1,5 @@
 /* The frames that searches deliver, beside a test of every frame: regions of many kinds, at every depth, within many budgets. The
- * rows of a region are compared with every frame in plain C, n.p > d*K, and with htm_holds on a sample and on every frame that
+ * rows of a region are compared with every frame in plain C, n.p >= d*K, and with htm_holds on a sample and on every frame that
  * lies on a plane. */
 #include "frames.h"
 
@@ -143,7 +143,7 @@ static bool holds(const struct shape *s, struct pointing p, bool *on_plane)
             all = true;
         }
         int64_t dot = (int64_t)r[1] * p.x + (int64_t)r[2] * p.y + (int64_t)r[3] * p.z, limit = (int64_t)r[4] * K;
-        all = all && dot > limit;
+        all = all && dot >= limit;
         *on_plane = *on_plane || dot == limit;
     }
     return any || all;

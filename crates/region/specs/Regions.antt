@@ -1,12 +1,12 @@
--- Halfspaces, convexes and regions, and which points they hold. Document 01, 'Regions'; 3.1 to 3.3 and 4.1 of document 000.
+-- Halfspaces, convexes and regions, and which points they hold. Document 01, 'Regions'; 3.1 to 3.3 and 4.1 of document 000; document 02, F-5.
 -- A halfspace has a direction n and an offset d. A convex is a list of halfspaces, a region a list of convexes.
 --   halfspaceFrom n d                                the halfspace of a direction and an offset
---   heldSide s t                                     the comparison of 4.1, in one place: s > t, strictly
+--   heldSide s t                                     the comparison of 4.1, in one place, closed by F-5: s ≥ t
 --   holdsHalfspace h p, holdsConvex c p, holds g p   the point p is in it
 use mathlib.Core.Bool.{Bool}
 use mathlib.Core.List.{List}
 use lib.IntN.{ℤ, _*ℤ_}
-use lib.Signed.{ltZ}
+use lib.Signed.{leZ}
 use Rattle.algebra.specs.Lists.{every, some}
 use Rattle.vector.specs.declared.Vec3.{Vec3}
 use Rattle.vector.specs.Numbers.{K}
@@ -23,9 +23,9 @@ abbrev pub halfspaceFrom : Vec3 → ℤ → Halfspace
 halfspaceFrom n d = record { n = n; d = d }
 
 abbrev pub heldSide : ℤ → ℤ → Bool
-heldSide s t = ltZ t s
+heldSide s t = leZ t s
 
--- n·p > d·K
+-- n·p ≥ d·K
 abbrev pub holdsHalfspace : Halfspace → Vec3 → Bool
 holdsHalfspace h p = heldSide (dot (h .n) p) (h .d *ℤ K)
 

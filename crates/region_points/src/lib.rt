@@ -25,14 +25,14 @@ pub struct Scan {
     pub any: bool,
 }
 
-// Whether a halfspace holds p: n·p > d·K, strictly.
+// Whether a halfspace holds p: n·p ≥ d·K.
 fn holds_halfspace(h: Halfspace, p: Vec3) -> bool
     requires { ⌜ AtMost (2 ^ 31) (h .n) × Upto (2 ^ 31) (h .d) ⌝ }
     requires { ⌜ Small p ⌝ }
     ensures { λ t. ⌜ t ≡ holdsHalfspace h p ⌝ }
 {
     let n = h.n;
-    h.d * K < vector_products::dot(p, n)
+    h.d * K <= vector_products::dot(p, n)
 }
 
 // Whether the halfspace of row i holds p.
