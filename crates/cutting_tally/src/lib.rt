@@ -111,7 +111,7 @@ pub fn seen_more(s: &mut [u64])
     s[9] = s[9] + 1;
 }
 
-// And it is partial, at the depth.
+// One trixel more is classified, and it is partial, at the depth.
 fn partial_more(s: &mut [u64])
     requires { ⌜ length (now s) ≡ 13 ⌝ }
     requires { ⌜ Countable (tallyIn (now s)) ⌝ }
@@ -123,7 +123,7 @@ fn partial_more(s: &mut [u64])
     s[12] = partial;
 }
 
-// And it is full, with the identifiers from low to high at the depth.
+// One trixel more is classified, and it is full, with the identifiers from low to high at the depth.
 fn full_more(s: &mut [u64], low: u64, high: u64)
     requires { ⌜ length (now s) ≡ 13 ⌝ }
     requires { ⌜ Countable (tallyIn (now s)) ⌝ }

@@ -1,4 +1,4 @@
-// What the calls for C are made of: answers as numbers, and values in lent lists. None of it is exported.
+// What the calls for C are made of: answers as numbers, and values in lent lists. None of it is exported, so each may ask something of its callers.
 use answer::Number;
 use answer::SPACE;
 use limits::HALFSPACES;
@@ -21,7 +21,7 @@ ghost use Rattle.htm.specs.Answers.{orZero};
 ghost use Rattle.htm.specs.CalledFromC.{numberForC, statusOf, cornersList, refusalOf, headerList};
 
 // An identifier, or 0 for a refusal.
-pub fn or_zero(answer: Number) -> u64
+pub(crate) fn or_zero(answer: Number) -> u64
     ensures { λ r. ⌜ r ≡ orZero (numberOf answer) ⌝ }
 {
     match answer {
@@ -31,14 +31,14 @@ pub fn or_zero(answer: Number) -> u64
 }
 
 // A refusal's number, below zero.
-pub fn minus(n: u32) -> i64
+pub(crate) fn minus(n: u32) -> i64
     ensures { λ r. ⌜ (r ≡ negℤ (pos n)) × Upto (2 ^ 32) r ⌝ }
 {
     -(n as i64)
 }
 
 // A length or an identifier to depth 12, or minus the number of the refusal.
-pub fn number_or_minus(answer: Number) -> i64
+pub(crate) fn number_or_minus(answer: Number) -> i64
     requires { ⌜ ((n : ℕ) → numberOf answer ≡ gives n → n ≤ 2 ^ 32) ⌝ }
     ensures { λ r. ⌜ (r ≡ numberForC (numberOf answer)) × Upto (2 ^ 32) r ⌝ }
 {
@@ -49,7 +49,7 @@ pub fn number_or_minus(answer: Number) -> i64
 }
 
 // A corner, from element `at` on.
-pub fn put_corner(out: &mut [i32], at: usize, v: Vec3)
+pub(crate) fn put_corner(out: &mut [i32], at: usize, v: Vec3)
     requires { ⌜ at + 3 ≤ length (now out) ⌝ }
     requires { ⌜ Small v ⌝ }
     ensures { λ _. ⌜ now (out .exit) ≡ put at (three v) (now (out .entry)) ⌝ }
@@ -60,7 +60,7 @@ pub fn put_corner(out: &mut [i32], at: usize, v: Vec3)
 }
 
 // Three corners, at the beginning of a list.
-pub fn put_corners(out: &mut [i32], c: Corners)
+pub(crate) fn put_corners(out: &mut [i32], c: Corners)
     requires { ⌜ 9 ≤ length (now out) ⌝ }
     requires { ⌜ SmallCorners c ⌝ }
     ensures { λ _. ⌜ now (out .exit) ≡ put 0 (cornersList c) (now (out .entry)) ⌝ }
@@ -71,7 +71,7 @@ pub fn put_corners(out: &mut [i32], c: Corners)
 }
 
 // The refusal of a file for which a lent list is too short: its own, or 10.
-pub fn without_room(file: &[u8]) -> i64
+pub(crate) fn without_room(file: &[u8]) -> i64
     ensures { λ r. ⌜ (r ≡ statusOf (refusalOf (now (file .entry)))) × Upto (2 ^ 32) r ⌝ }
 {
     let mut rows = [0i32; 5 * HALFSPACES];
@@ -83,7 +83,7 @@ pub fn without_room(file: &[u8]) -> i64
 }
 
 // Count, depth and budget, at the beginning of a list.
-pub fn put_header(header: &mut [u64], h: Header)
+pub(crate) fn put_header(header: &mut [u64], h: Header)
     requires { ⌜ 3 ≤ length (now header) ⌝ }
     ensures { λ _. ⌜ now (header .exit) ≡ put 0 (headerList h) (now (header .entry)) ⌝ }
 {
