@@ -1,11 +1,8 @@
 #!/usr/bin/env python3
-"""Prints the rows of crates/mesh_table/src/lib.rt by the model htm.py: two lines for each of the trixels 128 to 255, x y z of v0 v1 v2 and of p0 p1 p2;
-the same numbers as the list of crates/mesh_table/proofs/Constants.antt; and the lines of crates/mesh_table/proofs/row/Proof.antt that answer for them.
+"""Prints the numbers of crates/mesh_table/src/lib.rt by the model htm.py: a line for each of the trixels 128 to 143, x y z of v0 v1 v2 p0 p1 p2.
 
-python3 tools/table.py              print the rows
-python3 tools/table.py --constants  print the list
-python3 tools/table.py --answers    print the answers
-python3 tools/table.py --compare    say whether the three files have them
+python3 tools/table.py              print the lines
+python3 tools/table.py --compare    say whether the file has them, and whether the trixels 144 to 255 are these, turned
 """
 import sys
 from pathlib import Path
@@ -13,40 +10,29 @@ from pathlib import Path
 sys.dont_write_bytecode = True
 from htm import trixel
 
-CRATE = Path(__file__).resolve().parent.parent / "crates/mesh_table"
+FILE = Path(__file__).resolve().parent.parent / "crates/mesh_table/src/lib.rt"
+TURNED = [
+    lambda x, y, z: (x, y, z), lambda x, y, z: (-y, x, z), lambda x, y, z: (-x, -y, z), lambda x, y, z: (y, -x, z),
+    lambda x, y, z: (x, -y, -z), lambda x, y, z: (-y, -x, -z), lambda x, y, z: (-x, y, -z), lambda x, y, z: (y, x, -z),
+]
 
 
-def row(j):
-    three = trixel(128 + j // 2)[j % 2]
-    return f"        {j if j < 255 else '_'} => [" + ", ".join(str(n) for v in three for n in v) + "],\n"
+def vectors(i):
+    corners, normals = trixel(i)
+    return [tuple(v) for v in (*corners, *normals)]
 
 
-def rows():
-    return "".join(map(row, range(256)))
+def entries():
+    return "".join("    " + ", ".join(str(n) for v in vectors(i) for n in v) + ",\n" for i in range(128, 144))
 
 
-def signed(n):
-    return f"pos {n}" if n >= 0 else f"negsuc {-n - 1}"
+def rotated():
+    return all(vectors(128 + 16 * r + t) == [TURNED[r](*v) for v in vectors(128 + t)] for r in range(8) for t in range(16))
 
-
-def constants():
-    lines = []
-    for j in range(128):
-        corners, normals = trixel(128 + j)
-        lines.append("    " + " ∷ ".join(signed(n) for v in corners + normals for n in v) + " ∷\n")
-    return "".join(lines)
-
-
-def answers():
-    return "".join(f"    (λ c. at {j} (c .match .keys{j + 1}) refl (c .before .pre))\n" for j in range(255))
-
-
-FILES = {"": ("src/lib.rt", rows), "--constants": ("proofs/Constants.antt", constants), "--answers": ("proofs/row/Proof.antt", answers)}
 
 if __name__ == "__main__":
-    what = sys.argv[1] if len(sys.argv) > 1 else ""
-    if what == "--compare":
-        same = all(made() in (CRATE / name).read_text() for name, made in FILES.values())
+    if sys.argv[1:] == ["--compare"]:
+        same = entries() in FILE.read_text() and rotated()
         print("same" if same else "different")
         sys.exit(not same)
-    sys.stdout.write(FILES[what][1]())
+    sys.stdout.write(entries())

@@ -2,3 +2,5 @@ pub mod NameLaws
 pub mod NamesInverse
 pub mod Path
 pub mod Ties
+pub mod RotationLaws
+pub mod Rotated

@@ -3,3 +3,4 @@ pub mod Identifiers
 pub mod Lookup
 pub mod Names
 pub mod Answers
+pub mod Rotations

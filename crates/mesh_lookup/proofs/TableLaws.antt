@@ -1,4 +1,5 @@
--- The table of depth 3 as a lookup reads it. The cuts of a root stand in it, turned round, as the normals of its middle child: two of them in that
+-- The table of depth 3 as a lookup reads it: an entry of a root is that of S0, turned, and a rotation keeps dot products, so that the tests of a pointing
+-- may be made in S0 with the pointing turned back. The cuts of S0 stand in the table, turned round, as the normals of its middle child: two of them in that
 -- child's first child, the other in its second. Those of a trixel of depth 2 are the normals of its own middle child. Assumes nothing.
 use Prim.Native.Nat.{ℕ, zero, suc, _+_, _*_, _/_, _%_, _-_, _<_}
 use native.Mathlib.Omega.{arith}
@@ -15,32 +16,45 @@ use Rattle.mesh.specs.declared.Trixel.{Trixel}
 use Rattle.mesh.specs.Trixels.{rootTrixel, cut, child}
 use Rattle.mesh.specs.Identifiers.{trixel}
 use Rattle.mesh.specs.Lookup.{notNegative, digit, descend}
+use Rattle.mesh.specs.Rotations.{turned, turnedTrixel}
+use Rattle.mesh.proofs.Path.{child-trixel}
+use Rattle.mesh.proofs.RotationLaws.{turned-rotates}
+use Rattle.mesh.proofs.Rotated.{rotated}
 use Rattle.mesh_table.specs.Table.{partOf, vectorAt}
-use Rattle.mesh_trixels.specs.Corners.{bare}
+use Rattle.mesh_trixels.specs.Corners.{tripleOf, bare}
 use Rattle.mesh_trixels.proofs.CornerLaws.{descend-corners}
 use Rattle.mesh_lookup.specs.declared.Place.{Place}
 use Rattle.mesh_lookup.specs.Places.{digitBy}
 
--- ---- entry e of child d of root k
+-- ---- entry e of child d of the root r is that of S0, turned
 
-sixth : (m a : ℕ) → a < 6 → ((6 * m + a) / 6 ≡ m) × ((6 * m + a) % 6 ≡ a)
-sixth m a h = (omega arith, omega arith)
+part-turned : (r a : ℕ) (t : Trixel) → a < 6 → turned r (partOf a t) ≡ partOf a (turnedTrixel r t)
+part-turned r zero t l = refl
+part-turned r (suc zero) t l = refl
+part-turned r (suc (suc zero)) t l = refl
+part-turned r (suc (suc (suc zero))) t l = refl
+part-turned r (suc (suc (suc (suc zero)))) t l = refl
+part-turned r (suc (suc (suc (suc (suc zero))))) t l = refl
+part-turned r (suc (suc (suc (suc (suc (suc a)))))) t l = absurd (omega arith)
 
-quarter : (m e : ℕ) → e < 4 → ((4 * m + e) / 4 ≡ m) × ((4 * m + e) % 4 ≡ e)
-quarter m e h = (omega arith, omega arith)
+sixth : (m a n : ℕ) → a < 6 → n ≡ 6 * m + a → (n / 6 ≡ m) × (n % 6 ≡ a)
+sixth m a n h e = (omega arith, omega arith)
 
-pub entry : (k d e a n : ℕ) → d < 4 → e < 4 → a < 6 → n ≡ 96 * k + 24 * d + 6 * e + a → vectorAt n ≡ partOf a (child e (child d (rootTrixel k)))
-unfolding vectorAt trixel
-entry k d e a n hd he ha is =
-    let six : n ≡ 6 * (16 * k + 4 * d + e) + a = omega arith in
-    let at : 128 + n / 6 ≡ 4 * (4 * (8 + k) + d) + e = omega (arith, ap (λ m. m / 6) six, sixth (16 * k + 4 * d + e) a ha .0) in
-    let ea : n % 6 ≡ a = ap (λ m. m % 6) six ∙ sixth (16 * k + 4 * d + e) a ha .1 in
-    let ee : (128 + n / 6) % 4 ≡ e = ap (λ m. m % 4) at ∙ quarter (4 * (8 + k) + d) e he .1 in
-    let up : (128 + n / 6) / 4 ≡ 4 * (8 + k) + d = ap (λ m. m / 4) at ∙ quarter (4 * (8 + k) + d) e he .0 in
-    let ed : (128 + n / 6) / 4 % 4 ≡ d = ap (λ m. m % 4) up ∙ quarter (8 + k) d hd .1 in
-    let root : (128 + n / 6) / 4 / 4 ≡ 8 + k = ap (λ m. m / 4) up ∙ quarter (8 + k) d hd .0 in
-    let ek : (128 + n / 6) / 4 / 4 - 8 ≡ k = omega arith in
-    λ j. partOf (ea j) (child (ee j) (child (ed j) (rootTrixel (ek j))))
+below-root : (r d e : ℕ) → d < 4 → e < 4 → trixel 2 ((8 + r) * 16 + (4 * d + e)) ≡ child e (child d (rootTrixel r))
+unfolding trixel
+below-root r d e hd he =
+    let i : (8 + r) * 16 + (4 * d + e) ≡ 4 * (4 * (8 + r) + d) + e = omega arith in
+    let z : 8 + r - 8 ≡ r = omega arith in
+    ap (trixel 2) i ∙ child-trixel 1 (4 * (8 + r) + d) e he ∙ ap (child e) (child-trixel 0 (8 + r) d hd) ∙ ap (λ k. child e (child d (rootTrixel k))) z
+
+module _ (r : ℕ) (h : r < 8) where
+  pub entry : (d e a n : ℕ) → d < 4 → e < 4 → a < 6 → n ≡ 24 * d + 6 * e + a → turned r (vectorAt n) ≡ partOf a (child e (child d (rootTrixel r)))
+  unfolding vectorAt
+  entry d e a n hd he ha is =
+      let six = sixth (4 * d + e) a n ha (omega arith) in
+      (λ j. turned r (partOf (six .1 j) (trixel 2 (128 + six .0 j))))
+      ∙ part-turned r a (trixel 2 (128 + (4 * d + e))) ha
+      ∙ ap (partOf a) (sym (rotated r 2 (4 * d + e) h (omega arith)) ∙ below-root r d e hd he)
 
 -- ---- a normal turned round
 
@@ -59,40 +73,48 @@ unfolding digit
 digit-by-table p t {a} {b} {c} ea eb ec =
     λ j. cond (passed p a (cut t .c0) ea j) 0 (cond (passed p b (cut t .c1) eb j) 1 (cond (passed p c (cut t .c2) ec j) 2 3))
 
-pub root-digit : (p : Vec3) (k : ℕ) {a b c : Vec3} → a ≡ vectorAt (3 * (32 * k + 27) + 2) → b ≡ vectorAt (3 * (32 * k + 25) + 1) → c ≡ vectorAt (3 * (32 * k + 25) + 2)
-    → digitBy p a b c ≡ digit p (rootTrixel k)
-unfolding child
-root-digit p k ea eb ec = digit-by-table p (rootTrixel k)
-    (ea ∙ entry k 3 1 5 (3 * (32 * k + 27) + 2) (lit< tt) (lit< tt) (lit< tt) (omega arith))
-    (eb ∙ entry k 3 0 4 (3 * (32 * k + 25) + 1) (lit< tt) (lit< tt) (lit< tt) (omega arith))
-    (ec ∙ entry k 3 0 5 (3 * (32 * k + 25) + 2) (lit< tt) (lit< tt) (lit< tt) (omega arith))
+-- p is q, turned: the tests of q in S0 are those of p in the root
+module _ (r : ℕ) (h : r < 8) (p q : Vec3) (back : turned r q ≡ p) where
+  kept : (a : Vec3) → dot a q ≡ dot (turned r a) p
+  kept a = sym (turned-rotates r h .kept a q) ∙ ap (dot (turned r a)) back
 
--- the three vectors of row j
-abbrev pub Row : ℕ → Vec3 → Vec3 → Vec3 → Type 0
-Row j a b c = (a ≡ vectorAt (3 * j)) × (b ≡ vectorAt (3 * j + 1)) × (c ≡ vectorAt (3 * j + 2))
+  digit-turned : (a b c : Vec3) → digitBy q a b c ≡ digitBy p (turned r a) (turned r b) (turned r c)
+  digit-turned a b c =
+      λ j. cond (leZ (kept a j) (pos 0)) 0 (cond (leZ (kept b j) (pos 0)) 1 (cond (leZ (kept c j) (pos 0)) 2 3))
 
-pub child-digit : (p : Vec3) (k d : ℕ) {a b c : Vec3} → d < 4 → Row (32 * k + 8 * d + 7) a b c → digitBy p a b c ≡ digit p (child d (rootTrixel k))
-unfolding child
-child-digit p k d h r = digit-by-table p (child d (rootTrixel k))
-    (r .0 ∙ entry k d 3 3 (3 * (32 * k + 8 * d + 7)) h (lit< tt) (lit< tt) (omega arith))
-    (r .1 ∙ entry k d 3 4 (3 * (32 * k + 8 * d + 7) + 1) h (lit< tt) (lit< tt) (omega arith))
-    (r .2 ∙ entry k d 3 5 (3 * (32 * k + 8 * d + 7) + 2) h (lit< tt) (lit< tt) (omega arith))
+  at : (d e i n : ℕ) {a : Vec3} → d < 4 → e < 4 → i < 6 → n ≡ 24 * d + 6 * e + i → a ≡ vectorAt n → turned r a ≡ partOf i (child e (child d (rootTrixel r)))
+  at d e i n hd he hi is ea = ap (turned r) ea ∙ entry r h d e i n hd he hi is
+
+  pub root-digit : {a b c : Vec3} → a ≡ vectorAt 83 → b ≡ vectorAt 76 → c ≡ vectorAt 77 → digitBy q a b c ≡ digit p (rootTrixel r)
+  unfolding child
+  root-digit {a} {b} {c} ea eb ec =
+      digit-turned a b c
+      ∙ digit-by-table p (rootTrixel r) (at 3 1 5 83 (lit< tt) (lit< tt) (lit< tt) refl ea) (at 3 0 4 76 (lit< tt) (lit< tt) (lit< tt) refl eb)
+      (at 3 0 5 77 (lit< tt) (lit< tt) (lit< tt) refl ec)
+
+  pub child-digit : (d : ℕ) {a b c : Vec3} → d < 4 → a ≡ vectorAt (24 * d + 21) → b ≡ vectorAt (24 * d + 22) → c ≡ vectorAt (24 * d + 23)
+      → digitBy q a b c ≡ digit p (child d (rootTrixel r))
+  unfolding child
+  child-digit d {a} {b} {c} hd ea eb ec =
+      digit-turned a b c
+      ∙ digit-by-table p (child d (rootTrixel r)) (at d 3 3 (24 * d + 21) hd (lit< tt) (lit< tt) (omega arith) ea)
+      (at d 3 4 (24 * d + 22) hd (lit< tt) (lit< tt) (omega arith) eb) (at d 3 5 (24 * d + 23) hd (lit< tt) (lit< tt) (omega arith) ec)
 
 -- ---- the start
 
--- two levels down by the digits d and e, with the corners of the entry
-pub started : (p : Vec3) (k d e : ℕ) (s : Place) → d ≡ digit p (rootTrixel k) → e ≡ digit p (child d (rootTrixel k)) → d < 4 → e < 4
-    → s .id ≡ 128 + 16 * k + 4 * d + e
-    → Row (32 * k + 8 * d + 2 * e) (s .corners .v0) (s .corners .v1) (s .corners .v2)
-    → (n : ℕ) → descend p n (bare (s .corners)) (s .id) ≡ descend p (suc (suc n)) (rootTrixel k) (8 + k)
+-- two levels down by the digits d and e, with the corners of the entry, turned
+pub started : (p : Vec3) (r d e : ℕ) (s : Place) → r < 8 → d ≡ digit p (rootTrixel r) → e ≡ digit p (child d (rootTrixel r)) → d < 4 → e < 4
+    → s .id ≡ 128 + 16 * r + 4 * d + e
+    → s .corners ≡ tripleOf (turned r (vectorAt (24 * d + 6 * e))) (turned r (vectorAt (24 * d + 6 * e + 1))) (turned r (vectorAt (24 * d + 6 * e + 2)))
+    → (n : ℕ) → descend p n (bare (s .corners)) (s .id) ≡ descend p (suc (suc n)) (rootTrixel r) (8 + r)
 unfolding descend
-started p k d e s ed ee hd he ei r n =
-    let t = rootTrixel k in
-    let c0 : s .corners .v0 ≡ child e (child d t) .v0 = r .0 ∙ entry k d e 0 (3 * (32 * k + 8 * d + 2 * e)) hd he (lit< tt) (omega arith) in
-    let c1 : s .corners .v1 ≡ child e (child d t) .v1 = r .1 ∙ entry k d e 1 (3 * (32 * k + 8 * d + 2 * e) + 1) hd he (lit< tt) (omega arith) in
-    let c2 : s .corners .v2 ≡ child e (child d t) .v2 = r .2 ∙ entry k d e 2 (3 * (32 * k + 8 * d + 2 * e) + 2) hd he (lit< tt) (omega arith) in
-    let i : s .id ≡ 4 * (4 * (8 + k) + d) + e = omega arith in
+started p r d e s h ed ee hd he ei ec n =
+    let t = rootTrixel r in
+    let c0 : turned r (vectorAt (24 * d + 6 * e)) ≡ child e (child d t) .v0 = entry r h d e 0 (24 * d + 6 * e) hd he (lit< tt) (omega arith) in
+    let c1 : turned r (vectorAt (24 * d + 6 * e + 1)) ≡ child e (child d t) .v1 = entry r h d e 1 (24 * d + 6 * e + 1) hd he (lit< tt) refl in
+    let c2 : turned r (vectorAt (24 * d + 6 * e + 2)) ≡ child e (child d t) .v2 = entry r h d e 2 (24 * d + 6 * e + 2) hd he (lit< tt) refl in
+    let i : s .id ≡ 4 * (4 * (8 + r) + d) + e = omega arith in
     ap (descend p n (bare (s .corners))) i
-    ∙ descend-corners p n (bare (s .corners)) (child e (child d t)) (4 * (4 * (8 + k) + d) + e) (λ j. record { v0 = c0 j; v1 = c1 j; v2 = c2 j })
-    ∙ ap (λ m. descend p n (child m (child d t)) (4 * (4 * (8 + k) + d) + m)) ee
-    ∙ ap (λ m. descend p n (child (digit p (child m t)) (child m t)) (4 * (4 * (8 + k) + m) + digit p (child m t))) ed
+    ∙ descend-corners p n (bare (s .corners)) (child e (child d t)) (4 * (4 * (8 + r) + d) + e) (ec ∙ (λ j. tripleOf (c0 j) (c1 j) (c2 j)))
+    ∙ ap (λ m. descend p n (child m (child d t)) (4 * (4 * (8 + r) + d) + m)) ee
+    ∙ ap (λ m. descend p n (child (digit p (child m t)) (child m t)) (4 * (4 * (8 + r) + m) + digit p (child m t))) ed

@@ -15,6 +15,7 @@ ghost use Rattle.vector.specs.Vectors as vectors;
 ghost use Rattle.vector.proofs.Sizes.{Small};
 ghost use Rattle.mesh.specs.Lookup as rule;
 ghost use Rattle.mesh.specs.Lookup.{notNegative, northRoot, southRoot, rootNumber};
+ghost use Rattle.mesh_table.specs.Table.{table, vectorAt};
 ghost use Rattle.mesh_trixels.specs.Corners.{bare, SmallCorners};
 ghost use Rattle.mesh_lookup.specs.Places.{childAt, digitBy, Stepped, Started};
 
@@ -164,24 +165,37 @@ fn digit_by(p: Vec3, a: Vec3, b: Vec3, c: Vec3) -> u64
     3
 }
 
-// The trixel of depth 3 that p goes to, from the table. The cuts of a root stand there as normals of two children of its middle child, those of a
-// trixel of depth 2 as the normals of its middle child.
+// The same, by three vectors of the table.
+fn table_digit(entries: &[i32; 288], p: Vec3, a: usize, b: usize, c: usize) -> u64
+    requires { ⌜ now entries ≡ table ⌝ }
+    requires { ⌜ Small p ⌝ }
+    requires { ⌜ (a < 96) × (b < 96) × (c < 96) ⌝ }
+    ensures { λ r. ⌜ (r ≡ digitBy p (vectorAt a) (vectorAt b) (vectorAt c)) × (r < 4) ⌝ }
+{
+    digit_by(
+        p,
+        mesh_table::vector_at(entries, a),
+        mesh_table::vector_at(entries, b),
+        mesh_table::vector_at(entries, c),
+    )
+}
+
+// The trixel of depth 3 that p goes to, from the table of S0: p is turned back into S0, and the corners that are found there to the root. The cuts of S0
+// stand in the table as normals of two children of its middle child, those of a trixel of depth 2 as the normals of its middle child.
 fn from_table(p: Vec3, root: u64) -> Place
     requires { ⌜ Small p ⌝ }
     requires { ⌜ root < 8 ⌝ }
     ensures { λ r. ⌜ Started p root r ⌝ }
 {
-    let at = 32 * root as usize;
-    let first = mesh_table::three_at(at + 25);
-    let second = mesh_table::three_at(at + 27);
-    let d = digit_by(p, second.c, first.b, first.c);
-    let below = at + 8 * d as usize;
-    let cuts = mesh_table::three_at(below + 7);
-    let e = digit_by(p, cuts.a, cuts.b, cuts.c);
-    let found = mesh_table::three_at(below + 2 * e as usize);
+    let entries = mesh_table::entries();
+    let k = mesh_table::rotation(root);
+    let q = mesh_table::turned_back(k, p);
+    let d = table_digit(&entries, q, 83, 76, 77);
+    let below = 24 * d as usize;
+    let e = table_digit(&entries, q, below + 21, below + 22, below + 23);
     Place {
         id: 128 + 16 * root + 4 * d + e,
-        corners: mesh_trixels::triple(found.a, found.b, found.c),
+        corners: mesh_table::corners_at(&entries, k, below + 6 * e as usize),
     }
 }
 

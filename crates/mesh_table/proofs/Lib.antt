@@ -1,2 +1,2 @@
-pub mod Constants
-pub mod Rows
+pub mod Numbers
+pub mod TurnLaws

@@ -1,6 +1,6 @@
--- The table of the trixels of depth 3, by the cutting rule. Document 01, 'Pointings and the mesh'.
+-- The table of the trixels of depth 3 under S0, by the cutting rule. Document 01, 'Pointings and the mesh'; document 02, F-6.
 --   numbers t   corners and normals of a trixel, x y z of v0 v1 v2 p0 p1 p2: eighteen numbers
---   table       the numbers of the 128 trixels of depth 3, in identifier order, 128 to 255
+--   table       the numbers of the 16 trixels of depth 3 under S0, in identifier order, 128 to 143
 --   vectorAt k  the corner or normal number k of these trixels, six for each
 use Prim.Native.Nat.{ℕ, zero, suc, _+_, _/_, _%_}
 use mathlib.Core.Bool.{cond}
@@ -21,7 +21,7 @@ tableFrom zero i = []
 tableFrom (suc n) i = numbers (trixel 2 i) ++ tableFrom n (suc i)
 
 unfoldable pub table : List ℤ
-table = tableFrom 128 128
+table = tableFrom 16 128
 
 -- corner or normal number a of a trixel: v0 v1 v2 p0 p1 p2
 abbrev pub partOf : ℕ → Trixel → Vec3

@@ -19,7 +19,7 @@ quot-neg (pos zero) n = rw zero-div
 quot-neg (pos (suc a)) n = refl
 quot-neg (negsuc a) n = sym (negℤ-negℤ (quot (pos (suc a)) (pos n)))
 
-part-neg : (a : ℤ) (n : ℕ) → quot (K *ℤ negℤ a) (pos n) ≡ negℤ (quot (K *ℤ a) (pos n))
+pub part-neg : (a : ℤ) (n : ℕ) → quot (K *ℤ negℤ a) (pos n) ≡ negℤ (quot (K *ℤ a) (pos n))
 part-neg a n = ap (λ z. quot z (pos n)) (*ℤ-neg-r K a) ∙ quot-neg (K *ℤ a) n
 
 -- ---- K times a vector, divided by n
