@@ -199,7 +199,7 @@ static inline i64 le32s(const Bytes&b,size_t at){
 static inline int read_file(const Bytes&f,Region&out){
     if(f.size()>10508) return 1;
     Region g; size_t at=0; bool first=true;
-    i64 convexes=0, inconv=0, total=0;
+    i64 convexes=0, inconv=0, total=0, style=0;              // document 02, F-7: style 2 has kinds 2 and 3, style 5 kind 5
     for(;;){
         // 2
         if(f.size()-at<4) return 2;
@@ -207,9 +207,13 @@ static inline int read_file(const Bytes&f,Region&out){
         if(len<4) return 2;
         if(len>f.size()-at) return 2;
         // 3
-        if(kind<1||kind>4) return 3;
+        if(kind<1||kind>5) return 3;
         static const size_t want[5]={0,8,4,20,4};
-        if(len!=want[kind]) return 3;
+        if(kind<5&&len!=want[kind]) return 3;
+        if(kind==5&&(len%16!=4||len<20||len>1604)) return 3;
+        // 14
+        i64 of=kind==2||kind==3?2:kind==5?5:0;
+        if(style&&of&&of!=style) return 14;
         // 4
         if(first!=(kind==1)) return 4;
         if(kind==3&&convexes==0) return 4;
@@ -225,14 +229,15 @@ static inline int read_file(const Bytes&f,Region&out){
         // 7
         if(kind==2&&convexes==64) return 7;
         if(kind==3&&(inconv==100||total==512)) return 7;
+        if(kind==5&&(convexes==64||total+(i64)(len-4)/16>512)) return 7;
+        if(kind==2||kind==5){convexes++;inconv=0;style=of;}
         // 8, 9
-        if(kind==3){
-            Row r{convexes-1,le32s(f,at+4),le32s(f,at+8),le32s(f,at+12),le32s(f,at+16)};
+        if(kind==3||kind==5) for(size_t k=at+4;k<at+len;k+=16){
+            Row r{convexes-1,le32s(f,k),le32s(f,k+4),le32s(f,k+8),le32s(f,k+12)};
             if(!is_vector(r.x,r.y,r.z)) return 8;
             if(r.d<-K||r.d>K) return 9;
             g.rows.push_back(r); inconv++; total++;
         }
-        if(kind==2){convexes++;inconv=0;}
         first=false; at+=len;
         if(kind==4){out=g;return 0;}
     }

@@ -20,7 +20,11 @@
  *    4 order   records out of order, or missing 11 name    no name or identifier; corners below depth 12
  *    5 depth   not from 1 to 12                 12 float   a float not finite, or beyond 1 in size
  *    6 budget  over 2048                        13 line    a catalogue line of another shape
- *    7 crowd   over 64 convexes, 100 halfspaces in one, 512 in all */
+ *    7 crowd   over 64 convexes, 100 halfspaces 14 mixed   a record of the other style
+ *              in one, 512 in all
+ *
+ * Styles: a region file is plain, with a record for each convex and one for each halfspace (kinds 2 and 3), or grouped, with one
+ * record for each convex and all its halfspaces (kind 5). Every call that reads a region file takes either style. */
 #ifndef HTM_H
 #define HTM_H
 
@@ -67,7 +71,7 @@ int64_t htm_corners(uint64_t id, int32_t *out, size_t elements);
 /* The rows of a region file of so many bytes, five numbers a halfspace from rows[0] on: the number of its convex, from 0 on, then
  * its direction x, y, z and its offset d. header[0] is the count of rows, header[1] the depth and header[2] the budget, as written
  * (a budget of 0 counts as HTM_DEFAULT_BUDGET in a cover, and is 0 here).
- * 0, or -N for refusal N: that of the file's first failed check, 1 to 9; then -10 where rows has fewer than 5 * count elements
+ * 0, or -N for refusal N: that of the file's first failed check, 1 to 9 or 14; then -10 where rows has fewer than 5 * count elements
  * (2560 are always enough) or header fewer than 3. */
 int64_t htm_read(const uint8_t *file, size_t bytes, int32_t *rows, size_t elements, uint64_t *header, size_t n);
 
@@ -77,8 +81,18 @@ int64_t htm_read(const uint8_t *file, size_t bytes, int32_t *rows, size_t elemen
  * fewer bytes than the file (10508 are always enough). */
 int64_t htm_write(uint32_t depth, uint32_t budget, const int32_t *rows, size_t elements, uint8_t *out, size_t bytes);
 
+/* The same as a grouped file, with the same checks in the same order. The file's length, 32 to 8460. */
+int64_t htm_write_grouped(uint32_t depth, uint32_t budget, const int32_t *rows, size_t elements, uint8_t *out, size_t bytes);
+
+/* The region file of so many bytes in the grouped or in the plain style, from out[0] on: itself where it is in that style, else
+ * written anew with its depth and budget as written. Converted and back, a file is the first one byte for byte.
+ * The length of what is written, or -N for refusal N: that of the file's first failed check; then -10 where out has too few bytes
+ * (10508 are always enough). */
+int64_t htm_to_grouped(const uint8_t *file, size_t bytes, uint8_t *out, size_t room);
+int64_t htm_to_plain(const uint8_t *file, size_t bytes, uint8_t *out, size_t room);
+
 /* Whether the region of a region file of so many bytes holds the pointing (x, y, z): 1 held, 0 not held.
- * -N for refusal N: that of the file's first failed check, 1 to 9; then -8 where (x, y, z) is no pointing. */
+ * -N for refusal N: that of the file's first failed check, 1 to 9 or 14; then -8 where (x, y, z) is no pointing. */
 int64_t htm_holds(const uint8_t *file, size_t bytes, int32_t x, int32_t y, int32_t z);
 
 /* The cover of a region file of so many bytes: two lists of ranges of identifiers at the depth of the file's header.
@@ -90,7 +104,7 @@ int64_t htm_holds(const uint8_t *file, size_t bytes, int32_t x, int32_t y, int32
  * counts[3] to counts[5] are in identifiers at the depth: those below full trixels, the partial trixels, and those in the gaps
  * that the outer list was joined over to keep to the budget. Their sum is how many identifiers the outer ranges contain.
  * The elements of out that belong to no range keep their values, and so do the elements of counts from 6 on.
- * 0, or -N for refusal N: that of the file's first failed check, 1 to 9; then -10 where out has fewer than 4 * budget elements, at
+ * 0, or -N for refusal N: that of the file's first failed check, 1 to 9 or 14; then -10 where out has fewer than 4 * budget elements, at
  * most 8192, or counts fewer than 6. */
 int64_t htm_cover(const uint8_t *file, size_t bytes, uint64_t *out, size_t elements, uint64_t *counts, size_t n);
 

@@ -8,6 +8,7 @@ import re
 from math import gcd, isqrt
 
 import cover_cases
+import grouped_cases
 import htm
 import line_cases
 import region_cases as regions
@@ -62,9 +63,10 @@ def identifier(words):
     return str(htm.id_of(words[0].decode('latin-1')))
 
 
-def file(words):
-    numbers = [number(w, False, 0, 2**32 - 1) for w in words[:2]] + [number(w, True, -2**31, 2**31 - 1) for w in words[2:]]
-    return regions.file_answer(numbers)
+def written(answer):
+    def of_numbers(words):
+        return answer([number(w, False, 0, 2**32 - 1) for w in words[:2]] + [number(w, True, -2**31, 2**31 - 1) for w in words[2:]])
+    return of_numbers
 
 
 def holds(words):
@@ -81,7 +83,10 @@ COMMANDS = {
     b'id': identifier,
     b'corners': with_identifier(lambda i: ' '.join(str(c) for v in htm.corners(i) for c in v)),
     b'rows': regions.rows_answer,
-    b'file': file,
+    b'file': written(regions.file_answer),
+    b'grouped': written(grouped_cases.grouped_answer),
+    b'togrouped': lambda words: grouped_cases.convert_answer(words, htm.GROUPED),
+    b'toplain': lambda words: grouped_cases.convert_answer(words, htm.PLAIN),
     b'holds': holds,
     b'cover': cover_cases.cover_answer,
 }
@@ -426,10 +431,14 @@ def lines():
     yield from line_cases.lines(DRAWS, direction)
 
 
+def group_files():
+    yield from grouped_cases.lines(DRAWS, direction)
+
+
 def cases():
     groups = (document_01, document_000, depths, borders, corners_and_middles, ties, lengths, octants, anywhere, no_vectors, identifiers, names,
               trixel_corners, regions.damaged, regions.two_faults, regions.limits, regions.edges, regions.writer_rows, points, regions.planes, regions.region_shapes,
-              odd_numbers, other_shapes, long_lines, covers, mounts, lines)
+              odd_numbers, other_shapes, long_lines, covers, mounts, lines, group_files)
     for group in groups:
         yield from group()
     yield b'id N00000000000'                        # the last line, which ends without a line feed

@@ -256,22 +256,51 @@ static int64_t try_read(const uint8_t *file, size_t bytes, int32_t rows[ROWS], u
     return answer;
 }
 
-static int64_t try_write(uint32_t depth, uint32_t budget, const int32_t *rows, size_t elements, uint8_t out[FILE_BYTES])
+/* What a region file is made of: rows with depth and budget, or another file. */
+struct source {
+    uint32_t depth, budget;
+    const int32_t *rows;
+    const uint8_t *file;
+    size_t n;
+};
+
+typedef int64_t making(const struct source *from, uint8_t *out, size_t room);
+
+static int64_t write_plain(const struct source *from, uint8_t *out, size_t room)
+{
+    return htm_write(from->depth, from->budget, from->rows, from->n, out, room);
+}
+
+static int64_t write_grouped(const struct source *from, uint8_t *out, size_t room)
+{
+    return htm_write_grouped(from->depth, from->budget, from->rows, from->n, out, room);
+}
+
+static int64_t to_grouped(const struct source *from, uint8_t *out, size_t room)
+{
+    return htm_to_grouped(from->file, from->n, out, room);
+}
+
+static int64_t to_plain(const struct source *from, uint8_t *out, size_t room)
+{
+    return htm_to_plain(from->file, from->n, out, room);
+}
+
+static int64_t try_making(making *make, const struct source *from, uint8_t out[FILE_BYTES])
 {
     static uint8_t again[FILE_BYTES];
     paint(out, FILE_BYTES);
     paint(again, FILE_BYTES);
-    int64_t n = htm_write(depth, budget, rows, elements, out, FILE_BYTES);
+    int64_t n = make(from, out, FILE_BYTES);
     if (n < 0) {
-        int64_t without_room = htm_write(depth, budget, rows, elements, again, 0);
+        int64_t without_room = make(from, again, 0);
         must_refuse(n, without_room, stays(out, 0, FILE_BYTES) && stays(again, 0, FILE_BYTES));
         return n;
     }
     must_fit(n <= FILE_BYTES - BEHIND, "a file has at most 10508 bytes");
     must(stays(out, (size_t)n, FILE_BYTES), "what is behind the file stays");
-    int64_t shorter = htm_write(depth, budget, rows, elements, again, (size_t)n - 1);
-    must_be_short(shorter, stays(again, 0, FILE_BYTES));
-    int64_t exact = htm_write(depth, budget, rows, elements, again, (size_t)n);
+    must_be_short(make(from, again, (size_t)n - 1), stays(again, 0, FILE_BYTES));
+    int64_t exact = make(from, again, (size_t)n);
     must_be_exact(exact == n && memcmp(again, out, FILE_BYTES) == 0);
     return n;
 }
@@ -420,20 +449,59 @@ static void answer_rows(struct text rest)
         print(" %" PRId32, rows[i]);
 }
 
-/* file DEPTH BUDGET N1 N2 .. */
-static void answer_file(struct text rest)
+static void print_file(making *make, const struct source *from)
 {
-    static int32_t rows[MOST];
     static uint8_t out[FILE_BYTES];
-    uint32_t depth = (uint32_t)take_natural(&rest), budget = (uint32_t)take_natural(&rest);
-    size_t n = 0;
-    while (rest.n > 0 && n < MOST)
-        rows[n++] = take_whole(&rest);
-    int64_t bytes = try_write(depth, budget, rows, n, out);
+    int64_t bytes = try_making(make, from, out);
     if (print_refusal(bytes))
         return;
     for (int64_t i = 0; i < bytes; i++)
         print("%02x", out[i]);
+}
+
+static void print_written(making *make, struct text rest)
+{
+    static int32_t rows[MOST];
+    struct source from = {0};
+    from.depth = (uint32_t)take_natural(&rest);
+    from.budget = (uint32_t)take_natural(&rest);
+    from.rows = rows;
+    while (rest.n > 0 && from.n < MOST)
+        rows[from.n++] = take_whole(&rest);
+    print_file(make, &from);
+}
+
+/* file DEPTH BUDGET N1 N2 .. */
+static void answer_file(struct text rest)
+{
+    print_written(write_plain, rest);
+}
+
+/* grouped DEPTH BUDGET N1 N2 .. */
+static void answer_grouped(struct text rest)
+{
+    print_written(write_grouped, rest);
+}
+
+static void print_converted(making *make, struct text rest)
+{
+    static uint8_t file[MOST];
+    struct source from = {0};
+    from.file = file;
+    from.n = take_file(&rest, file);
+    print_file(make, &from);
+}
+
+/* togrouped HEX */
+static void answer_to_grouped(struct text rest)
+{
+    print_converted(to_grouped, rest);
+}
+
+/* toplain HEX */
+static void answer_to_plain(struct text rest)
+{
+    print_converted(to_plain, rest);
 }
 
 /* holds HEX X Y Z */
@@ -489,8 +557,9 @@ static struct command {
     {"single", "htm_lookup_f32", answer_single, {0}}, {"line", "htm_lookup_line", answer_line, {0}},
     {"name", "htm_name", answer_name, {0}},           {"id", "htm_identifier", answer_id, {0}},
     {"corners", "htm_corners", answer_corners, {0}},  {"rows", "htm_read", answer_rows, {0}},
-    {"file", "htm_write", answer_file, {0}},          {"holds", "htm_holds", answer_holds, {0}},
-    {"cover", "htm_cover", answer_cover, {0}},
+    {"file", "htm_write", answer_file, {0}},          {"grouped", "htm_write_grouped", answer_grouped, {0}},
+    {"togrouped", "htm_to_grouped", answer_to_grouped, {0}}, {"toplain", "htm_to_plain", answer_to_plain, {0}},
+    {"holds", "htm_holds", answer_holds, {0}},        {"cover", "htm_cover", answer_cover, {0}},
 };
 #define COMMANDS (sizeof commands / sizeof commands[0])
 
@@ -556,7 +625,7 @@ static long report(long skipped)
     long differ = 0;
     for (size_t i = 0; i < COMMANDS; i++) {
         const struct tally *t = &commands[i].tally;
-        printf("%-15s %4ld cases equal, %3ld refusals; lent lists: %3ld short by one, %3ld exact; %ld differences\n", commands[i].call,
+        printf("%-17s %4ld cases equal, %3ld refusals; lent lists: %3ld short by one, %3ld exact; %ld differences\n", commands[i].call,
                t->equal, t->refused, t->shorter, t->exact, t->differ);
         differ += t->differ;
         if (t->equal == 0) {

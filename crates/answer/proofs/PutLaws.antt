@@ -1,11 +1,12 @@
--- Lists that are put into a lent list one after the other stand there as one list, since what follows them is still as it was. Assumes nothing.
+-- Lists that are put into a lent list one after the other stand there as one list, since what follows them is still as it was; so does a list that is
+-- copied element by element. Assumes nothing.
 use Prim.Native.Nat.{ℕ, _+_, _≤_, _<_}
 use native.Mathlib.Omega.{arith}
 use native.Mathlib.Numerals.{add-one}
 use mathlib.Core.Path.{_≡_, sym, ap, ap₂, _∙_}
 use mathlib.Core.List.{List, [], _∷_, _++_, append-assoc}
-use lib.ListN.{length, take, drop, set, length-append, length-drop, take-append-drop}
-use lib.Seq.{length-take-le, take-at, drop-at, drop-drop, sets-eq}
+use lib.ListN.{length, take, drop, set, getD, length-append, length-drop, take-append-drop}
+use lib.Seq.{length-take-le, take-at, drop-at, drop-drop, sets-eq, paste, paste-zero, paste-suc}
 use Rattle.answer.specs.Lent.{put}
 
 module _ {X : Type 0} where
@@ -39,6 +40,27 @@ module _ {X : Type 0} where
       ∙ append-assoc a xs (ys ++ drop (k + length (xs ++ ys)) before)
       ∙ ap (λ t. a ++ t) (sym (append-assoc xs ys (drop (k + length (xs ++ ys)) before)))
 
+  over : (m : ℕ) (x y b before : List X) → length x ≡ length y → m ≤ length before → put m y (put m (x ++ b) before) ≡ put m (y ++ b) before
+  over m x y b before e h =
+      let t = take m before in
+      let rest = drop (m + length (x ++ b)) before in
+      let l : length t ≡ m = length-take-le m before h in
+      let n : length (t ++ x) ≡ m + length y = omega (arith, length-append t x) in
+      let whole : put m (x ++ b) before ≡ (t ++ x) ++ (b ++ rest) =
+      ap (λ r. t ++ r) (append-assoc x b rest) ∙ sym (append-assoc t x (b ++ rest)) in
+      let same : m + length (x ++ b) ≡ m + length (y ++ b) = omega (arith, length-append x b, length-append y b) in
+      ap₂ (λ s r. s ++ (y ++ r)) (take-at t ((x ++ b) ++ rest) m l) (ap (drop (m + length y)) whole ∙ drop-at (t ++ x) (b ++ rest) (m + length y) n)
+      ∙ ap (λ r. t ++ r) (sym (append-assoc y b rest) ∙ ap (λ j. (y ++ b) ++ drop j before) same)
+
+  -- y in the place of x, which is as long
+  pub put-over : (k m : ℕ) (a x y b before : List X) → m ≡ k + length a → length x ≡ length y → k + length a ≤ length before
+      → put m y (put k (a ++ (x ++ b)) before) ≡ put k (a ++ (y ++ b)) before
+  put-over k m a x y b before e l h =
+      let low : k ≤ length before = omega arith in
+      ap (put m y) (sym (put-put k m a (x ++ b) before e low))
+      ∙ over m x y b (put k a before) l (omega (arith, put-length k a before h))
+      ∙ put-put k m a (y ++ b) before e low
+
   -- one list put after another: xs, then ys
   pub put-next : (k : ℕ) (a b before : List X) {xs ys : List X} {m : ℕ} → xs ≡ put k a before → ys ≡ put m b xs → m ≡ k + length a → k ≤ length before → ys ≡ put k (a ++ b) before
   put-next k a b before {m = m} e f p h = f ∙ ap (put m b) e ∙ put-put k m a b before p h
@@ -49,3 +71,19 @@ module _ {X : Type 0} where
 
   pub set-set-put : (k : ℕ) (a b : X) (before : List X) → k + 2 ≤ length before → set (set before k a) (k + 1) b ≡ put k (a ∷ b ∷ []) before
   set-set-put k a b before h = ap (λ j. set (set before k a) j b) (add-one k) ∙ sets-eq (a ∷ b ∷ []) before k h ∙ append-assoc (take k before) (a ∷ b ∷ []) (drop (k + 2) before)
+
+  -- ---- a copy, element by element: the first elements of `from` at the beginning of `before`
+
+  module _ (from before : List X) where
+    pub copied-none : before ≡ paste before 0 from 0
+    copied-none = paste-zero before 0 from
+
+    pub copied-more : (none : X) (i : ℕ) → i < length from → i < length before → set (paste before 0 from i) i (getD from i none) ≡ paste before 0 from (i + 1)
+    copied-more none i h l =
+        let e : 0 + i ≡ i = omega arith in
+        ap (λ n. set (paste before 0 from i) n (getD from i none)) (sym e)
+        ∙ paste-suc before 0 from i none (omega arith) h
+        ∙ ap (paste before 0 from) (sym (add-one i))
+
+    pub copied-all : (n : ℕ) → n ≤ length from → paste before 0 from n ≡ put 0 (take n from) before
+    copied-all n h = ap (λ k. take n from ++ drop (0 + k) before) (sym (length-take-le n from h))

@@ -1,6 +1,6 @@
 -- Answers. Document 01, 'What is sent back': every call gives its values, or refuses with one number.
 --   Answer A       refused n, or gives a with a of the type A
---   Long .. Line   the thirteen numbers by their words; Float and Line are of document 02, F-1 and F-3
+--   Long .. Mixed  the fourteen numbers by their words; Float, Line and Mixed are of document 02, F-1, F-3 and F-7
 --   check n t a    the refusal n unless the test t passes, else the answer a
 --   then a f       f of what a gives; a refusal stays
 --   with-value     an answer's value changed; a refusal stays
@@ -49,6 +49,9 @@ Float = 12
 
 abbrev pub Line : ℕ
 Line = 13
+
+abbrev pub Mixed : ℕ
+Mixed = 14
 
 module _ {A : Type 0} where
   abbrev pub check : ℕ → Bool → Answer A → Answer A

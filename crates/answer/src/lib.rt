@@ -26,6 +26,8 @@ pub const FLOAT: u32 = 12;
 
 pub const LINE: u32 = 13;
 
+pub const MIXED: u32 = 14;
+
 // An identifier or a length, or the number of the first check that failed.
 pub enum Number {
     Gives(u64),

@@ -8,10 +8,9 @@ use lib.Dec.{leb}
 use lib.ListN.{length}
 use lib.IntN.{ℤ}
 use borrow.Author.Tests.{le-leb, lt-leb}
-use Rattle.answer.specs.Answer.{Answer, refused, gives, check, then, with-value, Space, Name, Depth, Budget}
+use Rattle.answer.specs.Answer.{Answer, refused, gives, check, then, with-value, Space, Name}
 use Rattle.answer.specs.Lent.{put, stored, room}
 use Rattle.answer.proofs.AnswerLaws.{check-gives, same-value, then-gives, value-gives}
-use Rattle.vector.specs.Numbers.{isDepth}
 use Rattle.mesh.specs.declared.Corners.{Corners}
 use Rattle.mesh.specs.Identifiers.{depthOf, isIdentifier, trixel, cornersOf, corners}
 use Rattle.mesh.specs.Names.{nameAt, nameOf}
@@ -20,13 +19,16 @@ use Rattle.mesh.specs.Answers.{nameAnswer}
 use Rattle.mesh.proofs.NameLaws.{depth-high, digits-length}
 use Rattle.mesh_trixels.proofs.SmallTrixels.{trixel-small}
 use Rattle.region.specs.declared.Header.{Header}
-use Rattle.region.specs.Budgets.{budgetOf, isBudget}
-use Rattle.region.specs.Rows.{rows, regionOf}
+use Rattle.region.specs.declared.Style.{Style}
+use Rattle.region.specs.Budgets.{budgetOf}
+use Rattle.region.specs.Rows.{rows}
 use Rattle.region.specs.Reader.{File, read}
-use Rattle.region.specs.Writer.{fileOf, write}
-use Rattle.region.specs.Answers.{headerOf, readInto, rowsInto, readAnswer, readAfter, writeAnswer}
-use Rattle.region.proofs.ReadBack.{file-length}
-use Rattle.region.proofs.WriteBack.{region-back}
+use Rattle.region.specs.Writer.{writeIn}
+use Rattle.region.specs.Converting.{inStyle, convert}
+use Rattle.region.specs.Answers.{headerOf, readInto, rowsInto, readAnswer, readAfter, fileAnswer}
+use Rattle.region.proofs.ReaderLaws.{accepted-short}
+use Rattle.region.proofs.WriteBack.{write-back}
+use Rattle.region.proofs.ConvertLaws.{converted}
 use Rattle.cutting.specs.declared.Counts.{Counts}
 use Rattle.cutting.specs.Cover.{cover, countsOf, counted, countsList}
 use Rattle.htm.specs.Answers.{coverInto, coverAnswer, bothLists, coverAfter}
@@ -49,14 +51,19 @@ name-short i before n e =
     let s = same-value (nameAt (depthOf i) i) (t .0) (check-gives Name (isIdentifier i) (gives (nameAt (depthOf i) i)) (t .0) (t .1)) in
     omega (arith, t .2, ap length s, digits-length (depthOf i) i, depth-high i)
 
-pub file-short : (d b : ℕ) (rs : List ℤ) (before : List ℕ) (n : ℕ) → writeAnswer d b rs before ≡ gives n → n ≤ 10508
-unfolding writeAnswer write
-file-short d b rs before n e =
-    let t = roomy (write d b rs) before n e in
-    let r = check-gives Budget (isBudget b) (with-value (fileOf d b) (regionOf rs)) (t .0) (check-gives Depth (isDepth d) (check Budget (isBudget b) (with-value (fileOf d b) (regionOf rs))) (t .0) (t .1)) in
-    let g = value-gives (fileOf d b) (regionOf rs) (t .0) r in
-    let m = region-back rs (g .0) (g .1) .0 in
-    omega (arith, t .2, ap length (g .2), file-length d b (g .0), m .convexes, m .halfspaces)
+pub file-short : (s : Style) (d b : ℕ) (rs : List ℤ) (before : List ℕ) (n : ℕ) → fileAnswer (writeIn s d b rs) before ≡ gives n → n ≤ 10508
+unfolding fileAnswer
+file-short s d b rs before n e =
+    let t = roomy (writeIn s d b rs) before n e in
+    let w = write-back s d b rs (t .0) (t .1) in
+    omega (arith, t .2, accepted-short (t .0) _ (w .2 .1))
+
+pub converted-short : (s : Style) (f before : List ℕ) (n : ℕ) → fileAnswer (convert s f) before ≡ gives n → n ≤ 10508
+unfolding fileAnswer convert
+converted-short s f before n e =
+    let t = roomy (convert s f) before n e in
+    let x = value-gives (inStyle s f) (read f) (t .0) (t .1) in
+    omega (arith, t .2, accepted-short (t .0) (x .0) (converted s f (t .0) (t .1) .1 ∙ x .1))
 
 -- ---- corners
 

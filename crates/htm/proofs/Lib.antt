@@ -2,6 +2,7 @@ pub mod AnswersKept
 pub mod CLaws
 pub mod Counted
 pub mod CoverAnswers
+pub mod EitherForm
 pub mod LocatedLaws
 pub mod PromiseKept
 pub mod Refusals

@@ -4,3 +4,4 @@ pub mod Starred
 pub mod Refusals
 pub mod Promise
 pub mod Counted
+pub mod EitherForm

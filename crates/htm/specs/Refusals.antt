@@ -1,6 +1,7 @@
 -- Demand 1, of the rules. Document 01, 'What is sent back': number 10 comes after all other checks, and a refusal changes no lent element.
--- Statements; they are proved in proofs/Refusals. The calls that write into a lent list are the name, the reader, the writer and the cover; for C also
--- the corners, and the reader and the cover with a second list. (`htm_name` and `htm_write` have the rules of the name and of the writer.)
+-- Statements; they are proved in proofs/Refusals. The calls that write into a lent list are the name, the reader, the two writers (`writeIn`), the two
+-- conversions (`convert`) and the cover; for C also the corners, and the reader and the cover with a second list. (The calls for C that answer a length have
+-- the rules of the others.)
 --   SpaceLast     what is refused for another reason keeps its number, whatever list is lent
 --   LentListsStay where a call refuses, every lent list is as it was
 use Prim.Native.Nat.{ℕ}
@@ -12,8 +13,10 @@ use Rattle.mesh.specs.Identifiers.{corners}
 use Rattle.mesh.specs.Names.{nameOf}
 use Rattle.mesh.specs.Answers.{nameAnswer, nameAfter}
 use Rattle.region.specs.Reader.{read}
-use Rattle.region.specs.Writer.{write}
-use Rattle.region.specs.Answers.{readAnswer, readAfter, writeAnswer, writeAfter}
+use Rattle.region.specs.declared.Style.{Style}
+use Rattle.region.specs.Writer.{writeIn}
+use Rattle.region.specs.Converting.{convert}
+use Rattle.region.specs.Answers.{readAnswer, readAfter, fileAnswer, fileAfter}
 use Rattle.htm.specs.Answers.{coverAnswer, coverAfter}
 use Rattle.htm.specs.CalledFromC.{cornersForC, cornersAfterC, readForC, rowsAfterC, headerAfterC, coverForC, coverAfterC, countsAfterC}
 
@@ -21,7 +24,8 @@ abbrev pub SpaceLast : Type 0
 SpaceLast =
     ((i n : ℕ) (before : List ℕ) → nameOf i ≡ refused n → nameAnswer i before ≡ refused n)
     × ((f : List ℕ) (n : ℕ) (before : List ℤ) → read f ≡ refused n → readAnswer f before ≡ refused n)
-    × ((d b n : ℕ) (rs : List ℤ) (before : List ℕ) → write d b rs ≡ refused n → writeAnswer d b rs before ≡ refused n)
+    × ((s : Style) (d b n : ℕ) (rs : List ℤ) (before : List ℕ) → writeIn s d b rs ≡ refused n → fileAnswer (writeIn s d b rs) before ≡ refused n)
+    × ((s : Style) (f : List ℕ) (n : ℕ) (before : List ℕ) → read f ≡ refused n → fileAnswer (convert s f) before ≡ refused n)
     × ((f : List ℕ) (n : ℕ) (before : List ℕ) → read f ≡ refused n → coverAnswer f before ≡ refused n)
     × ((i n : ℕ) (out : List ℤ) → corners i ≡ refused n → cornersForC i out ≡ refused n)
     × ((f : List ℕ) (n : ℕ) (rows : List ℤ) (header : List ℕ) → read f ≡ refused n → readForC f rows header ≡ refused n)
@@ -31,7 +35,9 @@ abbrev pub LentListsStay : Type 0
 LentListsStay =
     ((i n : ℕ) (before : List ℕ) → nameAnswer i before ≡ refused n → nameAfter i before ≡ before)
     × ((f : List ℕ) (n : ℕ) (before : List ℤ) → readAnswer f before ≡ refused n → readAfter f before ≡ before)
-    × ((d b n : ℕ) (rs : List ℤ) (before : List ℕ) → writeAnswer d b rs before ≡ refused n → writeAfter d b rs before ≡ before)
+    × ((s : Style) (d b n : ℕ) (rs : List ℤ) (before : List ℕ)
+    → fileAnswer (writeIn s d b rs) before ≡ refused n → fileAfter (writeIn s d b rs) before ≡ before)
+    × ((s : Style) (f : List ℕ) (n : ℕ) (before : List ℕ) → fileAnswer (convert s f) before ≡ refused n → fileAfter (convert s f) before ≡ before)
     × ((f : List ℕ) (n : ℕ) (before : List ℕ) → coverAnswer f before ≡ refused n → coverAfter f before ≡ before)
     × ((i n : ℕ) (out : List ℤ) → cornersForC i out ≡ refused n → cornersAfterC i out ≡ out)
     × ((f : List ℕ) (n : ℕ) (rows : List ℤ) (header : List ℕ) → readForC f rows header ≡ refused n → (rowsAfterC f rows header ≡ rows) × (headerAfterC f rows header ≡ header))

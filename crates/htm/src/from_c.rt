@@ -16,7 +16,9 @@ ghost use Rattle.vector.specs.Vectors.{vec};
 ghost use Rattle.mount.specs.Reports.{singleReport, doubleReport};
 ghost use Rattle.mesh.specs.Names.{identifierOf};
 ghost use Rattle.mesh.specs.Answers.{nameAnswer, nameAfter};
-ghost use Rattle.region.specs.Answers.{pointTest, writeAnswer, writeAfter};
+ghost use Rattle.region.specs.Writer.{writeGrouped};
+ghost use Rattle.region.specs.Converting.{toGrouped, toPlain};
+ghost use Rattle.region.specs.Answers.{pointTest, fileAnswer, fileAfter, writeAnswer, writeAfter};
 ghost use Rattle.htm.specs.Answers.{lookupReport, locateLine, orZero, entry};
 ghost use Rattle.htm.specs.CalledFromC.{numberForC, heldForC, statusOf, cornersForC, cornersAfterC, readForC, rowsAfterC, headerAfterC, coverForC, coverAfterC, countsAfterC};
 
@@ -96,6 +98,33 @@ pub extern "C" fn htm_write(depth: u32, budget: u32, rows: &[i32], out: &mut [u8
     ensures { λ r. ⌜ now (out .exit) ≡ writeAfter depth budget (now (rows .entry)) (now (out .entry)) ⌝ }
 {
     to_c::number_or_minus(crate::write(depth, budget, rows, out))
+}
+
+// The same of the grouped file.
+#[no_mangle]
+pub extern "C" fn htm_write_grouped(depth: u32, budget: u32, rows: &[i32], out: &mut [u8]) -> i64
+    ensures { λ r. ⌜ r ≡ numberForC (fileAnswer (writeGrouped depth budget (now (rows .entry))) (now (out .entry))) ⌝ }
+    ensures { λ r. ⌜ now (out .exit) ≡ fileAfter (writeGrouped depth budget (now (rows .entry))) (now (out .entry)) ⌝ }
+{
+    to_c::number_or_minus(crate::write_grouped(depth, budget, rows, out))
+}
+
+// The grouped form of a region file, at the beginning of `out`: its length, or minus the number of the refusal.
+#[no_mangle]
+pub extern "C" fn htm_to_grouped(file: &[u8], out: &mut [u8]) -> i64
+    ensures { λ r. ⌜ r ≡ numberForC (fileAnswer (toGrouped (now (file .entry))) (now (out .entry))) ⌝ }
+    ensures { λ r. ⌜ now (out .exit) ≡ fileAfter (toGrouped (now (file .entry))) (now (out .entry)) ⌝ }
+{
+    to_c::number_or_minus(crate::to_grouped(file, out))
+}
+
+// The same of the plain form.
+#[no_mangle]
+pub extern "C" fn htm_to_plain(file: &[u8], out: &mut [u8]) -> i64
+    ensures { λ r. ⌜ r ≡ numberForC (fileAnswer (toPlain (now (file .entry))) (now (out .entry))) ⌝ }
+    ensures { λ r. ⌜ now (out .exit) ≡ fileAfter (toPlain (now (file .entry))) (now (out .entry)) ⌝ }
+{
+    to_c::number_or_minus(crate::to_plain(file, out))
 }
 
 // The point test: 1 where the region holds the pointing, 0 where it does not, or minus the number of the refusal.

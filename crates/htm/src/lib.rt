@@ -9,6 +9,7 @@ use mesh::CornersOf;
 use mount::Report;
 use region::HeaderOf;
 use region::HeldOf;
+use region::Style;
 use vector::Vec3;
 use vector::VectorOf;
 ghost use mathlib.Core.Path.{_≡_};
@@ -19,7 +20,9 @@ ghost use Rattle.mesh.specs.Lookup as mesh_lookup;
 ghost use Rattle.mesh.specs.Names.{identifierOf};
 ghost use Rattle.mesh.specs.Identifiers as identifiers;
 ghost use Rattle.mesh.specs.Answers.{cornersGiven, nameAnswer, nameAfter};
-ghost use Rattle.region.specs.Answers.{headerGiven, readAnswer, readAfter, writeAnswer, writeAfter, heldGiven, pointTest};
+ghost use Rattle.region.specs.Writer.{writeGrouped};
+ghost use Rattle.region.specs.Converting.{toGrouped, toPlain};
+ghost use Rattle.region.specs.Answers.{headerGiven, readAnswer, readAfter, fileAnswer, fileAfter, writeAnswer, writeAfter, heldGiven, pointTest};
 ghost use Rattle.htm.specs.Answers as answers;
 ghost use Rattle.htm.specs.Answers.{lookupReport, locateLine, coverGiven, coverAnswer, coverAfter};
 
@@ -112,7 +115,32 @@ pub fn write(depth: u32, budget: u32, rows: &[i32], out: &mut [u8]) -> Number
     ensures { λ r. ⌜ numberOf r ≡ writeAnswer depth budget (now (rows .entry)) (now (out .entry)) ⌝ }
     ensures { λ r. ⌜ now (out .exit) ≡ writeAfter depth budget (now (rows .entry)) (now (out .entry)) ⌝ }
 {
-    region_writer::write(depth, budget, rows, out)
+    region_writer::write(Style::Plain, depth, budget, rows, out)
+}
+
+// The grouped region file of some rows, written at the beginning of `out`, and its length; the refusals of `write`.
+pub fn write_grouped(depth: u32, budget: u32, rows: &[i32], out: &mut [u8]) -> Number
+    ensures { λ r. ⌜ numberOf r ≡ fileAnswer (writeGrouped depth budget (now (rows .entry))) (now (out .entry)) ⌝ }
+    ensures { λ r. ⌜ now (out .exit) ≡ fileAfter (writeGrouped depth budget (now (rows .entry))) (now (out .entry)) ⌝ }
+{
+    region_writer::write(Style::Grouped, depth, budget, rows, out)
+}
+
+// The grouped form of a region file, written at the beginning of `out`, and its length: a grouped file itself, a plain one written anew with its depth and
+// budget as written; the file's refusals, then 10.
+pub fn to_grouped(file: &[u8], out: &mut [u8]) -> Number
+    ensures { λ r. ⌜ numberOf r ≡ fileAnswer (toGrouped (now (file .entry))) (now (out .entry)) ⌝ }
+    ensures { λ r. ⌜ now (out .exit) ≡ fileAfter (toGrouped (now (file .entry))) (now (out .entry)) ⌝ }
+{
+    region_converting::convert(Style::Grouped, file, out)
+}
+
+// The same, with the plain form.
+pub fn to_plain(file: &[u8], out: &mut [u8]) -> Number
+    ensures { λ r. ⌜ numberOf r ≡ fileAnswer (toPlain (now (file .entry))) (now (out .entry)) ⌝ }
+    ensures { λ r. ⌜ now (out .exit) ≡ fileAfter (toPlain (now (file .entry))) (now (out .entry)) ⌝ }
+{
+    region_converting::convert(Style::Plain, file, out)
 }
 
 // The point test: whether the region of a file holds a pointing; the file's refusals, then 8.

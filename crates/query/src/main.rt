@@ -9,6 +9,9 @@
 //   corners ID           nine numbers: v0 v1 v2, each x y z
 //   rows HEX             depth, budget and count of a region file, and the numbers of its rows
 //   file DEPTH BUDGET N1 N2 ..   the region file of rows of five numbers each, in hexadecimal digits
+//   grouped DEPTH BUDGET N1 N2 ..   the same as a grouped file
+//   togrouped HEX        a region file in the grouped style, in hexadecimal digits
+//   toplain HEX          a region file in the plain style
 //   holds HEX X Y Z      whether the region of a file holds a pointing: yes or no
 //   cover HEX            the lines that program cover prints for a file, joined by `|`
 //

@@ -1,4 +1,5 @@
-// The commands of query that turn region files into rows and back: rows, file. Each is answered from the word at `next` on.
+// The commands of query that turn region files into rows and back, and from one style to the other: rows, file, grouped, togrouped, toplain. Each is
+// answered from the word at `next` on.
 use answer::Number;
 use limits::HALFSPACES;
 use limits::LONGEST;
@@ -6,6 +7,7 @@ use print::Buffer;
 use query_words::MOST;
 use query_words::NaturalAt;
 use region::HeaderOf;
+use region::Style;
 
 // The most numbers in the rows of a region file.
 const ROWS: usize = 5 * HALFSPACES;
@@ -33,8 +35,8 @@ fn read(file: &[u8; MOST], n: usize, out: &mut Buffer, at: usize) -> usize {
     }
 }
 
-// file DEPTH BUDGET N1 N2 ..
-pub fn file(line: &[u8], next: usize, out: &mut Buffer, at: usize) -> usize {
+// file DEPTH BUDGET N1 N2 .., and grouped likewise
+pub fn file(style: Style, line: &[u8], next: usize, out: &mut Buffer, at: usize) -> usize {
     let NaturalAt::Is(depth, budget_at) = query_words::natural_at(line, next) else {
         return print::usage(out, at);
     };
@@ -43,11 +45,12 @@ pub fn file(line: &[u8], next: usize, out: &mut Buffer, at: usize) -> usize {
     };
     let mut numbers = [0i32; MOST];
     let n = query_words::numbers(line, numbers_at, &mut numbers);
-    write(depth, budget, &numbers, n, out, at)
+    write(style, depth, budget, &numbers, n, out, at)
 }
 
 // The file of n numbers, if there is a count of them.
 fn write(
+    style: Style,
     depth: u32,
     budget: u32,
     numbers: &[i32; MOST],
@@ -60,10 +63,41 @@ fn write(
         return print::usage(out, at);
     }
     let mut bytes = [0u8; LONGEST];
-    match htm::write(depth, budget, &all[0..n], &mut bytes) {
+    let length = match style {
+        Style::Plain => htm::write(depth, budget, &all[0..n], &mut bytes),
+        Style::Grouped => htm::write_grouped(depth, budget, &all[0..n], &mut bytes),
+    };
+    print_file(length, &bytes, out, at)
+}
+
+// togrouped HEX, toplain HEX
+pub fn convert(style: Style, line: &[u8], next: usize, out: &mut Buffer, at: usize) -> usize {
+    let mut file = [0u8; MOST];
+    let n = query_words::file(query_words::last(line, next), &mut file);
+    converted(style, &file, n, out, at)
+}
+
+// A file of n bytes in the wanted style, if it has a length.
+fn converted(style: Style, file: &[u8; MOST], n: usize, out: &mut Buffer, at: usize) -> usize {
+    let all: &[u8] = file;
+    if all.len() < n {
+        return print::usage(out, at);
+    }
+    let mut bytes = [0u8; LONGEST];
+    let length = match style {
+        Style::Plain => htm::to_plain(&all[0..n], &mut bytes),
+        Style::Grouped => htm::to_grouped(&all[0..n], &mut bytes),
+    };
+    print_file(length, &bytes, out, at)
+}
+
+// A file that was written, by its length, or the refusal.
+fn print_file(length: Number, bytes: &[u8; LONGEST], out: &mut Buffer, at: usize) -> usize {
+    let all: &[u8] = bytes;
+    match length {
         Number::Gives(count) => {
             let k = print::least(count, LONGEST);
-            print_region::file(out, at, &bytes[0..k])
+            print_region::file(out, at, &all[0..k])
         },
         Number::Refused(k) => print::refused(out, at, k),
     }

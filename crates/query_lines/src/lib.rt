@@ -4,6 +4,7 @@ use check::same;
 use print::Buffer;
 use print::LOST;
 use print::SIZE;
+use region::Style;
 use streams::Input;
 
 // A loop must end, and no run reads so many blocks.
@@ -106,11 +107,25 @@ fn answer(line: &[u8], out: &mut Buffer, at: usize) -> usize {
     if same(word, b"corners") {
         return query_trixels::corners(line, next, out, at);
     }
+    answer_of_region(word, line, next, out, at)
+}
+
+// The answer to a line about a region file, by its first word.
+fn answer_of_region(word: &[u8], line: &[u8], next: usize, out: &mut Buffer, at: usize) -> usize {
     if same(word, b"rows") {
         return query_files::rows(line, next, out, at);
     }
     if same(word, b"file") {
-        return query_files::file(line, next, out, at);
+        return query_files::file(Style::Plain, line, next, out, at);
+    }
+    if same(word, b"grouped") {
+        return query_files::file(Style::Grouped, line, next, out, at);
+    }
+    if same(word, b"togrouped") {
+        return query_files::convert(Style::Grouped, line, next, out, at);
+    }
+    if same(word, b"toplain") {
+        return query_files::convert(Style::Plain, line, next, out, at);
     }
     if same(word, b"holds") {
         return query_regions::holds(line, next, out, at);

@@ -1,6 +1,8 @@
 pub mod AddLaws
 pub mod BudgetLaws
 pub mod CallsBack
+pub mod ConvertLaws
+pub mod FileAnswers
 pub mod FileBack
 pub mod FilledLaws
 pub mod GoodRegions
@@ -10,4 +12,5 @@ pub mod ReaderLaws
 pub mod Refusals
 pub mod RegionLaws
 pub mod RowsBack
+pub mod StyleLaws
 pub mod WriteBack

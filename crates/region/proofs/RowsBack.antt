@@ -83,7 +83,7 @@ listed-more (c ∷ cs) r h l e = listed-halfspace (c ∷ cs) r h l (omega arith)
 
 -- ---- at the end
 
-last-total : (g : Region) → length (lastConvex g) ≤ total g
+pub last-total : (g : Region) → length (lastConvex g) ≤ total g
 unfolding lastConvex total
 last-total [] = omega arith
 last-total (c ∷ []) = omega arith

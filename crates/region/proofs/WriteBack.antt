@@ -17,10 +17,10 @@ use Rattle.region.specs.Regions.{Convex, Region}
 use Rattle.region.specs.Budgets.{isBudget}
 use Rattle.region.specs.Building.{lastConvex, total, withConvex, withHalfspace, begun, fewConvexes, add}
 use Rattle.region.proofs.RegionLaws.{convex-length, convex-rows, halfspace-length, halfspace-total, halfspace-rows}
-use Rattle.region.specs.Reader.{Accepted}
+use Rattle.region.specs.Reader.{AcceptedIn}
 use Rattle.region.specs.RoundTrip.{WrittenIsRead}
 use Rattle.region.specs.Rows.{row, rows, rowsFrom, begins, goesOn, opened, rowIn, halfspaceAt, rowsIn, regionOf}
-use Rattle.region.specs.Writer.{fileOf, write}
+use Rattle.region.specs.Writer.{fileIn, writeIn}
 use Rattle.region.proofs.AddLaws.{Fine, Added, added}
 use Rattle.region.proofs.ReadBack.{AllFine, AllFull, Limited, with-last, read-back}
 
@@ -169,11 +169,12 @@ region-back rs g e =
 -- ---- what is written is read back
 
 pub write-back : WrittenIsRead
-unfolding write
-write-back d b rs f e =
-    let t = check-passed Depth (isDepth d) (check Budget (isBudget b) (with-value (fileOf d b) (regionOf rs))) f e in
-    let a = check-gives Depth (isDepth d) (check Budget (isBudget b) (with-value (fileOf d b) (regionOf rs))) f e in
-    let u = check-passed Budget (isBudget b) (with-value (fileOf d b) (regionOf rs)) f a in
-    let v = value-gives (fileOf d b) (regionOf rs) f (check-gives Budget (isBudget b) (with-value (fileOf d b) (regionOf rs)) f a) in
+unfolding writeIn
+write-back s d b rs f e =
+    let made = with-value (fileIn s d b) (regionOf rs) in
+    let t = check-passed Depth (isDepth d) (check Budget (isBudget b) made) f e in
+    let a = check-gives Depth (isDepth d) (check Budget (isBudget b) made) f e in
+    let u = check-passed Budget (isBudget b) made f a in
+    let v = value-gives (fileIn s d b) (regionOf rs) f (check-gives Budget (isBudget b) made f a) in
     let w = region-back rs (v .0) (v .1) in
-    (v .0, w .1, subst (λ x. Accepted x (record { depth = d; budget = b; region = v .0 })) (v .2) (read-back d b (v .0) t u (w .0)))
+    (v .0, w .1, subst (λ x. AcceptedIn s x (record { depth = d; budget = b; region = v .0 })) (v .2) (read-back s d b (v .0) t u (w .0)))

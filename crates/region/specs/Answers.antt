@@ -2,7 +2,8 @@
 -- A call that writes has three definitions: `..Into`, what it has to write or its refusal, with 10 after all other checks;
 -- `..Answer`, the values it gives; `..After`, the lent list afterwards, of the list before. A refusal leaves the list as it was.
 --   readInto readAnswer readAfter      the reader: count, depth and budget as written; the rows at the list's beginning
---   writeInto writeAnswer writeAfter   the writer: the file's length; the file at the list's beginning
+--   fileInto fileAnswer fileAfter      a call that writes a file, by the file or its refusal: the file's length; the file at the list's beginning
+--   writeAnswer writeAfter             the plain writer; the grouped one and the conversions go by `fileAnswer` and `fileAfter` of what they write
 --   pointTest f p                      whether the region of the file f holds the point p
 --   headerGiven r, heldGiven r         what the reader and the point test answered
 use Prim.Native.Nat.{ℕ}
@@ -40,16 +41,22 @@ rowsInto x before = put 0 (rows (x .region)) before
 unfoldable pub readAfter : List ℕ → List ℤ → List ℤ
 readAfter f before = stored rowsInto (readInto f before) before
 
--- ---- the writer: the file's length, and the file at the list's beginning
+-- ---- a call that writes a file: the file's length, and the file at the list's beginning
 
-abbrev pub writeInto : ℕ → ℕ → List ℤ → List ℕ → Answer (List ℕ)
-writeInto d b rs before = then (write d b rs) (λ f. room (length f) before f)
+abbrev pub fileInto : Answer (List ℕ) → List ℕ → Answer (List ℕ)
+fileInto a before = then a (λ f. room (length f) before f)
 
-unfoldable pub writeAnswer : ℕ → ℕ → List ℤ → List ℕ → Answer ℕ
-writeAnswer d b rs before = with-value length (writeInto d b rs before)
+unfoldable pub fileAnswer : Answer (List ℕ) → List ℕ → Answer ℕ
+fileAnswer a before = with-value length (fileInto a before)
 
-unfoldable pub writeAfter : ℕ → ℕ → List ℤ → List ℕ → List ℕ
-writeAfter d b rs before = stored (put 0) (writeInto d b rs before) before
+unfoldable pub fileAfter : Answer (List ℕ) → List ℕ → List ℕ
+fileAfter a before = stored (put 0) (fileInto a before) before
+
+abbrev pub writeAnswer : ℕ → ℕ → List ℤ → List ℕ → Answer ℕ
+writeAnswer d b rs before = fileAnswer (write d b rs) before
+
+abbrev pub writeAfter : ℕ → ℕ → List ℤ → List ℕ → List ℕ
+writeAfter d b rs before = fileAfter (write d b rs) before
 
 -- ---- the point test: the file's checks, then 8
 

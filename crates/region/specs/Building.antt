@@ -1,10 +1,11 @@
 -- A region as it is read from a file or taken from rows: it grows at its end. Document 01, 'Regions', the stated limits, and 'What is sent back', 7 to 9.
+--   mostConvexes, mostInConvex, mostInAll   the limits: convexes, halfspaces in a convex, halfspaces in all
 --   lastConvex g, total g     the convex that halfspaces go to, and how many halfspaces there are in all
 --   withConvex g              one convex more, with no halfspace yet
 --   withHalfspace g h         one halfspace more, in the last convex
 --   begun g, filled g         a convex has begun; the last convex has a halfspace
 --   fewConvexes g             at most 64 convexes
---   belowLimits g        one more makes at most 100 halfspaces in the last convex and at most 512 in all
+--   belowLimits g             one more makes at most 100 halfspaces in the last convex and at most 512 in all
 --   add g h                   the region with the halfspace more: refusals 7, 8, 9
 use Prim.Native.Nat.{ℕ, _+_}
 use mathlib.Core.Bool.{Bool, _&&_}
@@ -17,6 +18,15 @@ use Rattle.vector.specs.Numbers.{K, between}
 use Rattle.vector.specs.Vectors.{isVector}
 use Rattle.region.specs.declared.Halfspace.{Halfspace}
 use Rattle.region.specs.Regions.{Convex, Region}
+
+abbrev pub mostConvexes : ℕ
+mostConvexes = 64
+
+abbrev pub mostInConvex : ℕ
+mostInConvex = 100
+
+abbrev pub mostInAll : ℕ
+mostInAll = 512
 
 unfoldable pub lastConvex : Region → Convex
 lastConvex [] = []
@@ -42,10 +52,10 @@ abbrev pub filled : Region → Bool
 filled g = ltb 0 (length (lastConvex g))
 
 abbrev pub fewConvexes : Region → Bool
-fewConvexes g = leb (length g) 64
+fewConvexes g = leb (length g) mostConvexes
 
 abbrev pub belowLimits : Region → Bool
-belowLimits g = ltb (length (lastConvex g)) 100 && ltb (total g) 512
+belowLimits g = ltb (length (lastConvex g)) mostInConvex && ltb (total g) mostInAll
 
 abbrev pub isOffset : ℤ → Bool
 isOffset d = between (negℤ K) K d

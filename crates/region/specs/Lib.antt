@@ -8,3 +8,4 @@ pub mod Reader
 pub mod Writer
 pub mod RoundTrip
 pub mod Answers
+pub mod Converting

@@ -1,6 +1,7 @@
--- Region file and rows, both ways. Document 01, 'Regions'. Statements; they are proved in proofs/WriteBack, proofs/FileBack and proofs/CallsBack.
+-- Region file and rows, both ways, in either style. Document 01, 'Regions'; document 02, F-7. Statements; they are proved in proofs/WriteBack,
+-- proofs/FileBack and proofs/CallsBack.
 --   WrittenIsRead   what is written is accepted, and says the depth, the budget and the rows that it was written from
---   ReadIsWritten   an accepted file, written back from its depth, budget and rows, is that file byte for byte
+--   ReadIsWritten   an accepted file, written back in its style from its depth, budget and rows, is that file byte for byte
 -- The same of what writer and reader answer and leave in lent lists, where the second call is lent a list that is long enough:
 --   WriteThenRead   the bytes that the writer wrote, handed to the reader
 --   ReadThenWrite   the rows that the reader wrote, handed to the writer
@@ -16,28 +17,31 @@ use Rattle.region.specs.declared.Header.{Header}
 use Rattle.region.specs.Regions.{Region}
 use Rattle.region.specs.Bytes.{areBytes}
 use Rattle.region.specs.Rows.{rows}
-use Rattle.region.specs.Reader.{File, Accepted}
-use Rattle.region.specs.Writer.{write}
-use Rattle.region.specs.Answers.{readAnswer, readAfter, writeAnswer, writeAfter}
+use Rattle.region.specs.declared.Style.{Style}
+use Rattle.region.specs.Reader.{File, styleOf, AcceptedIn}
+use Rattle.region.specs.Writer.{writeIn}
+use Rattle.region.specs.Answers.{readAnswer, readAfter, fileAnswer, fileAfter}
 
 abbrev pub WrittenIsRead : Type 0
 WrittenIsRead =
-    (d b : ℕ) (rs : List ℤ) (f : List ℕ) → write d b rs ≡ gives f
-    → (g : Region) × (rows g ≡ rs) × Accepted f (record { depth = d; budget = b; region = g })
+    (s : Style) (d b : ℕ) (rs : List ℤ) (f : List ℕ) → writeIn s d b rs ≡ gives f
+    → (g : Region) × (rows g ≡ rs) × AcceptedIn s f (record { depth = d; budget = b; region = g })
 
 abbrev pub ReadIsWritten : Type 0
-ReadIsWritten = (f : List ℕ) (x : File) → areBytes f ≡ true → Accepted f x → write (x .depth) (x .budget) (rows (x .region)) ≡ gives f
+ReadIsWritten = (s : Style) (f : List ℕ) (x : File) → areBytes f ≡ true → AcceptedIn s f x → writeIn s (x .depth) (x .budget) (rows (x .region)) ≡ gives f
 
 abbrev pub ReadsBack : ℕ → ℕ → List ℤ → List ℕ → List ℤ → Type 0
 ReadsBack d b rs f before = (readAnswer f before ≡ gives (record { count = length rs / 5; depth = d; budget = b })) × (readAfter f before ≡ put 0 rs before)
 
 abbrev pub WriteThenRead : Type 0
 WriteThenRead =
-    (d b : ℕ) (rs before : List ℤ) (out : List ℕ) (n : ℕ) → writeAnswer d b rs out ≡ gives n → length rs ≤ length before
-    → ReadsBack d b rs (take n (writeAfter d b rs out)) before
+    (s : Style) (d b : ℕ) (rs before : List ℤ) (out : List ℕ) (n : ℕ) → fileAnswer (writeIn s d b rs) out ≡ gives n → length rs ≤ length before
+    → ReadsBack d b rs (take n (fileAfter (writeIn s d b rs) out)) before
 
 abbrev pub WritesBack : List ℕ → Header → List ℤ → List ℕ → Type 0
-WritesBack f h rs out = (writeAnswer (h .depth) (h .budget) rs out ≡ gives (length f)) × (writeAfter (h .depth) (h .budget) rs out ≡ put 0 f out)
+WritesBack f h rs out =
+    let again = writeIn (styleOf f) (h .depth) (h .budget) rs in
+    (fileAnswer again out ≡ gives (length f)) × (fileAfter again out ≡ put 0 f out)
 
 abbrev pub ReadThenWrite : Type 0
 ReadThenWrite =

@@ -1,12 +1,11 @@
 -- Rows in an array: a row that is stored after the rows so far makes the rows with one more, and a row's numbers fit 32 bits, since the halfspace
 -- passed its checks. Assumes nothing.
 use Prim.Native.Nat.{ℕ, suc, _+_, _-_, _*_, _≤_, _<_}
-use native.Mathlib.Numerals.{add-one}
 use native.Mathlib.Omega.{arith}
 use mathlib.Core.Path.{_≡_, sym, ap, _∙_}
 use mathlib.Core.List.{List, [], _∷_, _++_, append-assoc}
-use lib.ListN.{length, take, drop, set, getD, length-append}
-use lib.Seq.{sets-eq, take-append-seam, drop-append-add, drop-drop, length-take-le, paste, paste-zero, paste-suc}
+use lib.ListN.{length, take, drop, set, length-append}
+use lib.Seq.{sets-eq, take-append-seam, drop-append-add, drop-drop}
 use lib.IntN.{ℤ, pos}
 use mir.Syntax.{w32, w64}
 use mir.Val.{SFits, toZ, ofZ}
@@ -61,19 +60,3 @@ row-more g h before l =
     ap (λ n. put n (row (length g - 1) h) (put 0 (rows g) before)) (sym (rows-length g))
     ∙ put-more (rows g) (row (length g - 1) h) before
     ∙ ap (λ r. put 0 r before) (sym (halfspace-rows g h l))
-
--- ---- a copy, element by element
-
-module _ (from before : List ℤ) where
-  pub copied-none : before ≡ paste before 0 from 0
-  copied-none = paste-zero before 0 from
-
-  pub copied-more : (i : ℕ) → i < length from → i < length before → set (paste before 0 from i) i (getD from i (pos 0)) ≡ paste before 0 from (i + 1)
-  copied-more i h l =
-      let e : 0 + i ≡ i = omega arith in
-      ap (λ n. set (paste before 0 from i) n (getD from i (pos 0))) (sym e)
-      ∙ paste-suc before 0 from i (pos 0) (omega arith) h
-      ∙ ap (paste before 0 from) (sym (add-one i))
-
-  pub copied-all : (n : ℕ) → n ≤ length from → paste before 0 from n ≡ put 0 (take n from) before
-  copied-all n h = ap (λ k. take n from ++ drop (0 + k) before) (sym (length-take-le n from h))

@@ -2,20 +2,24 @@
 --   stateOf at g           the reader's state: its place, and the counts of the region g read so far
 --   outcomeGiven next a    the state at the next record with the counts that a gives, or its refusal
 --   outcomeOf end next a   what a record with the answer a makes of the state, where the next record begins at `next`; `end`: it is the end record
---   Stands before g s rs   the state s and the array rs stand for the region g: its counts, and its rows at the beginning of what the array was before
+--   countsAfter a          the counts of the region that a gives, or its refusal
+--   Stands before g k rs   the counts k and the array rs stand for the region g: its counts, and its rows at the beginning of what the array was before
+--   Counted ..             counts and array after a convex or halfspaces, by their answer
 --   Taken ..               outcome and array after a record, by the record's answer
---   HalfspaceTaken ..      the payload of a halfspace is taken, whatever region state and array stand for
-use Prim.Native.Nat.{ℕ}
+--   CountedBy f, TakenBy f the same of what f makes of the file, whatever region counts and array stand for
+--   groupOf payload        the halfspaces of a payload of kind 5, 16 bytes each
+use Prim.Native.Nat.{ℕ, _/_}
 use mathlib.Core.Path.{_≡_}
 use mathlib.Core.Bool.{Bool, true, false}
 use mathlib.Core.List.{List}
+use lib.ListN.{length}
 use lib.IntN.{ℤ}
-use Rattle.answer.specs.Answer.{Answer, refused, gives}
+use Rattle.answer.specs.Answer.{Answer, refused, gives, with-value}
 use Rattle.answer.specs.Lent.{put}
-use Rattle.region.specs.Regions.{Region}
+use Rattle.region.specs.Regions.{Convex, Region}
 use Rattle.region.specs.Building.{total}
 use Rattle.region.specs.Rows.{rows}
-use Rattle.region.specs.Reader.{File, halfspaceIn}
+use Rattle.region.specs.Reader.{File, halfspacesOf}
 use Rattle.region_counts.specs.declared.Counts.{Counts}
 use Rattle.region_counts.specs.Counts.{countsOf}
 use Rattle.region_contents.specs.declared.State.{State}
@@ -37,13 +41,26 @@ abbrev pub outcomeOf : Bool → ℕ → Answer File → Outcome
 outcomeOf end next (refused n) = Outcome.Refused n
 outcomeOf end next (gives y) = outcomeAt end next (y .region)
 
-pub record Stands (before : List ℤ) (g : Region) (s : State) (rs : List ℤ) : Type 0 where
-  pub counts : s .counts ≡ countsOf g
+abbrev pub countsAfter : Answer File → Answer Counts
+countsAfter a = with-value (λ y. countsOf (y .region)) a
+
+pub record Stands (before : List ℤ) (g : Region) (k : Counts) (rs : List ℤ) : Type 0 where
+  pub counts : k ≡ countsOf g
   pub rows : rs ≡ put 0 (rows g) before
+
+pub record Counted (before : List ℤ) (a : Answer File) (c : Answer Counts) (rs : List ℤ) : Type 0 where
+  pub counts : c ≡ countsAfter a
+  pub rows : (y : File) → a ≡ gives y → rs ≡ put 0 (rows (y .region)) before
 
 pub record Taken (before : List ℤ) (end : Bool) (next : ℕ) (a : Answer File) (o : Outcome) (rs : List ℤ) : Type 0 where
   pub outcome : o ≡ outcomeOf end next a
   pub rows : (y : File) → a ≡ gives y → rs ≡ put 0 (rows (y .region)) before
 
-abbrev pub HalfspaceTaken : State → ℕ → List ℕ → List ℤ → Outcome → List ℤ → Type 0
-HalfspaceTaken s next payload rs o rs′ = (x : File) (before : List ℤ) → Stands before (x .region) s rs → Taken before false next (halfspaceIn x payload) o rs′
+abbrev pub CountedBy : (File → Answer File) → Counts → List ℤ → Answer Counts → List ℤ → Type 0
+CountedBy f k rs c rs′ = (x : File) (before : List ℤ) → Stands before (x .region) k rs → Counted before (f x) c rs′
+
+abbrev pub TakenBy : (File → Answer File) → Counts → ℕ → List ℤ → Outcome → List ℤ → Type 0
+TakenBy f k next rs o rs′ = (x : File) (before : List ℤ) → Stands before (x .region) k rs → Taken before false next (f x) o rs′
+
+abbrev pub groupOf : List ℕ → Convex
+groupOf payload = halfspacesOf (length payload / 16) payload

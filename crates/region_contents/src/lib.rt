@@ -1,23 +1,25 @@
-// The payload readers of the records after the first: a header again, a convex, a halfspace and the end, each checked for 4 and 7 to 9, with the rows in
-// an array. The rules stand in region/specs/Reader and Building, the state between records in specs/Contents.
+// The payload readers of the records after the first: a header again, a convex, a halfspace, a group of halfspaces and the end, each checked for 4 and 7
+// to 9, with the rows in an array. The rules stand in region/specs/Reader and Building, counts and state between records in specs/Contents.
+use answer::CROWD;
 use answer::ORDER;
+use limits::HALFSPACES;
 use region::Halfspace;
 use region_counts::Counts;
 use region_counts::CountsOf;
 ghost use mathlib.Core.Path.{_≡_};
 ghost use mathlib.Core.Bool.{true, false, cond, _&&_};
 ghost use mathlib.Core.List.{List};
-ghost use Prim.Native.Nat.{ℕ, _+_, _*_, _-_, _≤_, _<_};
+ghost use Prim.Native.Nat.{ℕ, _+_, _*_, _-_, _/_, _≤_, _<_};
 ghost use lib.Dec.{ltb, eqb};
 ghost use lib.ListN.{length};
 ghost use Rattle.answer.specs.Answer.{Order};
 ghost use Rattle.answer.specs.Lent.{put};
 ghost use Rattle.region.specs.Rows.{row};
-ghost use Rattle.region.specs.Reader.{File, convexIn, endIn};
+ghost use Rattle.region.specs.Reader.{File, convexIn, halfspaceOf, halfspaceIn, halfspacesOf, halfspacesIn, groupIn, endIn};
 ghost use Rattle.region.proofs.AddLaws.{Fine};
 ghost use Rattle.region_counts.specs.Counts.{countsOf, countsGiven};
 ghost use Rattle.region_contents.specs.declared.Outcome.{Outcome};
-ghost use Rattle.region_contents.specs.Contents.{outcomeGiven, outcomeOf, HalfspaceTaken};
+ghost use Rattle.region_contents.specs.Contents.{outcomeGiven, outcomeOf, countsAfter, CountedBy, TakenBy, groupOf};
 
 // The place of the next record, and the counts of the region so far.
 pub struct State {
@@ -62,16 +64,23 @@ pub fn header_again(payload: &[u8]) -> Outcome
     Outcome::Refused(ORDER)
 }
 
+// A convex begins, after none or one with halfspaces.
+fn convex_in(k: Counts) -> CountsOf
+    ensures { λ r. ⌜ ((x : File) → k ≡ countsOf (x .region) → countsGiven r ≡ countsAfter (convexIn x)) ⌝ }
+{
+    if !may_begin(k) {
+        return CountsOf::Refused(ORDER);
+    }
+    region_counts::with_convex(k)
+}
+
 // The payload of kind 2, which is empty: a convex begins.
 pub fn convex_payload(payload: &[u8], s: State, next: usize) -> Outcome
     requires { ⌜ length (now payload) ≡ 0 ⌝ }
     ensures { λ r. ⌜ ((x : File) → s .counts ≡ countsOf (x .region) → r ≡ outcomeOf false next (convexIn x)) ⌝ }
 {
     let k = s.counts;
-    if !may_begin(k) {
-        return Outcome::Refused(ORDER);
-    }
-    counted(next, region_counts::with_convex(k))
+    counted(next, convex_in(k))
 }
 
 // The row of a halfspace in the last convex, written after the rows so far.
@@ -90,26 +99,74 @@ fn write_row(k: Counts, h: Halfspace, rows: &mut [i32])
     rows[at + 4] = h.d as i32;
 }
 
-// The payload of kind 3: a halfspace, in a convex. Its row is written.
-pub fn halfspace_payload(payload: &[u8], s: State, next: usize, rows: &mut [i32]) -> Outcome
-    requires { ⌜ (16 ≤ length (now payload)) × (length (now rows) ≡ 2560) ⌝ }
-    ensures { λ r. ⌜ HalfspaceTaken s next (now (payload .entry)) (now (rows .entry)) r (now (rows .exit)) ⌝ }
+// A halfspace, in a convex. Its row is written.
+fn halfspace_in(h: Halfspace, k: Counts, rows: &mut [i32]) -> CountsOf
+    requires { ⌜ length (now rows) ≡ 2560 ⌝ }
+    ensures { λ r. ⌜ CountedBy (λ x. halfspaceIn x h) k (now (rows .entry)) (countsGiven r) (now (rows .exit)) ⌝ }
 {
-    let h = region_records::halfspace_of(payload);
-    let k = s.counts;
     if k.convexes == 0 {
-        return Outcome::Refused(ORDER);
+        return CountsOf::Refused(ORDER);
     }
     let c = region_counts::with_halfspace(k, h);
     match c {
         CountsOf::Gives(with) => {
             write_row(k, h, rows);
-            Outcome::More(State {
-                at: next,
-                counts: with,
-            })
+            CountsOf::Gives(with)
         }
-        CountsOf::Refused(n) => Outcome::Refused(n),
+        CountsOf::Refused(n) => CountsOf::Refused(n),
+    }
+}
+
+// The payload of kind 3: a halfspace, in a convex.
+pub fn halfspace_payload(payload: &[u8], s: State, next: usize, rows: &mut [i32]) -> Outcome
+    requires { ⌜ (16 ≤ length (now payload)) × (length (now rows) ≡ 2560) ⌝ }
+    ensures { λ r. ⌜ TakenBy (λ x. halfspaceIn x (halfspaceOf (now (payload .entry)))) (s .counts) next (now (rows .entry)) r (now (rows .exit)) ⌝ }
+{
+    let h = region_records::halfspace_of(payload);
+    let k = s.counts;
+    counted(next, halfspace_in(h, k, rows))
+}
+
+// n halfspaces, one after the other, each as one of kind 3.
+fn halfspaces_in(payload: &[u8], n: usize, k: Counts, rows: &mut [i32]) -> CountsOf
+    requires { ⌜ (16 * n ≤ length (now payload)) × (length (now rows) ≡ 2560) ⌝ }
+    ensures { λ r. ⌜ CountedBy (λ x. halfspacesIn x (halfspacesOf n (now (payload .entry)))) k (now (rows .entry)) (countsGiven r) (now (rows .exit)) ⌝ }
+{
+    let mut with = k;
+    let mut i = 0;
+    while i < n {
+        let from = 16 * i;
+        let h = region_records::halfspace_of(&payload[from..]);
+        let c = halfspace_in(h, with, rows);
+        match c {
+            CountsOf::Gives(more) => {
+                with = more;
+                i += 1;
+            }
+            CountsOf::Refused(m) => {
+                return CountsOf::Refused(m);
+            }
+        }
+    }
+    CountsOf::Gives(with)
+}
+
+// The payload of kind 5: a convex begins, all its halfspaces have room, and each is taken.
+pub fn group_payload(payload: &[u8], s: State, next: usize, rows: &mut [i32]) -> Outcome
+    requires { ⌜ length (now rows) ≡ 2560 ⌝ }
+    ensures { λ r. ⌜ TakenBy (λ x. groupIn x (groupOf (now (payload .entry)))) (s .counts) next (now (rows .entry)) r (now (rows .exit)) ⌝ }
+{
+    let n = payload.len() / 16;
+    let k = s.counts;
+    let c = convex_in(k);
+    match c {
+        CountsOf::Gives(begun) => {
+            if HALFSPACES < begun.all as usize + n {
+                return Outcome::Refused(CROWD);
+            }
+            counted(next, halfspaces_in(payload, n, begun, rows))
+        }
+        CountsOf::Refused(m) => Outcome::Refused(m),
     }
 }
 

@@ -1,2 +1,3 @@
 pub mod ReadAnswers
 pub mod ReadingLaws
+pub mod RecordLaws

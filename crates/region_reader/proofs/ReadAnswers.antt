@@ -4,7 +4,7 @@ use Prim.Native.Nat.{ℕ, _+_, _*_, _≤_, _<_}
 use native.Mathlib.Omega.{arith}
 use mathlib.Core.Path.{_≡_, sym, ap, _∙_}
 use mathlib.Core.Bool.{Bool, true, false}
-use mathlib.Core.List.{List, [], _∷_}
+use mathlib.Core.List.{List}
 use lib.Dec.{leb}
 use lib.ListN.{length, take, drop}
 use lib.Seq.{take-at}
@@ -13,29 +13,34 @@ use borrow.Author.Tests.{le-leb, lt-leb}
 use Rattle.answer.specs.Answer.{Answer, refused, gives, check, then, with-value, Long, Space}
 use Rattle.answer.specs.Lent.{put, stored, room}
 use Rattle.answer.proofs.AnswerLaws.{refused-gives, value-gives, value-refused}
-use Rattle.region.specs.declared.Halfspace.{Halfspace}
 use Rattle.region.specs.declared.Header.{Header}
-use Rattle.region.specs.Regions.{Region}
-use Rattle.region.specs.Building.{total, withHalfspace}
+use Rattle.region.specs.declared.Record.{Record}
+use Rattle.region.specs.declared.Style.{Style}
+use Rattle.region.specs.Building.{total}
+use Rattle.region.specs.Records.{Styles}
 use Rattle.region.specs.Rows.{rows}
-use Rattle.region.specs.Reader.{File, after, header, recordsIn, read, Accepted}
+use Rattle.region.specs.Reader.{File, after, header, recordsIn, read, Accepted, styleOf}
 use Rattle.region.specs.Answers.{headerOf, rowsInto, readInto, readAnswer, readAfter}
-use Rattle.region.proofs.RegionLaws.{convex-total, halfspace-total, rows-length}
-use Rattle.region.proofs.AddLaws.{added}
-use Rattle.region.proofs.ReaderLaws.{header-says, accepted-keeps}
-use Rattle.region_reader.specs.Reading.{headedFile, recordsAfter}
+use Rattle.region.proofs.RegionLaws.{rows-length}
+use Rattle.region.proofs.ReaderLaws.{Begins, header-read, header-says}
+use Rattle.region.proofs.StyleLaws.{in-style}
+use Rattle.region.proofs.RowsBack.{accepted-limited}
+use Rattle.region_reader.specs.Reading.{headedFile, recordsAfter, RowsGiven}
 use Rattle.region_records.proofs.FrameLaws.{header-length, header-whole}
 
 -- ---- the file
 
 -- an answer, and the rows where it gives a file
 abbrev Said : List ℕ → Answer Header → List ℤ → List ℤ → Type 0
-Said f a before rs = (a ≡ with-value headerOf (read f)) × ((x : File) → read f ≡ gives x → rs ≡ put 0 (rows (x .region)) before)
+Said f a before rs = (a ≡ with-value headerOf (read f)) × RowsGiven (read f) before rs
 
 module _ (f : List ℕ) where
-  read-is : (b : Bool) → leb (length f) 10508 ≡ b → read f ≡ check Long b (then (header f) (λ x. recordsIn (length f) x (after f)))
-  unfolding read
-  read-is b e = ap (λ t. check Long t (then (header f) (λ x. recordsIn (length f) x (after f)))) e
+  -- the records, all of the file's own style
+  abbrev records : File → Answer File
+  records x = recordsIn (Styles.only (styleOf f)) (length f) x (after f)
+
+  read-is : (b : Bool) → leb (length f) 10508 ≡ b → read f ≡ check Long b (then (header f) records)
+  read-is b e = in-style f ∙ ap (λ t. check Long t (then (header f) records)) e
 
   refused-said : (n : ℕ) (before rs : List ℤ) → read f ≡ refused n → Said f (refused n) before rs
   refused-said n before rs e = (ap (with-value headerOf) (sym e), λ x q. refused-gives n x (sym e ∙ q))
@@ -47,11 +52,14 @@ module _ (f : List ℕ) where
     pub header-refused : (n : ℕ) (before rs : List ℤ) → refused n ≡ with-value headerOf (header f) → Said f (refused n) before rs
     header-refused n before rs e =
         refused-said n before rs
-        (read-is true (le-leb (length f) 10508 h) ∙ ap (λ a. then a (λ x. recordsIn (length f) x (after f))) (value-refused headerOf (header f) n (sym e)))
+        (read-is true (le-leb (length f) 10508 h) ∙ ap (λ a. then a records) (value-refused headerOf (header f) n (sym e)))
 
     module _ (d : Header) (e : gives d ≡ with-value headerOf (header f)) where
       first : (x : File) × (header f ≡ gives x) × (headerOf x ≡ d)
       first = value-gives headerOf (header f) d (sym e)
+
+      pub header-begins : Begins f Record.Header
+      header-begins = header-read f (first .0) (first .1) .0
 
       pub header-bytes : 8 ≤ length f
       header-bytes = header-whole f (first .0) (first .1)
@@ -61,29 +69,21 @@ module _ (f : List ℕ) where
           let x = first .0 in
           λ i. record { depth = (first .2 i) .depth; budget = (first .2 i) .budget; region = header-says f x (first .1) .region i }
 
-      read-records : read f ≡ recordsAfter d f
-      read-records =
-          read-is true (le-leb (length f) 10508 h)
-          ∙ ap (λ a. then a (λ x. recordsIn (length f) x (after f))) (first .1)
-          ∙ (λ i. recordsIn (length f) (is-header i) (drop (header-length f (first .0) (first .1) i) f))
+      module _ (t : Style) (q : t ≡ styleOf f) where
+        read-records : read f ≡ recordsAfter t d f
+        read-records =
+            read-is true (le-leb (length f) 10508 h)
+            ∙ ap (λ a. then a records) (first .1)
+            ∙ (λ i. recordsIn (Styles.only (sym q i)) (length f) (is-header i) (drop (header-length f (first .0) (first .1) i) f))
 
-      pub records-said : (a : Answer Header) (before rs : List ℤ) → a ≡ with-value headerOf (recordsAfter d f)
-          → ((x : File) → recordsAfter d f ≡ gives x → rs ≡ put 0 (rows (x .region)) before) → Said f a before rs
-      records-said a before rs q k = (q ∙ ap (with-value headerOf) (sym read-records), λ x p. k x (sym read-records ∙ p))
+        pub records-said : (a : Answer Header) (before rs : List ℤ) → a ≡ with-value headerOf (recordsAfter t d f)
+            → RowsGiven (recordsAfter t d f) before rs → Said f a before rs
+        records-said a before rs e k = (e ∙ ap (with-value headerOf) (sym read-records), λ x p. k x (sym read-records ∙ p))
 
 -- ---- an accepted file has at most 512 halfspaces
 
-halfspace-at-most : (g : Region) (h : Halfspace) → total (withHalfspace g h) ≤ total g + 1
-unfolding total withHalfspace
-halfspace-at-most [] h = omega arith
-halfspace-at-most (c ∷ g) h = omega (arith, halfspace-total (c ∷ g) h (omega arith))
-
 pub accepted-total : (f : List ℕ) (x : File) → Accepted f x → total (x .region) ≤ 512
-unfolding total
-accepted-total = accepted-keeps (λ x. total (x .region) ≤ 512)
-    (λ x c k. omega (arith, convex-total (x .region)))
-    (λ x g h e k. let a = added (x .region) g h e in omega (arith, a .all, ap total (a .is), halfspace-at-most (x .region) h))
-    (λ x h. omega (arith, ap total (h .region)))
+accepted-total f x e = accepted-limited f x e .halfspaces
 
 -- ---- the reader's answer
 

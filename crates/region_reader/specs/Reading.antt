@@ -1,25 +1,34 @@
 -- What a pass over the records gives, in the terms of region/specs/Reader. `Stands` and `Taken` stand in region_contents/specs/Contents.
---   Recorded ..            a record of the file is taken, whatever region state and array stand for
---   recordsAfter h f       the records of the file f after its header h
+--   Recorded ..            a record of a file of the style t is taken, whatever region state and array stand for
+--   recordsAfter t h f     the records of the file f, of the style t, after its header h
+--   RowsGiven a before rs  the array after a pass with the answer a: the rows of the file that a gives, at the beginning of what the array was before
 use Prim.Native.Nat.{ℕ, _+_}
+use mathlib.Core.Path.{_≡_}
 use mathlib.Core.List.{List, []}
 use lib.Dec.{eqb}
 use lib.ListN.{length, drop}
 use lib.IntN.{ℤ}
-use Rattle.answer.specs.Answer.{Answer}
+use Rattle.answer.specs.Answer.{Answer, gives}
+use Rattle.answer.specs.Lent.{put}
 use Rattle.region.specs.declared.Header.{Header}
+use Rattle.region.specs.declared.Style.{Style}
+use Rattle.region.specs.Rows.{rows}
+use Rattle.region.specs.Records.{Styles}
 use Rattle.region.specs.Reader.{File, lengthOf, kindOf, recordIn, recordsIn}
 use Rattle.region_contents.specs.declared.State.{State}
 use Rattle.region_contents.specs.declared.Outcome.{Outcome}
 use Rattle.region_contents.specs.Contents.{Stands, Taken}
 
-abbrev pub Recorded : List ℕ → State → List ℤ → Outcome → List ℤ → Type 0
-Recorded f s rs o rs′ = (x : File) (before : List ℤ) → Stands before (x .region) s rs
-    → Taken before (eqb (kindOf (drop (s .at) f)) 4) (s .at + lengthOf (drop (s .at) f)) (recordIn x (drop (s .at) f)) o rs′
+abbrev pub Recorded : Style → List ℕ → State → List ℤ → Outcome → List ℤ → Type 0
+Recorded t f s rs o rs′ = (x : File) (before : List ℤ) → Stands before (x .region) (s .counts) rs
+    → Taken before (eqb (kindOf (drop (s .at) f)) 4) (s .at + lengthOf (drop (s .at) f)) (recordIn (Styles.only t) x (drop (s .at) f)) o rs′
 
 -- the header's 8 bytes are read: depth and budget, and no region yet
 abbrev pub headedFile : Header → File
 headedFile h = record { depth = h .depth; budget = h .budget; region = [] }
 
-abbrev pub recordsAfter : Header → List ℕ → Answer File
-recordsAfter h f = recordsIn (length f) (headedFile h) (drop 8 f)
+abbrev pub recordsAfter : Style → Header → List ℕ → Answer File
+recordsAfter t h f = recordsIn (Styles.only t) (length f) (headedFile h) (drop 8 f)
+
+abbrev pub RowsGiven : Answer File → List ℤ → List ℤ → Type 0
+RowsGiven a before rs = (x : File) → a ≡ gives x → rs ≡ put 0 (rows (x .region)) before

@@ -1,12 +1,14 @@
-// The reader of region files: one pass over the records, and the call that copies the rows. The rules stand in region/specs/Reader and Answers, what
-// a pass gives in specs/Reading.
+// The reader of region files of both styles: one pass over the records, and the call that copies the rows. The rules stand in region/specs/Records,
+// Reader and Answers, what a pass gives in specs/Reading.
 use answer::LONG;
+use answer::MIXED;
 use answer::SPACE;
 use limits::HALFSPACES;
 use limits::LONGEST;
 use region::Header;
 use region::HeaderOf;
 use region::Record;
+use region::Style;
 use region_contents::Outcome;
 use region_contents::State;
 use region_records::Frame;
@@ -15,23 +17,76 @@ ghost use Prim.Native.Nat.{_-_, _≤_};
 ghost use lib.ListN.{length, take};
 ghost use Rattle.answer.specs.Answer.{gives, with-value};
 ghost use Rattle.answer.specs.Lent.{put};
+ghost use Rattle.region.specs.declared.Record.{Record};
 ghost use Rattle.region.specs.Rows as region;
-ghost use Rattle.region.specs.Reader.{File};
+ghost use Rattle.region.specs.Records.{sameStyle, Styles};
+ghost use Rattle.region.specs.Records as records;
+ghost use Rattle.region.specs.Reader.{File, styleOf};
 ghost use Rattle.region.specs.Reader as rule;
 ghost use Rattle.region.specs.Answers.{headerOf, headerGiven, readAnswer, readAfter};
-ghost use Rattle.region_reader.specs.Reading.{Recorded, recordsAfter};
+ghost use Rattle.region.proofs.ReaderLaws.{Begins};
+ghost use Rattle.region_reader.specs.Reading.{Recorded, recordsAfter, RowsGiven};
 
-// The record at the state's place: its payload is handed on, as that part of the file, to the payload reader of its kind.
-fn record_in(file: &[u8], s: State, rows: &mut [i32]) -> Outcome
+// Whether two styles are the same.
+pub fn same_style(s: Style, t: Style) -> bool
+    ensures { λ r. ⌜ r ≡ sameStyle s t ⌝ }
+{
+    match s {
+        Style::Plain => match t {
+            Style::Plain => true,
+            Style::Grouped => false,
+        },
+        Style::Grouped => match t {
+            Style::Plain => false,
+            Style::Grouped => true,
+        },
+    }
+}
+
+// 14: the record may stand in a file of this style.
+fn fits(style: Style, r: Record) -> bool
+    ensures { λ t. ⌜ t ≡ records.fits (Styles.only style) r ⌝ }
+{
+    match r {
+        Record::Header => true,
+        Record::Convex => same_style(style, Style::Plain),
+        Record::Halfspace => same_style(style, Style::Plain),
+        Record::End => true,
+        Record::Group(_) => same_style(style, Style::Grouped),
+    }
+}
+
+// The style of a file that has a header: that of the record after it.
+pub fn style_of(file: &[u8]) -> Style
+    requires { ⌜ Begins (now file) Record.Header ⌝ }
+    ensures { λ r. ⌜ r ≡ styleOf (now (file .entry)) ⌝ }
+{
+    let frame = region_records::frame_at(file, 8);
+    match frame {
+        Frame::Refused(_) => Style::Plain,
+        Frame::Of(_, record) => {
+            if region_records::kind_of(record) == 5 {
+                return Style::Grouped;
+            }
+            Style::Plain
+        }
+    }
+}
+
+// The record at the state's place, checked for 2, 3 and 14: its payload is handed on, as that part of the file, to the payload reader of its kind.
+fn record_in(file: &[u8], style: Style, s: State, rows: &mut [i32]) -> Outcome
     requires { ⌜ s .at ≤ length (now file) ⌝ }
     requires { ⌜ length (now rows) ≡ 2560 ⌝ }
-    ensures { λ r. ⌜ Recorded (now (file .entry)) s (now (rows .entry)) r (now (rows .exit)) ⌝ }
+    ensures { λ r. ⌜ Recorded style (now (file .entry)) s (now (rows .entry)) r (now (rows .exit)) ⌝ }
 {
     let at = s.at;
     let frame = region_records::frame_at(file, at);
     match frame {
         Frame::Refused(n) => Outcome::Refused(n),
         Frame::Of(len, record) => {
+            if !fits(style, record) {
+                return Outcome::Refused(MIXED);
+            }
             let payload = &file[at + 4..at + len];
             let next = at + len;
             match record {
@@ -39,17 +94,18 @@ fn record_in(file: &[u8], s: State, rows: &mut [i32]) -> Outcome
                 Record::Convex => region_contents::convex_payload(payload, s, next),
                 Record::Halfspace => region_contents::halfspace_payload(payload, s, next, rows),
                 Record::End => region_contents::end_payload(payload, s, file.len() - next),
+                Record::Group(_) => region_contents::group_payload(payload, s, next, rows),
             }
         }
     }
 }
 
-// The records after the header h, to the end; their rows are written from the beginning of `rows` on.
-fn records_in(file: &[u8], h: Header, rows: &mut [i32]) -> HeaderOf
+// The records after the header h of a file of this style, to the end; their rows are written from the beginning of `rows` on.
+fn records_in(file: &[u8], style: Style, h: Header, rows: &mut [i32]) -> HeaderOf
     requires { ⌜ 8 ≤ length (now file) ⌝ }
     requires { ⌜ length (now rows) ≡ 2560 ⌝ }
-    ensures { λ r. ⌜ headerGiven r ≡ with-value headerOf (recordsAfter h (now (file .entry))) ⌝ }
-    ensures { λ r. ⌜ ((x : File) → recordsAfter h (now (file .entry)) ≡ gives x → now (rows .exit) ≡ put 0 (region.rows (x .region)) (now (rows .entry))) ⌝ }
+    ensures { λ r. ⌜ headerGiven r ≡ with-value headerOf (recordsAfter style h (now (file .entry))) ⌝ }
+    ensures { λ r. ⌜ RowsGiven (recordsAfter style h (now (file .entry))) (now (rows .entry)) (now (rows .exit)) ⌝ }
 {
     let none = region_counts::none();
     let mut s = State {
@@ -57,7 +113,7 @@ fn records_in(file: &[u8], h: Header, rows: &mut [i32]) -> HeaderOf
         counts: none,
     };
     loop {
-        let o = record_in(file, s, rows);
+        let o = record_in(file, style, s, rows);
         match o {
             Outcome::More(next) => {
                 s = next;
@@ -87,7 +143,10 @@ pub fn decode(file: &[u8], rows: &mut [i32; 5 * HALFSPACES]) -> HeaderOf
     }
     let first = region_records::header_in(file);
     match first {
-        HeaderOf::Gives(h) => records_in(file, h, rows),
+        HeaderOf::Gives(h) => {
+            let style = style_of(file);
+            records_in(file, style, h, rows)
+        }
         HeaderOf::Refused(n) => HeaderOf::Refused(n),
     }
 }

@@ -1,6 +1,6 @@
 -- A record's length and kind, where they stand in the file: the checks 2 and 3, and what a record makes once they have passed.
 -- Reading byte k of what is left is reading byte `at + k` of the file. Assumes nothing.
-use Prim.Native.Nat.{ℕ, _+_, _*_, _-_, _≤_, _<_}
+use Prim.Native.Nat.{ℕ, _+_, _*_, _-_, _/_, _≤_, _<_}
 use native.Mathlib.Nat.{add-zero}
 use native.Mathlib.Omega.{arith}
 use mathlib.Core.Path.{_≡_, refl, sym, ap, _∙_}
@@ -11,10 +11,11 @@ use lib.ListN.{length, take, drop, getD, length-drop}
 use lib.Seq.{getD-drop, drop-drop}
 use borrow.Author.Tests.{leb-true, lt-leb, le-leb}
 use Rattle.algebra.proofs.Tests.{and-left, and-right, and-then, and-else}
-use Rattle.answer.specs.Answer.{Answer, refused, gives, check, then, Torn, Kind}
+use Rattle.answer.specs.Answer.{Answer, refused, gives, check, then, Torn, Kind, Mixed}
 use Rattle.region.specs.declared.Record.{Record}
+use Rattle.region.specs.Building.{mostInConvex}
 use Rattle.region.specs.Bytes.{word}
-use Rattle.region.specs.Records.{kind, is, recordOf}
+use Rattle.region.specs.Records.{kind, size, allowed, is, recordOf, Styles, fits}
 use Rattle.region.specs.Reader.{File, lengthOf, kindOf, payload, after, whole, recordAt, headerIn, header, partIn, recordIn}
 use Rattle.region.proofs.ReaderLaws.{Begins, begins, header-read}
 use Rattle.region_records.specs.declared.Frame.{Frame}
@@ -74,12 +75,35 @@ module _ (f : List ℕ) (at : ℕ) where
   pub whole-left : whole (drop at f) ≡ true → 4 ≤ length f - at
   whole-left w = omega (arith, whole-says (drop at f) w, length-drop at f)
 
+  pub whole-least : whole (drop at f) ≡ true → 4 ≤ word f at
+  whole-least w = omega (arith, whole-says (drop at f) w .low, length-at f at)
+
 -- ---- 3
 
-pub by-tests : (n len : ℕ) (a b c d : Bool) → is n len Record.Header ≡ a → is n len Record.Convex ≡ b → is n len Record.Halfspace ≡ c → is n len Record.End ≡ d
-    → cond a (gives Record.Header) (cond b (gives Record.Convex) (cond c (gives Record.Halfspace) (cond d (gives Record.End) (refused Kind)))) ≡ recordOf n len
-by-tests n len a b c d ea eb ec ed =
-    λ i. cond (sym ea i) (gives Record.Header) (cond (sym eb i) (gives Record.Convex) (cond (sym ec i) (gives Record.Halfspace) (cond (sym ed i) (gives Record.End) (refused Kind))))
+-- the length of what may be a record fits two bytes
+few-bytes : (n : ℕ) → (leb 1 n && leb n mostInConvex) ≡ true → 4 + 16 * n < 65536
+few-bytes n e = omega (arith, leb-true n mostInConvex (and-right (leb 1 n) (leb n mostInConvex) e))
+
+pub allowed-size : (r : Record) → allowed r ≡ true → size r < 65536
+allowed-size Record.Header e = omega arith
+allowed-size Record.Convex e = omega arith
+allowed-size Record.Halfspace e = omega arith
+allowed-size Record.End e = omega arith
+allowed-size (Record.Group n) e = few-bytes n e
+
+module _ (n len : ℕ) where
+  abbrev group : Record
+  group = Record.Group ((len - 4) / 16)
+
+  -- the first of the records whose test passes
+  abbrev passed : Bool → Bool → Bool → Bool → Bool → Answer Record
+  passed a b c d e =
+      cond a (gives Record.Header) (cond b (gives Record.Convex) (cond c (gives Record.Halfspace)
+      (cond d (gives Record.End) (cond e (gives group) (refused Kind)))))
+
+  pub by-tests : (a b c d e : Bool) → is n len Record.Header ≡ a → is n len Record.Convex ≡ b → is n len Record.Halfspace ≡ c → is n len Record.End ≡ d
+      → is n len group ≡ e → passed a b c d e ≡ recordOf n len
+  by-tests a b c d e ea eb ec ed ee = λ i. passed (sym ea i) (sym eb i) (sym ec i) (sym ed i) (sym ee i)
 
 -- ---- the frame
 
@@ -113,13 +137,16 @@ no-record rest n (refused m) q = cc
 no-record rest n (gives r) q = let z : _≡_ {A = ℕ} 0 1 = cc in absurd (omega arith)
 
 module _ (rest : List ℕ) (n : ℕ) (q : Frame.Refused n ≡ frameOf rest) where
+  pub frame-refused : recordAt rest ≡ refused n
+  frame-refused = no-record rest n (recordAt rest) q
+
   pub header-refused : header rest ≡ refused n
   unfolding header
-  header-refused = ap (λ a. then a (λ r. headerIn r (payload rest))) (no-record rest n (recordAt rest) q)
+  header-refused = ap (λ a. then a (λ r. headerIn r (payload rest))) frame-refused
 
-  pub record-refused : (x : File) → recordIn x rest ≡ refused n
+  pub record-refused : (k : Styles) (x : File) → recordIn k x rest ≡ refused n
   unfolding recordIn
-  record-refused x = ap (λ a. then a (λ r. partIn x r (payload rest) (after rest))) (no-record rest n (recordAt rest) q)
+  record-refused k x = ap (λ a. then a (λ r. check Mixed (fits k r) (partIn x r (payload rest) (after rest)))) frame-refused
 
 -- ---- where a record ends
 
@@ -143,9 +170,18 @@ module _ (rest : List ℕ) (r : Record) (e : recordAt rest ≡ gives r) where
   unfolding header
   header-by = ap (λ a. then a (λ r. headerIn r (payload rest))) e
 
-  pub record-by : (x : File) → recordIn x rest ≡ partIn x r (payload rest) (after rest)
-  unfolding recordIn
-  record-by x = ap (λ a. then a (λ r. partIn x r (payload rest) (after rest))) e
+  module _ (k : Styles) (x : File) where
+    by-style : (t : Bool) → fits k r ≡ t → recordIn k x rest ≡ check Mixed t (partIn x r (payload rest) (after rest))
+    unfolding recordIn
+    by-style t f =
+        ap (λ a. then a (λ r. check Mixed (fits k r) (partIn x r (payload rest) (after rest)))) e
+        ∙ ap (λ t. check Mixed t (partIn x r (payload rest) (after rest))) f
+
+    pub record-mixed : fits k r ≡ false → recordIn k x rest ≡ refused Mixed
+    record-mixed f = by-style false f
+
+    pub record-by : fits k r ≡ true → recordIn k x rest ≡ partIn x r (payload rest) (after rest)
+    record-by f = by-style true f
 
   pub is-end : eqb (kindOf rest) 4 ≡ eqb (kind r) 4
   is-end = ap (λ k. eqb k 4) (begins rest r e .its-kind)

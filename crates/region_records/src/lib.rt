@@ -15,11 +15,13 @@ ghost use Prim.Native.Nat.{_+_, _-_, _≤_, _<_};
 ghost use lib.ListN.{length, drop};
 ghost use Rattle.answer.specs.Answer.{with-value};
 ghost use Rattle.region.specs.Bytes as bytes;
-ghost use Rattle.region.specs.Records.{kind, size, is, recordOf};
+ghost use Rattle.region.specs.Records.{kind, size, allowed, is, recordOf};
 ghost use Rattle.region.specs.Reader.{whole, header, halfspaceOf};
 ghost use Rattle.region.specs.Reader as rule;
 ghost use Rattle.region.specs.Answers.{headerOf, headerGiven};
 ghost use Rattle.region_records.specs.Frames.{recordGiven, frameOf};
+
+const IN_CONVEX: u32 = limits::IN_CONVEX as u32;
 
 // What a record is, or the refusal 3.
 pub enum RecordOf {
@@ -80,11 +82,13 @@ pub fn kind_of(r: Record) -> u32
         Record::Convex => 2,
         Record::Halfspace => 3,
         Record::End => 4,
+        Record::Group(_) => 5,
     }
 }
 
 // The length of a record in bytes.
 pub fn size_of(r: Record) -> u32
+    requires { ⌜ size r < 65536 ⌝ }
     ensures { λ n. ⌜ (n ≡ size r) × (n < 65536) ⌝ }
 {
     match r {
@@ -92,6 +96,20 @@ pub fn size_of(r: Record) -> u32
         Record::Convex => 4,
         Record::Halfspace => 20,
         Record::End => 4,
+        Record::Group(n) => 4 + 16 * n,
+    }
+}
+
+// A group has 1 to 100 halfspaces.
+fn is_allowed(r: Record) -> bool
+    ensures { λ t. ⌜ t ≡ allowed r ⌝ }
+{
+    match r {
+        Record::Header => true,
+        Record::Convex => true,
+        Record::Halfspace => true,
+        Record::End => true,
+        Record::Group(n) => 1 <= n && n <= IN_CONVEX,
     }
 }
 
@@ -99,11 +117,12 @@ pub fn size_of(r: Record) -> u32
 fn is_record(kind: u32, len: u32, r: Record) -> bool
     ensures { λ t. ⌜ t ≡ is kind len r ⌝ }
 {
-    kind == kind_of(r) && len == size_of(r)
+    kind == kind_of(r) && (is_allowed(r) && len == size_of(r))
 }
 
 // What a record of this kind and length is, or the refusal 3.
 fn record_of(kind: u32, len: u32) -> RecordOf
+    requires { ⌜ 4 ≤ len ⌝ }
     ensures { λ r. ⌜ recordGiven r ≡ recordOf kind len ⌝ }
 {
     if is_record(kind, len, Record::Header) {
@@ -117,6 +136,10 @@ fn record_of(kind: u32, len: u32) -> RecordOf
     }
     if is_record(kind, len, Record::End) {
         return RecordOf::Gives(Record::End);
+    }
+    let group = Record::Group((len - 4) / 16);
+    if is_record(kind, len, group) {
+        return RecordOf::Gives(group);
     }
     RecordOf::Refused(KIND)
 }
@@ -170,6 +193,7 @@ pub fn header_in(file: &[u8]) -> HeaderOf
             Record::Convex => HeaderOf::Refused(ORDER),
             Record::Halfspace => HeaderOf::Refused(ORDER),
             Record::End => HeaderOf::Refused(ORDER),
+            Record::Group(_) => HeaderOf::Refused(ORDER),
         },
     }
 }

@@ -1,2 +1,3 @@
+pub mod GrowthLaws
 pub mod WriterLaws
 pub mod WritingPass

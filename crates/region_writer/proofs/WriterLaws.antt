@@ -6,62 +6,54 @@ use mathlib.Core.Bool.{true, false}
 use mathlib.Core.List.{List, _++_}
 use lib.ListN.{length, length-append}
 use lib.IntN.{ℤ}
-use borrow.Author.Tests.{le-leb, lt-leb}
-use Rattle.answer.specs.Answer.{Answer, refused, gives, check, then, with-value, Depth, Budget, Space}
-use Rattle.answer.specs.Lent.{put, stored, room}
+use Rattle.answer.specs.Answer.{refused, gives, with-value, Depth, Budget, Space}
+use Rattle.answer.specs.Lent.{put}
 use Rattle.answer.proofs.AnswerLaws.{value-gives, value-refused}
+use Rattle.answer.proofs.PutLaws.{put-put}
 use Rattle.vector.specs.Numbers.{isDepth}
+use Rattle.region.specs.declared.Style.{Style}
 use Rattle.region.specs.Regions.{Region}
 use Rattle.region.specs.Budgets.{isBudget}
 use Rattle.region.specs.Building.{total}
 use Rattle.region.specs.Rows.{regionOf}
-use Rattle.region.specs.Writer.{headerBytes, endBytes, convexesBytes, fileOf, write}
-use Rattle.region.specs.Answers.{writeInto, writeAnswer, writeAfter}
-use Rattle.region.proofs.ReadBack.{file-length}
+use Rattle.region.specs.Writer.{headerBytes, endBytes, regionBytes, fileIn, writeIn}
+use Rattle.region.proofs.FileAnswers.{Answered, no-file, no-space, file-written}
 use Rattle.region.proofs.WriteBack.{region-back}
 use Rattle.region_counts.specs.declared.Counts.{Counts}
 use Rattle.region_counts.specs.Counts.{countsOf}
-use Rattle.region_writer.specs.Writing.{Room}
-use Rattle.answer.proofs.PutLaws.{put-put}
+use Rattle.region_writer.specs.Writing.{width, Room}
+use Rattle.region_writer.proofs.GrowthLaws.{region-length, whole-length}
 
 -- ---- the answer
 
-module _ (d b : ℕ) (rs : List ℤ) (before : List ℕ) where
-  -- what the writer answers, and what the lent list holds then
-  abbrev pub Answered : Answer ℕ → List ℕ → Type 0
-  Answered a xs = (a ≡ writeAnswer d b rs before) × (xs ≡ writeAfter d b rs before)
+module _ (s : Style) (d b : ℕ) (rs : List ℤ) (before : List ℕ) where
+  pub no-depth : isDepth d ≡ false → Answered (writeIn s d b rs) before (refused Depth) before
+  unfolding writeIn
+  no-depth e = no-file (writeIn s d b rs) before Depth (simp e)
 
-  answered : (a : Answer (List ℕ)) → writeInto d b rs before ≡ a → Answered (with-value length a) (stored (put 0) a before)
-  unfolding writeAnswer writeAfter
-  answered a e = (ap (with-value length) (sym e), ap (λ a. stored (put 0) a before) (sym e))
-
-  pub no-depth : isDepth d ≡ false → Answered (refused Depth) before
-  unfolding write
-  no-depth e = answered (refused Depth) (simp e)
-
-  pub no-budget : isDepth d ≡ true → isBudget b ≡ false → Answered (refused Budget) before
-  unfolding write
-  no-budget e f = answered (refused Budget) (simp (e, f))
+  pub no-budget : isDepth d ≡ true → isBudget b ≡ false → Answered (writeIn s d b rs) before (refused Budget) before
+  unfolding writeIn
+  no-budget e f = no-file (writeIn s d b rs) before Budget (simp (e, f))
 
   module _ (depth : isDepth d ≡ true) (budget : isBudget b ≡ true) where
-    into : writeInto d b rs before ≡ then (with-value (fileOf d b) (regionOf rs)) (λ f. room (length f) before f)
-    unfolding write
-    into = simp (depth, budget)
+    written : writeIn s d b rs ≡ with-value (fileIn s d b) (regionOf rs)
+    unfolding writeIn
+    written = simp (depth, budget)
 
-    pub no-rows : (n : ℕ) → refused n ≡ with-value countsOf (regionOf rs) → Answered (refused n) before
+    pub no-rows : (n : ℕ) → refused n ≡ with-value countsOf (regionOf rs) → Answered (writeIn s d b rs) before (refused n) before
     no-rows n e =
-        let r : regionOf rs ≡ refused n = value-refused countsOf (regionOf rs) n (sym e) in
-        answered (refused n) (into ∙ ap (λ a. then (with-value (fileOf d b) a) (λ f. room (length f) before f)) r)
+        no-file (writeIn s d b rs) before n (written ∙ ap (with-value (fileIn s d b)) (value-refused countsOf (regionOf rs) n (sym e)))
 
     module _ (g : Region) (e : regionOf rs ≡ gives g) where
-      into-room : writeInto d b rs before ≡ room (length (fileOf d b g)) before (fileOf d b g)
-      into-room = into ∙ ap (λ a. then (with-value (fileOf d b) a) (λ f. room (length f) before f)) e
+      file : writeIn s d b rs ≡ gives (fileIn s d b g)
+      file = written ∙ ap (with-value (fileIn s d b)) e
 
-      pub no-space : length before < length (fileOf d b g) → Answered (refused Space) before
-      no-space l = answered (refused Space) (into-room ∙ ap (λ t. check Space t (gives (fileOf d b g))) (lt-leb (length (fileOf d b g)) (length before) l))
+      pub no-room : length before < length (fileIn s d b g) → Answered (writeIn s d b rs) before (refused Space) before
+      no-room l = no-space (writeIn s d b rs) before (fileIn s d b g) file l
 
-      pub written : length (fileOf d b g) ≤ length before → Answered (gives (length (fileOf d b g))) (put 0 (fileOf d b g) before)
-      written l = answered (gives (fileOf d b g)) (into-room ∙ ap (λ t. check Space t (gives (fileOf d b g))) (le-leb (length (fileOf d b g)) (length before) l))
+      pub has-file : {m : ℕ} {xs : List ℕ} → m ≡ length (fileIn s d b g) → m ≤ length before → xs ≡ put 0 (fileIn s d b g) before
+          → Answered (writeIn s d b rs) before (gives m) xs
+      has-file n l e = let w = file-written (writeIn s d b rs) before (fileIn s d b g) file (omega arith) in (ap gives n ∙ w .0, e ∙ w .1)
 
 -- ---- rows that passed
 
@@ -82,20 +74,23 @@ passed rs k e =
     let a : k .all ≡ total (w .0) = ap (λ k. k .all) (sym (w .2)) in
     record { region = w .0; is = w .1; convexes = c; all = a; few = omega (arith, c, m .convexes); limit = omega (arith, a, m .halfspaces) }
 
-module _ {rs : List ℤ} {k : Counts} (p : Passed rs k) where
-  pub counted-length : (d b : ℕ) → 12 + 4 * k .convexes + 20 * k .all ≡ length (fileOf d b (p .region))
-  counted-length d b = omega (arith, file-length d b (p .region), p .convexes, p .all)
+module _ {rs : List ℤ} {k : Counts} (p : Passed rs k) (s : Style) where
+  pub counted-length : (d b : ℕ) → 12 + 4 * k .convexes + width s * k .all ≡ length (fileIn s d b (p .region))
+  counted-length d b = (λ i. 12 + 4 * p .convexes i + width s * p .all i) ∙ sym (whole-length s d b (p .region))
 
-  pub has-room : (n : ℕ) → 12 + 4 * k .convexes + 20 * k .all ≤ n → Room rs n
-  has-room n l = record { region = p .region; is = p .is; room = omega (arith, p .convexes, p .all) }
+  pub has-room : (n : ℕ) → 12 + 4 * k .convexes + width s * k .all ≤ n → Room s rs n
+  has-room n l =
+      let e : 4 * k .convexes + width s * k .all ≡ length (regionBytes s (p .region)) =
+      (λ i. 4 * p .convexes i + width s * p .all i) ∙ sym (region-length s (p .region)) in
+      record { region = p .region; is = p .is; room = omega (arith, e) }
 
 -- ---- the file by its parts
 
-module _ (d b : ℕ) (g : Region) (before : List ℕ) where
-  pub header-rows-end : (m : ℕ) (xs : List ℕ) → m ≡ 8 + length (convexesBytes g) → xs ≡ put 8 (convexesBytes g) (put 0 (headerBytes d b) before)
-      → put m endBytes xs ≡ put 0 (fileOf d b g) before
-  unfolding fileOf
+module _ (s : Style) (d b : ℕ) (g : Region) (before : List ℕ) where
+  pub header-rows-end : (m : ℕ) (xs : List ℕ) → m ≡ 8 + length (regionBytes s g) → xs ≡ put 8 (regionBytes s g) (put 0 (headerBytes d b) before)
+      → put m endBytes xs ≡ put 0 (fileIn s d b g) before
+  unfolding fileIn
   header-rows-end m xs n e =
       ap (put m endBytes) e
-      ∙ ap (put m endBytes) (put-put 0 8 (headerBytes d b) (convexesBytes g) before refl (omega arith))
-      ∙ put-put 0 m (headerBytes d b ++ convexesBytes g) endBytes before (omega (arith, length-append (headerBytes d b) (convexesBytes g))) (omega arith)
+      ∙ ap (put m endBytes) (put-put 0 8 (headerBytes d b) (regionBytes s g) before refl (omega arith))
+      ∙ put-put 0 m (headerBytes d b ++ regionBytes s g) endBytes before (omega (arith, length-append (headerBytes d b) (regionBytes s g))) (omega arith)

@@ -1,10 +1,10 @@
--- The pass that writes rows: the records so far are the bytes of the region of the rows so far, and stand from element 8 on. A row's records are
--- what its region's bytes grow by, so they fit where the whole file does. Assumes nothing.
+-- The pass that writes rows: the region of the rows so far stands from element 8 on, and a row adds to its bytes what it adds to the region, so it has room
+-- where the whole file does. Assumes nothing.
 use Prim.Native.Nat.{ℕ, zero, suc, _+_, _-_, _*_, _/_, _%_, _≤_, _<_}
 use native.Mathlib.Omega.{arith}
-use mathlib.Core.Path.{_≡_, refl, sym, ap, _∙_}
+use mathlib.Core.Path.{_≡_, refl, sym, ap, subst, _∙_}
 use mathlib.Core.Bool.{Bool, true, false, cond}
-use mathlib.Core.List.{List, [], _++_, append-nil}
+use mathlib.Core.List.{List, []}
 use lib.Dec.{ltb, eqb}
 use lib.ListN.{length, getD, drop, length-append, take-append-drop}
 use lib.IntN.{ℤ, pos}
@@ -12,113 +12,177 @@ use borrow.Author.Tests.{eqb-true}
 use Rattle.answer.specs.Answer.{gives, check, Order}
 use Rattle.answer.specs.Lent.{put}
 use Rattle.answer.proofs.AnswerLaws.{check-passed, check-gives, same-value, then-gives}
+use Rattle.answer.proofs.PutLaws.{put-length}
 use Rattle.algebra.proofs.Sizes.{Upto}
 use Rattle.vector.specs.Numbers.{Kℕ, eqZ}
 use Rattle.vector.proofs.Sizes.{Small}
 use Rattle.vector.proofs.SizeLaws.{between-upto}
 use Rattle.vector.proofs.VectorLaws.{vector-small}
 use Rattle.region.specs.declared.Halfspace.{Halfspace}
+use Rattle.region.specs.declared.Style.{Style}
 use Rattle.region.specs.Regions.{Region}
-use Rattle.region.specs.Building.{withConvex}
+use Rattle.region.specs.Building.{lastConvex, total, withConvex, withHalfspace}
 use Rattle.region.specs.Rows.{begins, opened, rowIn, halfspaceAt, rowsIn, regionOf}
-use Rattle.region.specs.Writer.{convexBytes, halfspaceBytes, convexesBytes}
+use Rattle.region.specs.Writer.{begin, convexesBytes, groupsBytes, regionBytes}
+use Rattle.region.proofs.AddLaws.{Added}
 use Rattle.region.proofs.RegionLaws.{convex-length}
-use Rattle.region.proofs.ReadBack.{convexes-length}
-use Rattle.region.proofs.FileBack.{convex-bytes, halfspace-bytes}
-use Rattle.region_writer.specs.declared.Place.{Place}
-use Rattle.region_writer.specs.Writing.{rowBytes, Room}
-use Rattle.answer.proofs.PutLaws.{put-length, put-put}
-use Rattle.region_checks.proofs.NumberLaws.{Taken, taken, taken-length, taken-few}
+use Rattle.region.proofs.RowsBack.{last-total}
+use Rattle.region_checks.proofs.NumberLaws.{Taken, taken}
 use Rattle.region_checks.proofs.CheckingPass.{next-row}
+use Rattle.region_writer.specs.declared.Place.{Place}
+use Rattle.region_writer.specs.Writing.{width, opening, withConvexAt, withHalfspaceAt, Stands, RowFits, Room, RowsStand}
+use Rattle.region_writer.proofs.GrowthLaws.{region-length, convex-more, halfspace-longer, stands-convex, stands-halfspace}
 
--- ---- the bytes of a region and of one row more
+-- ---- a halfspace more
 
-opened-bytes : (g : Region) (t : Bool) (s : List ℕ) → convexesBytes (cond t (withConvex g) g) ++ s ≡ convexesBytes g ++ (cond t convexBytes [] ++ s)
-opened-bytes g true s = convex-bytes g s
-opened-bytes g false s = refl
+-- the halfspace h makes the region r of g, which stands in xs
+pub record Follows (s : Style) (g r : Region) (before xs : List ℕ) (p : Place) (h : Halfspace) : Type 0 where
+  pub stands : Stands s g before xs p
+  pub begun : 0 < length g
+  pub added : Added g r h
+  pub room : 12 + length (regionBytes s r) ≤ length before
 
-opened-length : (g : Region) (t : Bool) → length (cond t (withConvex g) g) ≡ cond t (length g + 1) (length g)
-opened-length g true = convex-length g
-opened-length g false = refl
+module _ {s : Style} {g r : Region} {before xs : List ℕ} {p : Place} {h : Halfspace} (f : Follows s g r before xs p h) where
+  grown : length (regionBytes s r) ≡ length (regionBytes s g) + width s
+  grown = ap (λ r. length (regionBytes s r)) (sym (f .added .is)) ∙ halfspace-longer g h (f .begun) s
 
-module _ {g r : Region} {c : ℤ} {h : Halfspace} (t : Taken g r c h) where
-  pub row-bytes : convexesBytes r ≡ convexesBytes g ++ rowBytes (length g) c h
-  row-bytes =
-      sym (append-nil (convexesBytes r))
-      ∙ ap (λ r. convexesBytes r ++ []) (sym (t .added .is))
-      ∙ halfspace-bytes (opened g c) h [] (t .begun)
-      ∙ opened-bytes g (begins g c) (halfspaceBytes h ++ [])
-      ∙ ap (λ l. convexesBytes g ++ (cond (begins g c) convexBytes [] ++ l)) (append-nil (halfspaceBytes h))
+  same-length : length xs ≡ length before
+  same-length = ap length (f .stands .bytes) ∙ put-length 8 (regionBytes s g) before (omega (arith, grown, f .room))
 
-  pub row-number : length r ≡ cond (eqZ c (pos (length g))) (length g + 1) (length g)
-  row-number = taken-length t ∙ opened-length g (begins g c)
+  head-before : (t : Style) → s ≡ t → 4 + 16 * p .last ≤ p .at
+  head-before Style.Plain q = omega (arith, f .stands .at, f .stands .last, ap (λ s. length (regionBytes s g)) q, region-length Style.Plain g, last-total g)
+  head-before Style.Grouped q = omega (arith, f .stands .at, f .stands .last, ap (λ s. length (regionBytes s g)) q, region-length Style.Grouped g, last-total g)
 
-rows-grow : (n : ℕ) (g f : Region) (rs : List ℤ) → rowsIn n g rs ≡ gives f → length (convexesBytes g) ≤ length (convexesBytes f)
+  pub halfspace-fits : (p .at + width s ≤ length xs) × (4 + 16 * p .last ≤ p .at) × (p .last < 100)
+  halfspace-fits = (omega (arith, f .stands .at, grown, same-length, f .room), head-before s refl, omega (arith, f .stands .last, f .added .room))
+
+  pub halfspace-small : Small (h .n) × Upto Kℕ (h .d)
+  halfspace-small = (vector-small (h .n) (f .added .fine .vector), between-upto (h .d) (f .added .fine .offset))
+
+  pub halfspace-stands : {q : Place} {ys : List ℕ} → q ≡ record { at = p .at + width s; convexes = p .convexes; last = p .last + 1 }
+      → ys ≡ withHalfspaceAt s p h xs → Stands s r before ys q
+  halfspace-stands {ys = ys} e b =
+      let q : Place = record { at = p .at + width s; convexes = p .convexes; last = p .last + 1 } in
+      let w = stands-halfspace (f .stands) (omega (arith, grown, f .room)) h (f .begun) b in
+      subst (λ q. Stands s r before ys q) (sym e) (subst (λ r. Stands s r before ys q) (f .added .is) w)
+
+-- ---- a row more
+
+module _ {s : Style} {xs : List ℕ} {p : Place} {c : ℤ} {h : Halfspace} (f : RowFits s xs p c h) where
+  row : Taken (f .region) (f .next) c h
+  row = taken (f .region) (f .next) c h (f .is)
+
+  opens : (t : Bool) → eqZ c (pos (p .convexes)) ≡ t → opened (f .region) c ≡ cond t (withConvex (f .region)) (f .region)
+  opens t e = ap (λ t. cond t (withConvex (f .region)) (f .region)) (ap (λ n. eqZ c (pos n)) (sym (f .stands .convexes)) ∙ e)
+
+  pub goes-on : eqZ c (pos (p .convexes)) ≡ false → Follows s (f .region) (f .next) (f .before) xs p h
+  goes-on e = record {
+    stands = f .stands;
+    begun = omega (arith, ap length (opens false e), row .begun);
+    added = subst (λ g. Added g (f .next) h) (opens false e) (row .added);
+    room = f .room;
+  }
+
+  module _ (e : eqZ c (pos (p .convexes)) ≡ true) where
+    begins-added : Added (withConvex (f .region)) (f .next) h
+    begins-added = subst (λ g. Added g (f .next) h) (opens true e) (row .added)
+
+    begun : 0 < length (withConvex (f .region))
+    begun = omega (arith, convex-length (f .region))
+
+    longer : length (regionBytes s (f .next)) ≡ length (regionBytes s (f .region)) + 4 + width s
+    longer = omega (
+      arith,
+      ap (λ r. length (regionBytes s r)) (begins-added .is),
+      halfspace-longer (withConvex (f .region)) h begun s,
+      ap length (convex-more s (f .region)),
+      length-append (regionBytes s (f .region)) (begin (opening s)),
+    )
+
+    pub convex-fits : (p .at + 4 ≤ length xs) × (p .convexes ≤ 64)
+    convex-fits =
+        let same = ap length (f .stands .bytes) ∙ put-length 8 (regionBytes s (f .region)) (f .before) (omega (arith, longer, f .room)) in
+        (omega (arith, f .stands .at, longer, f .room), omega (arith, f .stands .convexes, ap length (opens true e), row .few, convex-length (f .region)))
+
+    pub begins-row : {q : Place} {ys : List ℕ} → q ≡ record { at = p .at + 4; convexes = p .convexes + 1; last = 0 } → ys ≡ withConvexAt s p xs
+        → Follows s (withConvex (f .region)) (f .next) (f .before) ys q h
+    begins-row {ys = ys} o b = record {
+      stands = subst (λ q. Stands s (withConvex (f .region)) (f .before) ys q) (sym o) (stands-convex (f .stands) (omega (arith, longer, f .room)) b);
+      begun = begun;
+      added = begins-added;
+      room = f .room;
+    }
+
+-- ---- rows that are left only add
+
+opened-longer : (s : Style) (g : Region) (t : Bool) → length (regionBytes s g) ≤ length (regionBytes s (cond t (withConvex g) g))
+opened-longer s g true = omega (arith, ap length (convex-more s g), length-append (regionBytes s g) (begin (opening s)))
+opened-longer s g false = omega arith
+
+row-longer : (s : Style) {g r : Region} {c : ℤ} {h : Halfspace} → Taken g r c h → length (regionBytes s g) ≤ length (regionBytes s r)
+row-longer s {g} {r} {c} {h} t =
+    omega (arith, opened-longer s g (begins g c), halfspace-longer (opened g c) h (t .begun) s, ap (λ r. length (regionBytes s r)) (t .added .is))
+
+rows-longer : (s : Style) (n : ℕ) (g f : Region) (rs : List ℤ) → rowsIn n g rs ≡ gives f → length (regionBytes s g) ≤ length (regionBytes s f)
 unfolding rowsIn
-rows-grow zero g f rs e = omega (arith, ap (λ g. length (convexesBytes g)) (same-value g f e))
-rows-grow (suc n) g f rs e =
+rows-longer s zero g f rs e = omega (arith, ap (λ g. length (regionBytes s g)) (same-value g f e))
+rows-longer s (suc n) g f rs e =
     let c = getD rs 0 (pos 0) in
     let w = then-gives (rowIn g c (halfspaceAt rs)) (λ next. rowsIn n next (drop 5 rs)) f e in
-    let b = row-bytes (taken g (w .0) c (halfspaceAt rs) (w .1)) in
-    omega (arith, rows-grow n (w .0) f (drop 5 rs) (w .2), ap length b, length-append (convexesBytes g) (rowBytes (length g) c (halfspaceAt rs)))
+    omega (arith, rows-longer s n (w .0) f (drop 5 rs) (w .2), row-longer s (taken g (w .0) c (halfspaceAt rs) (w .1)))
 
 -- ---- the pass
 
 -- the rows of rs before element i are written into xs, which was before, and the next record goes to p. All rows make the region whole, which has room
-pub record Writing (rs : List ℤ) (before xs : List ℕ) (p : Place) (i : ℕ) : Type 0 where
+pub record Writing (s : Style) (rs : List ℤ) (before xs : List ℕ) (p : Place) (i : ℕ) : Type 0 where
   pub whole : Region
   pub is : regionOf rs ≡ gives whole
-  pub room : 12 + length (convexesBytes whole) ≤ length before
+  pub room : 12 + length (regionBytes s whole) ≤ length before
   pub region : Region
   pub left : ℕ
   pub place : i + 5 * left ≡ length rs
-  pub few : length region ≤ 64
   pub leads : rowsIn left region (drop i rs) ≡ gives whole
-  pub number : p .convexes ≡ length region
-  pub at : p .at ≡ 8 + length (convexesBytes region)
-  pub bytes : xs ≡ put 8 (convexesBytes region) before
+  pub stands : Stands s region before xs p
 
-module _ {rs : List ℤ} {n : ℕ} (q : Room rs n) where
-  pub records-room : 12 + length (convexesBytes (q .region)) ≤ n
-  records-room = omega (arith, q .room, convexes-length (q .region))
+all-rows : (rs : List ℤ) (g : Region) → regionOf rs ≡ gives g → (rowsIn (length rs / 5) [] rs ≡ gives g) × (length rs % 5 ≡ 0)
+unfolding regionOf
+all-rows rs g e =
+    let all = rowsIn (length rs / 5) [] rs in
+    let a = check-gives Order (ltb 0 (length rs)) (check Order (eqb (length rs % 5) 0) all) g e in
+    (check-gives Order (eqb (length rs % 5) 0) all g a, eqb-true (length rs % 5) 0 (check-passed Order (eqb (length rs % 5) 0) all g a))
 
-  passed : (rowsIn (length rs / 5) [] rs ≡ gives (q .region)) × (length rs % 5 ≡ 0)
-  unfolding regionOf
-  passed =
-      let all = rowsIn (length rs / 5) [] rs in
-      let a = check-gives Order (ltb 0 (length rs)) (check Order (eqb (length rs % 5) 0) all) (q .region) (q .is) in
-      (check-gives Order (eqb (length rs % 5) 0) all (q .region) a, eqb-true (length rs % 5) 0 (check-passed Order (eqb (length rs % 5) 0) all (q .region) a))
+none-stand : (s : Style) (before : List ℕ) → Stands s [] before before (record { at = 8; convexes = 0; last = 0 })
+unfolding convexesBytes groupsBytes lastConvex
+none-stand Style.Plain before = record { at = refl; convexes = refl; last = refl; bytes = sym (take-append-drop 8 before) }
+none-stand Style.Grouped before = record { at = refl; convexes = refl; last = refl; bytes = sym (take-append-drop 8 before) }
 
-pub start : (rs : List ℤ) (before : List ℕ) → Room rs (length before) → Writing rs before before (record { at = 8; convexes = 0 }) 0
-unfolding convexesBytes
-start rs before q = record {
-  whole = q .region;
-  is = q .is;
-  room = records-room q;
-  region = [];
-  left = length rs / 5;
-  place = omega (arith, passed q .1);
-  few = omega arith;
-  leads = passed q .0;
-  number = refl;
-  at = refl;
-  bytes = sym (take-append-drop 8 before);
-}
+pub start : (s : Style) (rs : List ℤ) (before : List ℕ) → Room s rs (length before) → Writing s rs before before (record { at = 8; convexes = 0; last = 0 }) 0
+start s rs before q =
+    let w = all-rows rs (q .region) (q .is) in
+    record {
+      whole = q .region;
+      is = q .is;
+      room = q .room;
+      region = [];
+      left = length rs / 5;
+      place = omega (arith, w .1);
+      leads = w .0;
+      stands = none-stand s before;
+    }
 
-module _ {rs : List ℤ} {before xs : List ℕ} {p : Place} {i : ℕ} (v : Writing rs before xs p i) where
-  pub same-length : length xs ≡ length before
-  same-length = ap length (v .bytes) ∙ put-length 8 (convexesBytes (v .region)) before (omega (arith, rows-grow (v .left) (v .region) (v .whole) (drop i rs) (v .leads), v .room))
+module _ {s : Style} {rs : List ℤ} {before xs : List ℕ} {p : Place} {i : ℕ} (v : Writing s rs before xs p i) where
+  pub as-long : length xs ≡ length before
+  as-long =
+      ap length (v .stands .bytes)
+      ∙ put-length 8 (regionBytes s (v .region)) before (omega (arith, rows-longer s (v .left) (v .region) (v .whole) (drop i rs) (v .leads), v .room))
 
-  pub few-written : p .convexes ≤ 64
-  few-written = omega (arith, v .number, v .few)
-
-  pub done : length rs ≤ i → (g : Region) → regionOf rs ≡ gives g → (p .at ≡ 8 + length (convexesBytes g)) × (xs ≡ put 8 (convexesBytes g) before)
+  pub done : length rs ≤ i → RowsStand s rs before xs (p .at)
   unfolding rowsIn
   done l g f =
       let z : v .left ≡ 0 = omega (arith, v .place) in
       let all : v .region ≡ v .whole = same-value (v .region) (v .whole) (sym (ap (λ n. rowsIn n (v .region) (drop i rs)) z) ∙ v .leads) in
       let e : v .region ≡ g = all ∙ same-value (v .whole) g (sym (v .is) ∙ f) in
-      (v .at ∙ ap (λ g. 8 + length (convexesBytes g)) e, v .bytes ∙ ap (λ g. put 8 (convexesBytes g) before) e)
+      (v .stands .at ∙ ap (λ g. 8 + length (regionBytes s g)) e, v .stands .bytes ∙ ap (λ g. put 8 (regionBytes s g) before) e)
 
   module _ (l : i < length rs) where
     pub whole-row : i + 5 ≤ length rs
@@ -131,48 +195,31 @@ module _ {rs : List ℤ} {before xs : List ℕ} {p : Place} {i : ℕ} (v : Writi
     h = halfspaceAt (drop i rs)
 
     -- the region with the row, from which the rows that are left lead on
-    record Next : Type 0 where
-      region : Region
-      taken : Taken (v .region) region c h
-      leads : rowsIn (v .left - 1) region (drop (i + 5) rs) ≡ gives (v .whole)
-
-    next : Next
+    next : (r : Region) × (rowIn (v .region) c h ≡ gives r) × (rowsIn (v .left - 1) r (drop (i + 5) rs) ≡ gives (v .whole))
     next =
         let z : v .left ≡ suc (v .left - 1) = omega (arith, v .place) in
         let e = sym (next-row (v .left - 1) (v .region) rs i) ∙ sym (ap (λ n. rowsIn n (v .region) (drop i rs)) z) ∙ v .leads in
-        let w = then-gives (rowIn (v .region) c h) (λ r. rowsIn (v .left - 1) r (drop (i + 5) rs)) (v .whole) e in
-        record { region = w .0; taken = taken (v .region) (w .0) c h (w .1); leads = w .2 }
+        then-gives (rowIn (v .region) c h) (λ r. rowsIn (v .left - 1) r (drop (i + 5) rs)) (v .whole) e
 
-    pub row-small : Small (h .n)
-    row-small = vector-small (h .n) (next .taken .added .fine .vector)
+    pub row-fits : RowFits s xs p c h
+    row-fits = record {
+      region = v .region;
+      before = before;
+      stands = v .stands;
+      next = next .0;
+      is = next .1;
+      room = omega (arith, v .room, rows-longer s (v .left - 1) (next .0) (v .whole) (drop (i + 5) rs) (next .2));
+    }
 
-    pub row-offset : Upto Kℕ (h .d)
-    row-offset = between-upto (h .d) (next .taken .added .fine .offset)
-
-    grown : convexesBytes (next .region) ≡ convexesBytes (v .region) ++ rowBytes (p .convexes) c h
-    grown = row-bytes (next .taken) ∙ ap (λ n. convexesBytes (v .region) ++ rowBytes n c h) (sym (v .number))
-
-    after : p .at + length (rowBytes (p .convexes) c h) ≡ 8 + length (convexesBytes (next .region))
-    after = omega (arith, v .at, ap length grown, length-append (convexesBytes (v .region)) (rowBytes (p .convexes) c h))
-
-    pub row-room : p .at + length (rowBytes (p .convexes) c h) ≤ length xs
-    row-room = omega (arith, after, same-length, v .room, rows-grow (v .left - 1) (next .region) (v .whole) (drop (i + 5) rs) (next .leads))
-
-    pub more : (q : Place) (ys : List ℕ) → q .at ≡ p .at + length (rowBytes (p .convexes) c h) → q .convexes ≡ cond (eqZ c (pos (p .convexes))) (p .convexes + 1) (p .convexes)
-        → ys ≡ put (p .at) (rowBytes (p .convexes) c h) xs → Writing rs before ys q (i + 5)
-    more q ys a n b = record {
+    pub more : {q : Place} {ys : List ℕ} → ((f : RowFits s xs p c h) → Stands s (f .next) (f .before) ys q) → Writing s rs before ys q (i + 5)
+    unfolding row-fits
+    more w = record {
       whole = v .whole;
       is = v .is;
       room = v .room;
-      region = next .region;
+      region = next .0;
       left = v .left - 1;
       place = omega (arith, v .place);
-      few = taken-few (next .taken);
-      leads = next .leads;
-      number = n ∙ ap (λ m. cond (eqZ c (pos m)) (m + 1) m) (v .number) ∙ sym (row-number (next .taken));
-      at = a ∙ after;
-      bytes =
-          b ∙ ap (put (p .at) (rowBytes (p .convexes) c h)) (v .bytes)
-          ∙ put-put 8 (p .at) (convexesBytes (v .region)) (rowBytes (p .convexes) c h) before (v .at) (omega (arith, v .room))
-          ∙ ap (λ b. put 8 b before) (sym grown);
+      leads = next .2;
+      stands = w row-fits;
     }

@@ -1,157 +1,156 @@
-// The writer of region files: the rows are checked, then written record after record. The rules stand in region/specs/Writer and Answers, the bytes of a
-// row in specs/Writing.
+// The writer of region files in either style: the rows are checked, then written record after record. The rules stand in region/specs/Writer and Answers,
+// what is written of a region that grows in specs/Writing.
 use answer::BUDGET;
 use answer::DEPTH;
 use answer::Number;
 use answer::SPACE;
 use region::Halfspace;
 use region::Record;
+use region::Style;
 use region_counts::Counts;
 use region_counts::CountsOf;
 ghost use mathlib.Core.Path.{_≡_};
-ghost use mathlib.Core.Bool.{cond};
 ghost use Prim.Native.Nat.{_+_, _*_, _≤_, _<_};
-ghost use lib.IntN.{pos};
 ghost use lib.ListN.{length};
 ghost use Rattle.algebra.proofs.Sizes.{Upto};
 ghost use Rattle.answer.specs.Answer.{gives};
 ghost use Rattle.answer.specs.Calls.{numberOf};
 ghost use Rattle.answer.specs.Lent.{put};
-ghost use Rattle.vector.specs.Numbers.{Kℕ, eqZ};
+ghost use Rattle.vector.specs.Numbers.{Kℕ};
 ghost use Rattle.vector.proofs.Sizes.{Small};
 ghost use Rattle.region.specs.Regions.{Region};
-ghost use Rattle.region.specs.Bytes.{wordBytes, bitsOf, signedBytes};
 ghost use Rattle.region.specs.Rows.{regionOf};
-ghost use Rattle.region.specs.Writer.{begin, halfspaceBytes, convexesBytes, fileOf};
-ghost use Rattle.region.specs.Answers.{writeAnswer, writeAfter};
-ghost use Rattle.region_writer.specs.Writing.{rowBytes, Room};
+ghost use Rattle.region.specs.Writer.{fileIn, writeIn};
+ghost use Rattle.region.specs.Answers.{fileAnswer, fileAfter};
+ghost use Rattle.region_writer.specs.Writing as writing;
+ghost use Rattle.region_writer.specs.Writing.{withConvexAt, withHalfspaceAt, Stands, RowFits, Room, RowsStand};
 
-// Where the next record goes, and how many convexes are written.
+// Where the next record goes, how many convexes are written, and how many halfspaces of the last one.
 pub struct Place {
     pub at: usize,
     pub convexes: u16,
+    pub last: u32,
 }
 
-// 16 bits at place `at`.
-fn put_word(out: &mut [u8], at: usize, n: u32)
-    requires { ⌜ (at + 2 ≤ length (now out)) × (n < 65536) ⌝ }
-    ensures { λ r. ⌜ now (out .exit) ≡ put at (wordBytes n) (now (out .entry)) ⌝ }
+// The bytes that a halfspace takes.
+fn width(style: Style) -> usize
+    ensures { λ r. ⌜ (r ≡ writing.width style) × (r ≤ 20) ⌝ }
 {
-    out[at] = (n % 256) as u8;
-    out[at + 1] = (n / 256) as u8;
-}
-
-// The 32 bits of a number with a sign.
-fn bits_of(z: i64) -> u32
-    requires { ⌜ Upto Kℕ z ⌝ }
-    ensures { λ r. ⌜ r ≡ bitsOf z ⌝ }
-{
-    if z < 0 {
-        (4294967296 + z) as u32
-    } else {
-        z as u32
+    match style {
+        Style::Plain => 20,
+        Style::Grouped => 16,
     }
 }
 
-// Signed 32 bits at place `at`.
-fn put_signed(out: &mut [u8], at: usize, z: i64)
-    requires { ⌜ (at + 4 ≤ length (now out)) × Upto Kℕ z ⌝ }
-    ensures { λ r. ⌜ now (out .exit) ≡ put at (signedBytes z) (now (out .entry)) ⌝ }
+// The record with which a convex begins: a group has no halfspace yet.
+fn opening(style: Style) -> Record
+    ensures { λ r. ⌜ r ≡ writing.opening style ⌝ }
 {
-    let b = bits_of(z);
-    put_word(out, at, b % 65536);
-    put_word(out, at + 2, b / 65536);
+    match style {
+        Style::Plain => Record::Convex,
+        Style::Grouped => Record::Group(0),
+    }
 }
 
-// Length and kind of a record at place `at`.
-fn put_kind(out: &mut [u8], at: usize, r: Record)
-    requires { ⌜ at + 4 ≤ length (now out) ⌝ }
-    ensures { λ _. ⌜ now (out .exit) ≡ put at (begin r) (now (out .entry)) ⌝ }
+// A convex more. The place after it.
+fn put_convex(style: Style, out: &mut [u8], p: Place) -> Place
+    requires { ⌜ (p .at + 4 ≤ length (now out)) × (p .convexes ≤ 64) ⌝ }
+    ensures { λ r. ⌜ r ≡ record { at = p .at + 4; convexes = p .convexes + 1; last = 0 } ⌝ }
+    ensures { λ r. ⌜ now (out .exit) ≡ withConvexAt style p (now (out .entry)) ⌝ }
 {
-    put_word(out, at, region_records::size_of(r));
-    put_word(out, at + 2, region_records::kind_of(r));
+    region_bytes::put_kind(out, p.at, opening(style));
+    Place {
+        at: p.at + 4,
+        convexes: p.convexes + 1,
+        last: 0,
+    }
 }
 
-// A halfspace's record at place `at`.
-fn put_halfspace(out: &mut [u8], at: usize, h: Halfspace)
-    requires { ⌜ at + 20 ≤ length (now out) ⌝ }
+// A halfspace more, in the last convex: its own record, or its numbers behind those of the group, whose length is brought up to date. The place after it.
+fn put_halfspace(style: Style, out: &mut [u8], p: Place, h: Halfspace) -> Place
+    requires { ⌜ (p .at + writing.width style ≤ length (now out)) × (4 + 16 * p .last ≤ p .at) × (p .last < 100) ⌝ }
     requires { ⌜ Small (h .n) ⌝ }
     requires { ⌜ Upto Kℕ (h .d) ⌝ }
-    ensures { λ r. ⌜ now (out .exit) ≡ put at (halfspaceBytes h) (now (out .entry)) ⌝ }
-{
-    let n = h.n;
-    put_kind(out, at, Record::Halfspace);
-    put_signed(out, at + 4, n.x);
-    put_signed(out, at + 8, n.y);
-    put_signed(out, at + 12, n.z);
-    put_signed(out, at + 16, h.d);
-}
-
-// The records of a row with the number c: a convex begins where c is the next number. The place after them.
-fn put_row(out: &mut [u8], p: Place, c: i32, h: Halfspace) -> Place
-    requires { ⌜ (p .at + length (rowBytes (p .convexes) c h) ≤ length (now out)) × (p .convexes ≤ 64) ⌝ }
-    requires { ⌜ Small (h .n) ⌝ }
-    requires { ⌜ Upto Kℕ (h .d) ⌝ }
-    ensures { λ r. ⌜ r .at ≡ p .at + length (rowBytes (p .convexes) c h) ⌝ }
-    ensures { λ r. ⌜ r .convexes ≡ cond (eqZ c (pos (p .convexes))) (p .convexes + 1) (p .convexes) ⌝ }
-    ensures { λ r. ⌜ now (out .exit) ≡ put (p .at) (rowBytes (p .convexes) c h) (now (out .entry)) ⌝ }
+    ensures { λ r. ⌜ r ≡ record { at = p .at + writing.width style; convexes = p .convexes; last = p .last + 1 } ⌝ }
+    ensures { λ r. ⌜ now (out .exit) ≡ withHalfspaceAt style p h (now (out .entry)) ⌝ }
 {
     let at = p.at;
-    if region_checks::is_number(c, p.convexes) {
-        put_kind(out, at, Record::Convex);
-        put_halfspace(out, at + 4, h);
-        return Place {
-            at: at + 24,
-            convexes: p.convexes + 1,
-        };
-    }
-    put_halfspace(out, at, h);
-    Place {
-        at: at + 20,
+    let n = p.last + 1;
+    let next = Place {
+        at: at + width(style),
         convexes: p.convexes,
+        last: n,
+    };
+    match style {
+        Style::Plain => {
+            region_bytes::put_kind(out, at, Record::Halfspace);
+            region_bytes::put_numbers(out, at + 4, h);
+            next
+        }
+        Style::Grouped => {
+            region_bytes::put_kind(out, at - (4 + 16 * (p.last as usize)), Record::Group(n));
+            region_bytes::put_numbers(out, at, h);
+            next
+        }
     }
+}
+
+// What a row with the number c adds: a convex begins where c is the next number. The place after it.
+fn put_row(style: Style, out: &mut [u8], p: Place, c: i32, h: Halfspace) -> Place
+    requires { ⌜ RowFits style (now out) p c h ⌝ }
+    ensures { λ r. ⌜ ((f : RowFits style (now (out .entry)) p c h) → Stands style (f .next) (f .before) (now (out .exit)) r) ⌝ }
+{
+    if region_checks::is_number(c, p.convexes) {
+        let opened = put_convex(style, out, p);
+        return put_halfspace(style, out, opened, h);
+    }
+    put_halfspace(style, out, p, h)
 }
 
 // The records of all rows, from element 8 on. The place after them.
-fn put_rows(rows: &[i32], out: &mut [u8]) -> usize
-    requires { ⌜ Room (now rows) (length (now out)) ⌝ }
-    ensures { λ r. ⌜ ((g : Region) → regionOf (now (rows .entry)) ≡ gives g → (r ≡ 8 + length (convexesBytes g)) × (now (out .exit) ≡ put 8 (convexesBytes g) (now (out .entry)))) ⌝ }
+fn put_rows(style: Style, rows: &[i32], out: &mut [u8]) -> usize
+    requires { ⌜ Room style (now rows) (length (now out)) ⌝ }
+    ensures { λ r. ⌜ RowsStand style (now (rows .entry)) (now (out .entry)) (now (out .exit)) r ⌝ }
 {
-    let mut p = Place { at: 8, convexes: 0 };
+    let mut p = Place {
+        at: 8,
+        convexes: 0,
+        last: 0,
+    };
     let mut i = 0;
     while i < rows.len() {
-        p = put_row(out, p, rows[i], region_rows::halfspace_at(rows, i));
+        p = put_row(style, out, p, rows[i], region_rows::halfspace_at(rows, i));
         i += 5;
     }
     p.at
 }
 
 // The file of rows that were checked, at the beginning of `out`.
-fn put_file(depth: u32, budget: u32, rows: &[i32], out: &mut [u8])
+fn put_file(style: Style, depth: u32, budget: u32, rows: &[i32], out: &mut [u8])
     requires { ⌜ (depth ≤ 12) × (budget ≤ 2048) ⌝ }
-    requires { ⌜ Room (now rows) (length (now out)) ⌝ }
-    ensures { λ r. ⌜ ((g : Region) → regionOf (now (rows .entry)) ≡ gives g → now (out .exit) ≡ put 0 (fileOf depth budget g) (now (out .entry))) ⌝ }
+    requires { ⌜ Room style (now rows) (length (now out)) ⌝ }
+    ensures { λ r. ⌜ ((g : Region) → regionOf (now (rows .entry)) ≡ gives g → now (out .exit) ≡ put 0 (fileIn style depth budget g) (now (out .entry))) ⌝ }
 {
-    put_kind(out, 0, Record::Header);
-    put_word(out, 4, depth);
-    put_word(out, 6, budget);
-    let at = put_rows(rows, out);
-    put_kind(out, at, Record::End);
+    region_bytes::put_kind(out, 0, Record::Header);
+    region_bytes::put_word(out, 4, depth);
+    region_bytes::put_word(out, 6, budget);
+    let at = put_rows(style, rows, out);
+    region_bytes::put_kind(out, at, Record::End);
 }
 
-// The length of a file: header and end, a record for each convex and one for each halfspace.
-fn file_length(c: Counts) -> usize
+// The length of a file: header and end, what begins a convex for each of them, and the bytes of each halfspace.
+fn file_length(style: Style, c: Counts) -> usize
     requires { ⌜ (c .convexes ≤ 64) × (c .all ≤ 512) ⌝ }
-    ensures { λ r. ⌜ r ≡ 12 + 4 * c .convexes + 20 * c .all ⌝ }
+    ensures { λ r. ⌜ r ≡ 12 + 4 * c .convexes + writing.width style * c .all ⌝ }
 {
-    12 + 4 * (c.convexes as usize) + 20 * (c.all as usize)
+    12 + 4 * (c.convexes as usize) + width(style) * (c.all as usize)
 }
 
 // The region file of rows, depth and budget, written at the beginning of `out`: its length, or the first refusal (5, 6, then no rows and whole
 // fives (4), then each row for 4, 7, 8, 9; 10 last), and then nothing is written.
-pub fn write(depth: u32, budget: u32, rows: &[i32], out: &mut [u8]) -> Number
-    ensures { λ r. ⌜ numberOf r ≡ writeAnswer depth budget (now (rows .entry)) (now (out .entry)) ⌝ }
-    ensures { λ r. ⌜ now (out .exit) ≡ writeAfter depth budget (now (rows .entry)) (now (out .entry)) ⌝ }
+pub fn write(style: Style, depth: u32, budget: u32, rows: &[i32], out: &mut [u8]) -> Number
+    ensures { λ r. ⌜ numberOf r ≡ fileAnswer (writeIn style depth budget (now (rows .entry))) (now (out .entry)) ⌝ }
+    ensures { λ r. ⌜ now (out .exit) ≡ fileAfter (writeIn style depth budget (now (rows .entry))) (now (out .entry)) ⌝ }
 {
     if !limits::is_depth(depth) {
         return Number::Refused(DEPTH);
@@ -162,11 +161,11 @@ pub fn write(depth: u32, budget: u32, rows: &[i32], out: &mut [u8]) -> Number
     match region_checks::checked(rows) {
         CountsOf::Refused(n) => Number::Refused(n),
         CountsOf::Gives(c) => {
-            let len = file_length(c);
+            let len = file_length(style, c);
             if out.len() < len {
                 return Number::Refused(SPACE);
             }
-            put_file(depth, budget, rows, out);
+            put_file(style, depth, budget, rows, out);
             Number::Gives(len as u64)
         }
     }

@@ -1,48 +1,19 @@
--- `region_contents::halfspace_payload` checks 4, counts the halfspace, which makes the checks 7 to 9, and writes its row. Assumes nothing.
-use Prim.Native.Nat.{_<_}
-use native.Mathlib.Omega.{arith}
-use mathlib.Core.Path.{_≡_, sym, ap, _∙_}
-use denote.Ref.{now}
-use Rattle.answer.specs.Answer.{gives}
-use Rattle.region_counts.specs.Counts.{countsGiven, oneHalfspaceMore}
-use Rattle.region_counts.proofs.CountLaws.{halfspace-passed}
-use Rattle.region_contents.proofs.OutcomeLaws.{halfspace-read, halfspace-order, halfspace-refused, halfspace-more}
+-- `region_contents::halfspace_payload` gives the counts with the halfspace of the payload at the next record. Assumes nothing.
+use mathlib.Core.Path.{ap}
+use Rattle.region.specs.Reader.{halfspaceIn}
+use Rattle.region_contents.proofs.OutcomeLaws.{counted-as, counted-taken}
 use Rattle.region_contents.proofs.halfspace_payload.Statement.{statement}
 use Rattle.region_contents.proofs.halfspace_payload.Tie as tie
-
--- the halfspace is counted
-more : (c : tie.After-known-told) → let w = c .before .before .before in let h = w .before .before .before .before in
-    gives (c .before .c .given .0 .0) ≡ oneHalfspaceMore (h .before .before .args .s .counts) (h .halfspace-of .result)
-more c = sym (ap countsGiven (c .before .c .given .1)) ∙ c .before .before .before .with-halfspace .ensures
-
-begun : (c : tie.Else1) → 0 < c .before .before .before .before .before .args .s .counts .convexes
-begun c = omega arith
 
 pub halfspace-payload-spec : {M : Type 1} → statement M
 halfspace-payload-spec =
     tie.close
     (tie.spec
     (λ c κs. c .before .pre .0)
-    (λ c x before st.
-    let h = c .before .before .before in
-    halfspace-read x (now (h .before .before .args .payload)) _ (h .halfspace-of .ensures) (halfspace-order _ _ _ x before _ st (omega arith)))
+    (λ c κs. c .before .before .before .before .pre .1)
     (λ c κs. tt)
-    (λ c. c .match .keys1)
-    (λ c κs.
-    let t = c .before in
-    let p = halfspace-passed _ _ _ (sym (more t)) in
-    (p .0, (begun (t .before .before .before .before), omega (arith, p .1))))
-    (λ c. c .match .keys2)
-    (λ c. c .before .write-row .kept .1 .1 .0)
-    (λ c x before st.
-    let t = c .before .before .before in
-    let e = t .before .before .before .before in
-    let h = e .before .before .before in
-    halfspace-read x (now (h .before .before .args .payload)) _ (h .halfspace-of .ensures)
-    (halfspace-more _ _ _ x before _ st (begun e) _ (more t) _ (c .before .write-row .ensures)))
-    (λ c x before st.
-    let w = c .before .before .before in
-    let e = w .before in
-    let h = e .before .before .before in
-    halfspace-read x (now (h .before .before .args .payload)) _ (h .halfspace-of .ensures)
-    (halfspace-refused _ _ _ x before _ st (begun e) _ (sym (ap countsGiven (c .before .c2 .given .1)) ∙ w .with-halfspace .ensures))))
+    (λ c. c .before .before .halfspace-in .kept .1 .1 .0)
+    (λ c.
+    let t = c .before .before in
+    let h = t .before .before .before in
+    counted-taken _ (c .counted .ensures) (λ x before st. counted-as (ap (halfspaceIn x) (h .halfspace-of .ensures)) (t .halfspace-in .ensures x before st))))

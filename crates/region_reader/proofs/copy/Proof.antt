@@ -8,7 +8,7 @@ use lib.Seq.{paste}
 use denote.Ref.{now}
 use mir.Syntax.{w32}
 use mir.Facts.{toZ-ofZ}
-use Rattle.region_contents.proofs.RowLaws.{copied-none, copied-more, copied-all}
+use Rattle.answer.proofs.PutLaws.{copied-none, copied-more, copied-all}
 use Rattle.region_reader.proofs.copy.Statement.{statement}
 use Rattle.region_reader.proofs.copy.Tie as tie
 
@@ -25,7 +25,7 @@ again c =
     let v = toZ-ofZ {w = w32} {z = getD (now (a .from)) (l .i) (pos 0)} (record { sfits = c .to .given }) in (
       omega arith,
       length-set (l .to) (l .i) _ ∙ l .inv .1,
-      (λ j. set (l .inv .2 j) (l .i) (v j)) ∙ copied-more (now (a .from)) (now (a .to)) (l .i) (omega arith) (omega arith),
+      (λ j. set (l .inv .2 j) (l .i) (v j)) ∙ copied-more (now (a .from)) (now (a .to)) (pos 0) (l .i) (omega arith) (omega arith),
     )
 
 end : tie.Need-returns Inv-loop μ-loop

@@ -9,17 +9,18 @@ use Rattle.region_reader.proofs.records_in.Statement.{statement}
 use Rattle.region_reader.proofs.records_in.Tie as tie
 
 abbrev Inv-loop : tie.InvT-loop
-Inv-loop file h rows₀ s₀ rows s = (length rows₀ ≡ 2560) × Reading file h rows₀ rows s
+Inv-loop file style h rows₀ s₀ rows s = (length rows₀ ≡ 2560) × Reading style file h rows₀ rows s
 
 abbrev μ-loop : tie.MeasureT-loop
-μ-loop file h rows₀ s₀ rows s = length file - s .at
+μ-loop file style h rows₀ s₀ rows s = length file - s .at
 
 less : tie.Need-loop-less Inv-loop μ-loop
 less c =
     let r = c .before .before .before .before in
     let l = r .before .before in
     let a = l .before .before .before .args in
-    let n = reading-further (now (a .file)) (a .h) (now (a .rows)) (l .loop .rows) (l .loop .s) (l .loop .inv .1) (r .record-in .result) _ (r .record-in .ensures) (c .before .o .given .0 .0) (c .before .o .given .1) in
+    let n = reading-further (a .style) (now (a .file)) (a .h) (now (a .rows)) (l .loop .rows) (l .loop .s) (l .loop .inv .1)
+    (r .record-in .result) _ (r .record-in .ensures) (c .before .o .given .0 .0) (c .before .o .given .1) in
     omega arith
 
 more : tie.Need-loop-again Inv-loop μ-loop
@@ -28,7 +29,8 @@ more c =
     let l = r .before .before in
     let a = l .before .before .before .args in (
       l .loop .inv .0,
-      reading-more (now (a .file)) (a .h) (now (a .rows)) (l .loop .rows) (l .loop .s) (l .loop .inv .1) (r .record-in .result) _ (r .record-in .ensures) (c .before .o .given .0 .0) (c .before .o .given .1) (r .record-in .kept .1 .1 .0),
+      reading-more (a .style) (now (a .file)) (a .h) (now (a .rows)) (l .loop .rows) (l .loop .s) (l .loop .inv .1)
+          (r .record-in .result) _ (r .record-in .ensures) (c .before .o .given .0 .0) (c .before .o .given .1) (r .record-in .kept .1 .1 .1 .0),
     )
 
 done : tie.Need-returns Inv-loop μ-loop
@@ -36,14 +38,16 @@ done c =
     let r = c .before .before .before .before in
     let l = r .before .before in
     let a = l .before .before .before .args in
-    reading-done (now (a .file)) (a .h) (now (a .rows)) (l .loop .rows) (l .loop .s) (l .loop .inv .1) (r .record-in .result) _ (r .record-in .ensures) (c .before .o2 .given .0 .0) (c .before .o2 .given .1)
+    reading-done (a .style) (now (a .file)) (a .h) (now (a .rows)) (l .loop .rows) (l .loop .s) (l .loop .inv .1)
+    (r .record-in .result) _ (r .record-in .ensures) (c .before .o2 .given .0 .0) (c .before .o2 .given .1)
 
 refused : tie.Need-returns-2 Inv-loop μ-loop
 refused c =
     let r = c .before .before .before .before in
     let l = r .before .before in
     let a = l .before .before .before .args in
-    reading-refused (now (a .file)) (a .h) (now (a .rows)) (l .loop .rows) (l .loop .s) (l .loop .inv .1) (r .record-in .result) _ (r .record-in .ensures) (c .before .o3 .given .0 .0) (c .before .o3 .given .1)
+    reading-refused (a .style) (now (a .file)) (a .h) (now (a .rows)) (l .loop .rows) (l .loop .s) (l .loop .inv .1)
+    (r .record-in .result) _ (r .record-in .ensures) (c .before .o3 .given .0 .0) (c .before .o3 .given .1)
 
 pub records-in-spec : {M : Type 1} → statement M
 records-in-spec =
@@ -52,14 +56,17 @@ records-in-spec =
     Inv-loop
     μ-loop
     (λ c κs. tt)
-    (λ c. let s = c .before .before in let a = s .args in (s .pre .1, reading-none (now (a .file)) (a .h) (now (a .rows)) (s .pre .0) _ (c .none .ensures)))
+    (λ c.
+    let s = c .before .before in
+    let a = s .args in
+    (s .pre .1, reading-none (a .style) (now (a .file)) (a .h) (now (a .rows)) (s .pre .0) _ (c .none .ensures)))
     (λ c κs. let l = c .before .loop in (l .inv .1 .within, l .inv .1 .room ∙ l .inv .0))
     (λ c. c .match .keys1)
     less
     more
     (λ c. c .match .keys2)
-    (λ c. let r = c .before .before .before .before in r .record-in .kept .1 .1 .0 ∙ r .before .before .loop .inv .1 .room)
+    (λ c. let r = c .before .before .before .before in r .record-in .kept .1 .1 .1 .0 ∙ r .before .before .loop .inv .1 .room)
     done
     (λ c. c .match .keys3)
-    (λ c. let r = c .before .before .before .before in r .record-in .kept .1 .1 .0 ∙ r .before .before .loop .inv .1 .room)
+    (λ c. let r = c .before .before .before .before in r .record-in .kept .1 .1 .1 .0 ∙ r .before .before .loop .inv .1 .room)
     refused)

@@ -9,7 +9,7 @@ use Rattle.answer.specs.Answer.{Answer}
 use Rattle.region.specs.declared.Record.{Record}
 use Rattle.region.specs.Reader.{whole}
 use Rattle.region_records.specs.Frames.{recordGiven, frameBy, frameOf}
-use Rattle.region_records.proofs.FrameLaws.{whole-left, frame-torn, frame-is}
+use Rattle.region_records.proofs.FrameLaws.{whole-left, whole-least, frame-torn, frame-is}
 use Rattle.region_records.proofs.frame_at.Statement.{statement}
 use Rattle.region_records.proofs.frame_at.Tie as tie
 
@@ -34,7 +34,10 @@ frame-at-spec =
     (λ c κs. let a = c .before .before .before .args in omega (arith, whole-left (now (a .file)) (a .at) (is-whole c)))
     (λ c. omega arith)
     (λ c κs. let a = c .before .before .before .before .args in omega (arith, whole-left (now (a .file)) (a .at) (is-whole (c .before))))
-    (λ c κs. tt)
+    (λ c κs.
+    let l = c .before in
+    let a = l .before .before .before .before .args in
+    omega (arith, l .word .ensures .0, whole-least (now (a .file)) (a .at) (is-whole (l .before))))
     (λ c. c .match .keys1)
     (λ c. omega arith)
     (λ c. c .match .keys2)

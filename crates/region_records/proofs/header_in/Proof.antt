@@ -64,8 +64,10 @@ header-in-spec =
     (λ c. c .match2 .keys2)
     (λ c. c .match2 .keys3)
     (λ c. c .match2 .keys4)
+    (λ c. c .match2 .keys5)
     torn
     given
     (λ c. let k = c .before .before in ap (with-value headerOf) (sym (header-by (file k) Record.Convex (is k Record.Convex (c .enum-told2 .given .1)))))
     (λ c. let k = c .before .before in ap (with-value headerOf) (sym (header-by (file k) Record.Halfspace (is k Record.Halfspace (c .enum-told3 .given .1)))))
-    (λ c. let k = c .before .before in ap (with-value headerOf) (sym (header-by (file k) Record.End (is k Record.End (c .enum-told4 .given .1))))))
+    (λ c. let k = c .before .before in ap (with-value headerOf) (sym (header-by (file k) Record.End (is k Record.End (c .enum-told4 .given .1)))))
+    (λ c. let k = c .before .before in ap (with-value headerOf) (sym (header-by (file k) _ (is k (Record.Group _) (c .enum-told5 .given .1))))))

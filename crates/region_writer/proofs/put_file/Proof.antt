@@ -5,10 +5,9 @@ use mathlib.Core.List.{_++_}
 use lib.ListN.{length}
 use Rattle.answer.specs.Lent.{put}
 use Rattle.region.specs.Bytes.{wordBytes}
-use Rattle.region.specs.Writer.{convexesBytes}
+use Rattle.region.specs.Writer.{regionBytes}
 use Rattle.region_writer.specs.Writing.{Room}
 use Rattle.answer.proofs.PutLaws.{put-next}
-use Rattle.region_writer.proofs.WritingPass.{records-room}
 use Rattle.region_writer.proofs.WriterLaws.{header-rows-end}
 use Rattle.region_writer.proofs.put_file.Statement.{statement}
 use Rattle.region_writer.proofs.put_file.Tie as tie
@@ -24,7 +23,7 @@ end-room c κs =
     let r = c .before .before .before in
     let w = r .before .before .before .before in
     let q = w .before .before .before .before .before .before .before .before .before .before .before .pre .1 in
-    omega (arith, r .put-rows .ensures (q .region) (q .is) .0, r .put-rows .kept .1 .0, header-length w, records-room q)
+    (omega (arith, r .put-rows .ensures (q .region) (q .is) .0, r .put-rows .kept .1 .1 .0, header-length w, q .room), omega arith)
 
 returns : tie.Need-returns
 returns c g e =
@@ -38,13 +37,14 @@ returns c g e =
     let one = put-next 0 kind (wordBytes (a .depth)) (a .out .now) (k .put-kind .ensures) (d .put-word .ensures) refl (omega arith) in
     let header = put-next 0 (kind ++ wordBytes (a .depth)) (wordBytes (a .budget)) (a .out .now) one (b .put-word2 .ensures) refl (omega arith) in
     let rows = r .put-rows .ensures g e in
-    n .put-kind2 .ensures ∙ header-rows-end (a .depth) (a .budget) g (a .out .now) (r .put-rows .result) _ (rows .0) (rows .1 ∙ ap (put 8 (convexesBytes g)) header)
+    n .put-kind2 .ensures
+    ∙ header-rows-end (a .style) (a .depth) (a .budget) g (a .out .now) (r .put-rows .result) _ (rows .0) (rows .1 ∙ ap (put 8 (regionBytes (a .style) g)) header)
 
 pub put-file-spec : {M : Type 1} → statement M
 put-file-spec =
     tie.close
     (tie.spec
-    (λ c κs. omega (arith, c .before .before .pre .1 .room))
+    (λ c κs. (omega (arith, c .before .before .pre .1 .room), omega arith))
     (λ c κs. omega (arith, c .before .before .before .put-kind .kept .0, c .before .before .before .before .before .before .pre .1 .room))
     (λ c κs.
     let w = c .before .before .before in
@@ -53,10 +53,10 @@ put-file-spec =
     (λ c κs.
     let w = c .before .before .before in
     let s = w .before .before .before .before .before .before .before .before .before .before .before in
-    subst (Room (s .args .rows .now)) (sym (header-length w)) (s .pre .1))
+    subst (Room (s .args .style) (s .args .rows .now)) (sym (header-length w)) (s .pre .1))
     end-room
     (λ c.
     let n = c .before .before in
     let r = n .before .before .before .before in
-    n .put-kind2 .kept .0 ∙ r .put-rows .kept .1 .0 ∙ header-length (r .before .before .before .before))
+    n .put-kind2 .kept .0 ∙ r .put-rows .kept .1 .1 .0 ∙ header-length (r .before .before .before .before))
     returns)

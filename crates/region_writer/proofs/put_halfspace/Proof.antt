@@ -1,83 +1,73 @@
--- Length and kind and the four numbers stand one after the other, and so as one list. Assumes nothing.
-use Prim.Native.Nat.{ℕ, _≤_}
+-- In the plain style length and kind and the numbers stand one after the other, and so as one list; in the grouped one the group's length is put first, then
+-- the numbers. Assumes nothing.
+use Prim.Native.Nat.{_+_}
 use native.Mathlib.Omega.{arith}
-use mathlib.Core.Path.{_≡_, refl, _∙_}
-use mathlib.Core.List.{List, _++_}
-use lib.ListN.{length}
-use lib.IntN.{ℤ}
-use mir.Syntax.{w64}
-use mir.Val.{toZ, ofZ}
-use Rattle.algebra.proofs.Sized.{held, upto-held}
+use mathlib.Core.Path.{_≡_, refl, sym, ap, _∙_}
+use Rattle.region.specs.declared.Record.{Record}
+use Rattle.region.specs.Writer.{begin, numbersBytes}
 use Rattle.answer.specs.Lent.{put}
-use Rattle.vector.specs.Vectors.{vec}
-use Rattle.region.specs.Bytes.{wordBytes, signedBytes}
-use Rattle.region.specs.Writer.{halfspaceBytes}
 use Rattle.answer.proofs.PutLaws.{put-next}
+use Rattle.region_writer.specs.Writing.{width, withHalfspaceAt}
 use Rattle.region_writer.proofs.put_halfspace.Statement.{statement}
 use Rattle.region_writer.proofs.put_halfspace.Tie as tie
 
--- the bytes of a number that is handed on by its bits
-abbrev handed : ℤ → List ℕ
-handed z = signedBytes (toZ w64 (ofZ w64 z))
+plain : tie.Need-returns
+plain c =
+    let n = c .before .before in
+    let k = n .before .before .before .before in
+    let t = k .before .before in
+    let w = t .before .before in
+    let a = w .before .before .before .args in (
+      (λ i. record { at = a .p .at + w .width .ensures .0 i; convexes = a .p .convexes; last = a .p .last + 1 }),
+      put-next (a .p .at) (begin Record.Halfspace) (numbersBytes (a .h)) (a .out .now) (k .put-kind .ensures) (n .put-numbers .ensures) refl (omega arith)
+          ∙ ap (λ s. withHalfspaceAt s (a .p) (a .h) (a .out .now)) (sym (t .enum-told .given .1)),
+    )
 
--- the function's entry, and the list's length, where y is written
-abbrev start : tie.After-put-signed2 → tie.Start
-start y = y .before .before .before .before .before .before .before .before .before .before .before .before .before .before
-
-length-y : (y : tie.After-put-signed2) → length (y .put-signed2 .last .0) ≡ length (start y .args .out .now)
-length-y y =
-    let x = y .before .before .before .before .before in
-    y .put-signed2 .kept .0 ∙ x .put-signed .kept .0 ∙ x .before .before .before .before .before .put-kind .kept .0
-
-returns : tie.Need-returns
-returns c =
-    let d = c .before .before in
-    let z = d .before .before .before .before .before in
-    let y = z .before .before .before .before .before in
-    let x = y .before .before .before .before .before in
-    let k = x .before .before .before .before .before in
-    let s = k .before .before .before .before in
-    let at = s .args .at in
-    let n = s .args .h .n in
-    let out = s .args .out .now in
-    let kind = wordBytes 20 ++ wordBytes 3 in
-    let f : at ≤ length out = omega (arith, s .pre .0) in
-    let a = put-next at kind (handed (n .x)) out (k .put-kind .ensures) (x .put-signed .ensures) refl f in
-    let b = put-next at (kind ++ handed (n .x)) (handed (n .y)) out a (y .put-signed2 .ensures) refl f in
-    let e = put-next at (kind ++ handed (n .x) ++ handed (n .y)) (handed (n .z)) out b (z .put-signed3 .ensures) refl f in
-    let g = put-next at (kind ++ handed (n .x) ++ handed (n .y) ++ handed (n .z)) (handed (s .args .h .d)) out e (d .put-signed4 .ensures) refl f in
-    let p = s .pre .1 in
-    g ∙ (λ j. put at (halfspaceBytes (record { n = vec (held (p .0 .x) tt .eq j) (held (p .0 .y) tt .eq j) (held (p .0 .z) tt .eq j); d = held (p .1) tt .eq j })) out)
+grouped : tie.Need-returns-2
+grouped c =
+    let n = c .before .before in
+    let k = n .before .before .before .before in
+    let t = k .before .before .before in
+    let w = t .before .before in
+    let a = w .before .before .before .args in (
+      (λ i. record { at = a .p .at + w .width .ensures .0 i; convexes = a .p .convexes; last = a .p .last + 1 }),
+      n .put-numbers2 .ensures
+          ∙ ap (put (a .p .at) (numbersBytes (a .h))) (k .put-kind2 .ensures)
+          ∙ ap (λ s. withHalfspaceAt s (a .p) (a .h) (a .out .now)) (sym (t .enum-told2 .given .1)),
+    )
 
 pub put-halfspace-spec : {M : Type 1} → statement M
 put-halfspace-spec =
     tie.close
     (tie.spec
-    (λ c κs. omega arith)
     (λ c. omega arith)
+    (λ c κs. tt)
+    (λ c. omega (arith, c .before .before .before .pre .0))
+    (λ c. c .match .keys1)
     (λ c κs.
-    let k = c .before .before .before .before in
-    let p = k .before .before .before .before .pre in
-    (omega (arith, k .put-kind .kept .0, p .0), upto-held (p .1 .0 .x) tt))
-    (λ c. omega arith)
-    (λ c κs.
-    let x = c .before .before .before .before in
-    let k = x .before .before .before .before .before in
-    let p = k .before .before .before .before .pre in
-    (omega (arith, x .put-signed .kept .0, k .put-kind .kept .0, p .0), upto-held (p .1 .0 .y) tt))
-    (λ c. omega arith)
-    (λ c κs.
-    let y = c .before .before .before .before in
-    let p = start y .pre in
-    (omega (arith, length-y y, p .0), upto-held (p .1 .0 .z) tt))
-    (λ c. omega arith)
-    (λ c κs.
-    let z = c .before .before .before .before in
-    let y = z .before .before .before .before .before in
-    let p = start y .pre in
-    (omega (arith, z .put-signed3 .kept .0, length-y y, p .0), upto-held (p .1 .1) tt))
+    let t = c .before in
+    let s = t .before .before .before .before .before in
+    (omega (arith, s .pre .0 .0, ap width (t .enum-told .given .1)), omega arith))
     (λ c.
-    let d = c .before .before in
-    let z = d .before .before .before .before .before in
-    d .put-signed4 .kept .0 ∙ z .put-signed3 .kept .0 ∙ length-y (z .before .before .before .before .before))
-    returns)
+    let t = c .before .before .before .before .before in
+    omega (arith, t .before .before .before .before .before .pre .0 .0, ap width (t .enum-told .given .1)))
+    (λ c κs.
+    let k = c .before .before .before in
+    let t = k .before .before in
+    let s = t .before .before .before .before .before in
+    (omega (arith, s .pre .0 .0, ap width (t .enum-told .given .1), k .put-kind .kept .0), s .pre .1))
+    (λ c. c .match .keys2)
+    (λ c. omega arith)
+    (λ c. omega arith)
+    (λ c. omega arith)
+    (λ c. omega arith)
+    (λ c κs. (omega arith, omega arith))
+    (λ c κs.
+    let k = c .before .before .before in
+    let t = k .before .before .before in
+    let s = t .before .before .before .before .before in
+    (omega (arith, s .pre .0 .0, ap width (t .enum-told2 .given .1), k .put-kind2 .kept .0), s .pre .1))
+    (λ c. let n = c .before .before in n .put-numbers .kept .0 ∙ n .before .before .before .before .put-kind .kept .0)
+    plain
+    (λ c. let n = c .before .before in n .put-numbers2 .kept .0 ∙ n .before .before .before .before .put-kind2 .kept .0)
+    grouped)

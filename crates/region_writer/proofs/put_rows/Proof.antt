@@ -1,4 +1,4 @@
--- The loop's invariant: the records of the rows so far stand from element 8 on, and the next goes after them (`Writing`). Assumes nothing.
+-- The loop's invariant: the region of the rows so far stands from element 8 on, and the next row goes after it (`Writing`). Assumes nothing.
 use Prim.Native.Nat.{_-_}
 use native.Mathlib.Omega.{arith}
 use mathlib.Core.Path.{_≡_}
@@ -7,15 +7,15 @@ use lib.IntN.{pos}
 use mir.Syntax.{w32}
 use mir.Val.{toZ, ofZ}
 use mir.Facts.{toZ-ofZ}
-use Rattle.region_writer.proofs.WritingPass.{Writing, start, same-length, few-written, done, whole-row, row-small, row-offset, row-room, more}
+use Rattle.region_writer.proofs.WritingPass.{Writing, start, as-long, done, whole-row, row-fits, more}
 use Rattle.region_writer.proofs.put_rows.Statement.{statement}
 use Rattle.region_writer.proofs.put_rows.Tie as tie
 
 abbrev Inv-loop : tie.InvT-loop
-Inv-loop rows out₀ p₀ i₀ out p i = Writing rows out₀ out p i
+Inv-loop style rows out₀ p₀ i₀ out p i = Writing style rows out₀ out p i
 
 abbrev μ-loop : tie.MeasureT-loop
-μ-loop rows out₀ p₀ i₀ out p i = length rows - i
+μ-loop style rows out₀ p₀ i₀ out p i = length rows - i
 
 -- the row's number and its halfspace, as they are handed on
 number : (c : tie.After-halfspace-at Inv-loop μ-loop) → let l = c .before .before .before .before in let z = getD (l .before .before .args .rows .now) (l .loop .i) (pos 0) in toZ w32 (ofZ w32 z) ≡ z
@@ -23,18 +23,16 @@ number c =
     let l = c .before .before .before .before in
     toZ-ofZ {w = w32} {z = getD (l .before .before .args .rows .now) (l .loop .i) (pos 0)} (record { sfits = c .before .put-row-arg2 .given })
 
-room : tie.Need-put-row-requires Inv-loop μ-loop
-room c κs =
+fits : tie.Need-put-row-requires Inv-loop μ-loop
+fits c κs =
     let l = c .before .before .before in
-    let v = l .before .loop .inv in
-    rw (c .halfspace-at .ensures .0, number c) ((row-room v (l .loop-test .taken), few-written v), (row-small v (l .loop-test .taken), row-offset v (l .loop-test .taken)))
+    rw (c .halfspace-at .ensures .0, number c) (row-fits (l .before .loop .inv) (l .loop-test .taken))
 
 again : tie.Need-loop-again Inv-loop μ-loop
 again c =
     let r = c .before .before in
-    let e = rw (r .before .halfspace-at .ensures .0, number (r .before)) at (r .put-row .ensures) in
     let l = r .before .before .before .before in
-    more (l .before .loop .inv) (l .loop-test .taken) _ _ (e .0) (e .1 .0) (e .1 .1)
+    more (l .before .loop .inv) (l .loop-test .taken) (rw (r .before .halfspace-at .ensures .0, number (r .before)) at (r .put-row .ensures))
 
 pub put-rows-spec : {M : Type 1} → statement M
 put-rows-spec =
@@ -42,13 +40,13 @@ put-rows-spec =
     (tie.spec
     Inv-loop
     μ-loop
-    (λ c. start _ _ (c .before .pre))
+    (λ c. start _ _ _ (c .before .pre))
     (λ c. omega arith)
     (λ c. omega arith)
     (λ c κs. let l = c .before .before in whole-row (l .before .loop .inv) (l .loop-test .taken))
-    room
+    fits
     (λ c. let l = c .before .before .before .before .before .before in omega (arith, whole-row (l .before .loop .inv) (l .loop-test .taken)))
     (λ c. omega arith)
     again
-    (λ c. same-length (c .before .loop .inv))
+    (λ c. as-long (c .before .loop .inv))
     (λ c. done (c .before .loop .inv) (c .loop-test .left)))

@@ -4,12 +4,11 @@ use native.Mathlib.Omega.{arith}
 use mathlib.Core.Path.{_≡_, sym, ap, _∙_}
 use mathlib.Core.Bool.{true}
 use borrow.Author.Tests.{leb-true, not-true, not-false}
-use Rattle.answer.specs.Answer.{gives}
 use Rattle.vector.specs.Numbers.{isDepth}
 use Rattle.vector.proofs.DepthLaws.{depth-range}
 use Rattle.region.specs.Budgets.{isBudget}
 use Rattle.region_counts.specs.Counts.{countsGiven}
-use Rattle.region_writer.proofs.WriterLaws.{no-depth, no-budget, no-rows, no-space, written, Passed, passed, counted-length, has-room}
+use Rattle.region_writer.proofs.WriterLaws.{no-depth, no-budget, no-rows, no-room, has-file, Passed, passed, counted-length, has-room}
 use Rattle.region_writer.proofs.write.Statement.{statement}
 use Rattle.region_writer.proofs.write.Tie as tie
 
@@ -27,16 +26,17 @@ refused : tie.Need-returns-4
 refused c =
     let n = c .before in
     let k = n .before .before in
-    no-rows _ _ _ _ (depth (k .before .before .before)) (budget (k .before)) _ (sym (ap countsGiven (n .n .given .1)) ∙ k .checked .ensures)
+    no-rows _ _ _ _ _ (depth (k .before .before .before)) (budget (k .before)) _ (sym (ap countsGiven (n .n .given .1)) ∙ k .checked .ensures)
 
-no-room : tie.Need-returns-3
-no-room c =
+no-space : tie.Need-returns-3
+no-space c =
     let l = c .before in
     let p = l .before .before in
     let e = p .before .before .before in
     let a = e .before .before .before .before .before .args in
     let q = counts p in
-    no-space _ _ _ _ (depth (e .before .before)) (budget e) (q .region) (q .is) (omega (arith, l .file-length .ensures, counted-length q (a .depth) (a .budget), c .if3 .taken))
+    no-room _ _ _ _ _ (depth (e .before .before)) (budget e) (q .region) (q .is)
+    (omega (arith, l .file-length .ensures, counted-length q (a .style) (a .depth) (a .budget), c .if3 .taken))
 
 gives-length : tie.Need-returns-5
 gives-length c =
@@ -47,29 +47,29 @@ gives-length c =
     let e = p .before .before .before in
     let a = e .before .before .before .before .before .args in
     let q = counts p in
-    let n = l .file-length .ensures ∙ counted-length q (a .depth) (a .budget) in
-    let w = written (a .depth) (a .budget) (a .rows .now) (a .out .now) (depth (e .before .before)) (budget e) (q .region) (q .is) (omega (arith, n, t .if3 .left)) in
-    (ap gives n ∙ w .0, f .put-file .ensures (q .region) (q .is) ∙ w .1)
+    has-file (a .style) (a .depth) (a .budget) (a .rows .now) (a .out .now) (depth (e .before .before)) (budget e) (q .region) (q .is)
+    (l .file-length .ensures ∙ counted-length q (a .style) (a .depth) (a .budget)) (t .if3 .left) (f .put-file .ensures (q .region) (q .is))
 
 pub write-spec : {M : Type 1} → statement M
 write-spec =
     tie.close
     (tie.spec
     (λ c κs. tt)
-    (λ c. no-depth _ _ _ _ (sym (c .before .is-depth .ensures) ∙ not-true _ (c .if1 .taken)))
+    (λ c. no-depth _ _ _ _ _ (sym (c .before .is-depth .ensures) ∙ not-true _ (c .if1 .taken)))
     (λ c κs. tt)
-    (λ c. no-budget _ _ _ _ (depth (c .before .before)) (sym (c .before .is-budget .ensures) ∙ not-true _ (c .if2 .taken)))
+    (λ c. no-budget _ _ _ _ _ (depth (c .before .before)) (sym (c .before .is-budget .ensures) ∙ not-true _ (c .if2 .taken)))
     (λ c κs. tt)
     (λ c. c .match .keys1)
     (λ c. c .match .keys2)
     (λ c κs. let q = counts (c .before) in (q .few, q .limit))
-    no-room
+    no-space
     (λ c κs.
     let l = c .before .before in
     let p = l .before .before in
     let e = p .before .before .before in
     let a = e .before .before .before .before .before .args in
-    ((depth-range (a .depth) (depth (e .before .before)) .1, leb-true (a .budget) 2048 (budget e)), has-room (counts p) _ (omega (arith, l .file-length .ensures, c .before .if3 .left))))
+    let room = has-room (counts p) (a .style) _ (omega (arith, l .file-length .ensures, c .before .if3 .left)) in
+    ((depth-range (a .depth) (depth (e .before .before)) .1, leb-true (a .budget) 2048 (budget e)), room))
     refused
-    (λ c. c .before .before .put-file .kept .1 .1 .1 .0)
+    (λ c. c .before .before .put-file .kept .1 .1 .1 .1 .0)
     gives-length)

@@ -12,6 +12,6 @@ htm-write-spec =
     tie.close
     (tie.spec
     (λ c κs. tt)
-    (λ c κs n e. omega (arith, file-short _ _ _ _ n (sym (c .before .before .write .ensures .0) ∙ e)))
+    (λ c κs n e. omega (arith, file-short _ _ _ _ _ n (sym (c .before .before .write .ensures .0) ∙ e)))
     (λ c. c .before .before .before .write .kept .1 .1 .1 .0)
     (λ c. let l = c .number-or-minus .ensures in let w = c .before .before .before .write .ensures in (held (l .1) tt .eq ∙ l .0 ∙ ap numberForC (w .0), w .1)))

@@ -5,8 +5,8 @@ use mathlib.Core.Path.{refl, ap, _∙_}
 use Rattle.algebra.proofs.Sized.{held, upto-held}
 use Rattle.region.specs.Bytes.{wordBytes, bitsOf}
 use Rattle.answer.proofs.PutLaws.{put-next}
-use Rattle.region_writer.proofs.put_signed.Statement.{statement}
-use Rattle.region_writer.proofs.put_signed.Tie as tie
+use Rattle.region_bytes.proofs.put_signed.Statement.{statement}
+use Rattle.region_bytes.proofs.put_signed.Tie as tie
 
 pub put-signed-spec : {M : Type 1} → statement M
 put-signed-spec =

@@ -6,14 +6,14 @@ use denote.Ref.{now}
 use Rattle.answer.specs.Lent.{put}
 use Rattle.region.specs.Bytes.{wordBytes}
 use Rattle.answer.proofs.PutLaws.{put-next}
-use Rattle.region_writer.proofs.put_kind.Statement.{statement}
-use Rattle.region_writer.proofs.put_kind.Tie as tie
+use Rattle.region_bytes.proofs.put_kind.Statement.{statement}
+use Rattle.region_bytes.proofs.put_kind.Tie as tie
 
 pub put-kind-spec : {M : Type 1} → statement M
 put-kind-spec =
     tie.close
     (tie.spec
-    (λ c κs. tt)
+    (λ c κs. c .before .before .pre .1)
     (λ c κs. (omega arith, c .size-of .ensures .1))
     (λ c. omega arith)
     (λ c κs. tt)
@@ -25,5 +25,6 @@ put-kind-spec =
     let one = kind .before .before .before .before in
     let size = one .before in
     let a = size .before .before .before .args in
-    put-next (a .at) (wordBytes (size .size-of .result)) (wordBytes (kind .kind-of .result)) _ (one .put-word .ensures) (two .put-word2 .ensures) refl (omega arith)
+    put-next (a .at) (wordBytes (size .size-of .result)) (wordBytes (kind .kind-of .result)) _
+    (one .put-word .ensures) (two .put-word2 .ensures) refl (omega arith)
     ∙ (λ i. put (a .at) (wordBytes (size .size-of .ensures .0 i) ++ wordBytes (kind .kind-of .ensures .0 i)) (now (a .out)))))

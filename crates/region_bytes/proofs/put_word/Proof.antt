@@ -2,8 +2,8 @@
 use native.Mathlib.Omega.{arith}
 use lib.ListN.{length-set}
 use Rattle.answer.proofs.PutLaws.{set-set-put}
-use Rattle.region_writer.proofs.put_word.Statement.{statement}
-use Rattle.region_writer.proofs.put_word.Tie as tie
+use Rattle.region_bytes.proofs.put_word.Statement.{statement}
+use Rattle.region_bytes.proofs.put_word.Tie as tie
 
 pub put-word-spec : {M : Type 1} → statement M
 put-word-spec =

@@ -13,8 +13,8 @@ use Rattle.algebra.proofs.Sizes.{Upto}
 use Rattle.algebra.proofs.Sized.{held, lit, is-add, fits-add, same-lt}
 use Rattle.vector.specs.Numbers.{Kℕ}
 use Rattle.region.specs.Bytes.{bitsOf}
-use Rattle.region_writer.proofs.bits_of.Statement.{statement}
-use Rattle.region_writer.proofs.bits_of.Tie as tie
+use Rattle.region_bytes.proofs.bits_of.Statement.{statement}
+use Rattle.region_bytes.proofs.bits_of.Tie as tie
 
 fit : (z : ℤ) → Upto Kℕ z → bitsOf z < 2 ^ 32
 fit (pos n) h = omega (arith, h .le)

@@ -1,0 +1,39 @@
+-- Both forms of a region say the same, and a cover goes by what a file says. Assumes nothing.
+use Prim.Native.Nat.{ℕ, _*_}
+use mathlib.Core.Path.{_≡_, ap, subst}
+use mathlib.Core.List.{List}
+use Rattle.answer.specs.Answer.{Answer, then, with-value}
+use Rattle.answer.specs.Lent.{put, stored, room}
+use Rattle.region.specs.Budgets.{budgetOf}
+use Rattle.region.specs.Reader.{File, read}
+use Rattle.region.specs.Converting.{convert}
+use Rattle.region.proofs.ConvertLaws.{converted}
+use Rattle.region.proofs.CallsBack.{file-given}
+use Rattle.cutting.specs.Cover.{cover, countsOf, counted, countsList}
+use Rattle.htm.specs.Answers.{coverAnswer, bothLists, coverAfter}
+use Rattle.htm.specs.CalledFromC.{inBoth, coverForC, coverAfterC, countsAfterC}
+use Rattle.htm.specs.EitherForm.{SameCover, Alike, SameCoverOfAnswers, SameCoverOfCalls}
+
+pub same-cover : SameCover
+same-cover s f h e = ap (with-value cover) (converted s f h e .1)
+
+alike : (f h : List ℕ) → read h ≡ read f → Alike h f
+unfolding coverAnswer coverAfter coverForC coverAfterC countsAfterC
+alike f h e =
+    let into : List ℕ → Answer File → Answer File = λ out a. then a (λ x. room (4 * budgetOf (x .budget)) out x) in
+    let both : List ℕ → List ℕ → Answer File → Answer File = λ out counts a. inBoth counted (into out a) counts in (
+      (λ out. (ap (λ a. with-value (λ x. countsOf (cover x)) (into out a)) e, ap (λ a. stored bothLists (into out a) out) e)),
+      (λ out counts. (
+        ap (λ a. with-value (λ x. countsOf (cover x)) (both out counts a)) e,
+        ap (λ a. stored bothLists (both out counts a) out) e,
+        ap (λ a. stored (λ c before. put 0 (countsList c) before) (with-value (λ x. countsOf (cover x)) (both out counts a)) counts) e,
+      )),
+    )
+
+pub same-cover-of-answers : SameCoverOfAnswers
+same-cover-of-answers s f h e = alike f h (converted s f h e .1)
+
+pub same-cover-of-calls : SameCoverOfCalls
+same-cover-of-calls s f lent n e =
+    let w = file-given (convert s f) lent n e in
+    subst (λ h. Alike h f) (w .2) (same-cover-of-answers s f (w .0) (w .1))

@@ -1,0 +1,34 @@
+-- A cover is the same from either form of one region. Document 02, F-7. Statements; they are proved in proofs/EitherForm.
+--   SameCover             of the rules: a file and what it is converted to have the same cover, or the same refusal
+--   SameCoverOfAnswers    of what the cover answers, and of the lent list afterwards; with a second list, for C, the same
+--   SameCoverOfCalls      of the file that a conversion left in a lent list: handed to the cover, it is answered as the first file is
+-- The point test and the reader answer the same too: `SamePoints`, `SameRows` region/specs/Converting.
+use Prim.Native.Nat.{ℕ}
+use mathlib.Core.Path.{_≡_}
+use mathlib.Core.List.{List}
+use lib.ListN.{take}
+use Rattle.answer.specs.Answer.{gives, with-value}
+use Rattle.region.specs.declared.Style.{Style}
+use Rattle.region.specs.Reader.{read}
+use Rattle.region.specs.Converting.{convert}
+use Rattle.region.specs.Answers.{fileAnswer, fileAfter}
+use Rattle.cutting.specs.Cover.{cover}
+use Rattle.htm.specs.Answers.{coverAnswer, coverAfter}
+use Rattle.htm.specs.CalledFromC.{coverForC, coverAfterC, countsAfterC}
+
+abbrev pub SameCover : Type 0
+SameCover = (s : Style) (f h : List ℕ) → convert s f ≡ gives h → with-value cover (read h) ≡ with-value cover (read f)
+
+-- h and f are answered alike, whatever lists are lent
+abbrev pub Alike : List ℕ → List ℕ → Type 0
+Alike h f =
+    ((out : List ℕ) → (coverAnswer h out ≡ coverAnswer f out) × (coverAfter h out ≡ coverAfter f out))
+    × ((out counts : List ℕ)
+    → (coverForC h out counts ≡ coverForC f out counts)
+    × (coverAfterC h out counts ≡ coverAfterC f out counts) × (countsAfterC h out counts ≡ countsAfterC f out counts))
+
+abbrev pub SameCoverOfAnswers : Type 0
+SameCoverOfAnswers = (s : Style) (f h : List ℕ) → convert s f ≡ gives h → Alike h f
+
+abbrev pub SameCoverOfCalls : Type 0
+SameCoverOfCalls = (s : Style) (f lent : List ℕ) (n : ℕ) → fileAnswer (convert s f) lent ≡ gives n → Alike (take n (fileAfter (convert s f) lent)) f
