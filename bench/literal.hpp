@@ -1,4 +1,4 @@
-// The rules of document 01, and of document 02's F-4, written down literally in C++ with 128-bit integers, unproved: what the benchmarks compare with.
+// The rules of document 01, and of document 02's requests for covers, written down literally in C++ with 128-bit integers, unproved: what the benchmarks compare with.
 #pragma once
 #include <cstdint>
 #include <cstdio>
@@ -298,7 +298,7 @@ static inline const char* class_word(int c){return c==FULL?"full":c==PARTIAL?"pa
 static inline u128 usq(i128 a){ if(a<0)a=-a; return (u128)a*(u128)a; } // |a| < 2^64 required
 
 // the parts that depend on the trixel only
-struct Geo { Vec r[3]; i128 V; u128 rr[3]; Vec b; i128 br[3]; bool brpos; i64 E; i128 bb; };
+struct Geo { Vec P[3]; Vec r[3]; i128 V; u128 rr[3]; Vec b; i128 br[3]; bool brpos; i64 E; i128 bb; };
 
 // greatest whole number up to K with br[i]^2 >= E^2 rr[i] for all i : by bisection, exact
 static inline i64 E_bisect(const i128 br[3],const u128 rr[3]){
@@ -326,6 +326,7 @@ static inline i64 E_fast(const i128 br[3],const u128 rr[3]){ // same number, onl
 static bool use_bisect=false;
 static inline Geo geo(const Trixel&t){
     Geo g;
+    for(int i=0;i<3;i++) g.P[i]=t.P[i];
     g.r[0]=cross(t.P[1],t.P[2]); g.r[1]=cross(t.P[2],t.P[0]); g.r[2]=cross(t.P[0],t.P[1]);
     g.V=dot(t.P[0],g.r[0]);
     g.b=Unit(add(add(t.v[0],t.v[1]),t.v[2]));
@@ -353,7 +354,7 @@ static inline bool within(const Geo&g,const Vec&f,i64 e){
     }
     return true;
 }
-static inline bool apart(const Geo&g,const Vec&f,i64 e){
+static inline bool by_cap(const Geo&g,const Vec&f,i64 e){
     if(!(g.V>0)) return false;
     if(!g.brpos) return false;
     i64 D=D_of(e);
@@ -363,6 +364,15 @@ static inline bool apart(const Geo&g,const Vec&f,i64 e){
     i128 A=dot(f,f)-(i128)D*D, B=g.bb-(i128)g.E*g.E; // both fit 44 bits, product fits i128 with sign
     return (i128)m*m > A*B;
 }
+static inline bool beyond(const Geo&g,const Vec&f,i64 e){   // some edge: document 02, F-8
+    i128 D=D_of(e), ff=dot(f,f);
+    for(int i=0;i<3;i++){
+        i128 fP=dot(f,g.P[i]), PP=dot(g.P[i],g.P[i]);
+        if(fP<0 && PP*D*D+fP*fP > PP*ff) return true;
+    }
+    return false;
+}
+static inline bool apart(const Geo&g,const Vec&f,i64 e){return by_cap(g,f,e)||beyond(g,f,e);}
 static inline int class_half(const Geo&g,const Row&h){
     Vec n{h.x,h.y,h.z};
     Vec f = h.d>=0 ? n : neg(n);

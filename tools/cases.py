@@ -427,6 +427,10 @@ def covers():
     yield from cover_cases.lines(DRAWS, direction, into_rule)
 
 
+def covers_beside_edges():
+    yield from cover_cases.edge_lines(Draws(20140522), direction, into_rule)     # draws of their own: the other cases stay as they are
+
+
 def lines():
     yield from line_cases.lines(DRAWS, direction)
 
@@ -438,7 +442,7 @@ def group_files():
 def cases():
     groups = (document_01, document_000, depths, borders, corners_and_middles, ties, lengths, octants, anywhere, no_vectors, identifiers, names,
               trixel_corners, regions.damaged, regions.two_faults, regions.limits, regions.edges, regions.writer_rows, points, regions.planes, regions.region_shapes,
-              odd_numbers, other_shapes, long_lines, covers, mounts, lines, group_files)
+              odd_numbers, other_shapes, long_lines, covers, mounts, lines, group_files, covers_beside_edges)
     for group in groups:
         yield from group()
     yield b'id N00000000000'                        # the last line, which ends without a line feed

@@ -200,6 +200,38 @@ def class_borders(sky):
     yield from (line(cap((K3, K3, K3), d), 2, 4) for d in range(K3 - 5, K3 + 2))
 
 
+def edge(i, k):
+    """Of the edge k of a trixel: its middle, and the direction in which it is left there."""
+    corners, normals = htm.trixel(i)
+    return htm.unit(htm.add(corners[k - 1], corners[k - 2])), htm.neg(htm.unit(normals[k]))
+
+
+def beyond_edges(sky):
+    """Caps beyond an edge, an eighth of its length away, a half and twice, that end just before it and just behind it; and what such a cap leaves out."""
+    for depth in range(1, 13):
+        for k in range(3):
+            i = sky.trixel(depth)
+            middle, out = edge(i, k)
+            for away in (1, 4, 16):
+                n = sky.into_rule(htm.unit(tuple(8 * 2**depth * m + 3 * away * o for m, o in zip(middle, out))))
+                d = flip(i, n, htm.OUT)
+                yield from (line(cap(m, e), min(depth + 1, 12), 4) for m, e in ((n, d), (n, d + 1), (htm.neg(n), -d - 1)) if abs(e) <= K)
+
+
+def slivers(sky):
+    """Bands along an edge: over it, inside and outside, and the lens of two caps; all within a cap around the edge's middle."""
+    for depth in range(1, 13):
+        for k in range(3):
+            i = sky.trixel(depth)
+            middle, out = edge(i, k)
+            m, o, width = sky.into_rule(middle), sky.into_rule(out), max(1, K // 2**(depth + 3 + k))
+            around = (m, max(DEGREE[60], K - 18 * K // 4**depth))
+            a, b = (sky.into_rule(htm.unit(tuple(2**depth * x + s * y for x, y in zip(middle, out)))) for s in (1, -1))
+            lens = htm.dot(a, m) // K - width // 64
+            for band in ([(o, -width), (htm.neg(o), -width)], [(o, 1), (htm.neg(o), -width)], [(htm.neg(o), 1), (o, -width)], [(a, lens), (b, lens)]):
+                yield line([band + [around]], depth, 6)
+
+
 # Trixel, direction and offset for which (f·r)² and G²(r·r), for one ray r of the trixel, are equal in their upper 64 bits and differ below;
 # in the first and the last the former is greater. They were found by a search.
 LOWER_WORDS = ((3338, (-427542, -946560, -144026), 964746), (514, (606475, 829818, 207600), 705691), (3969, (848122, 598210, -149478), 884047),
@@ -239,3 +271,10 @@ def lines(draws, direction, into_rule):
     sky = Sky(draws, direction, into_rule)
     for group in groups:
         yield from group(sky)
+
+
+def edge_lines(draws, direction, into_rule):
+    """Covers beside edges of trixels."""
+    sky = Sky(draws, direction, into_rule)
+    yield from beyond_edges(sky)
+    yield from slivers(sky)

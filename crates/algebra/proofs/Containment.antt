@@ -1,34 +1,15 @@
 -- The containment lemma: where the cap of b and E lies in that of f and G, every direction p that b reaches by E is reached by f and G. With
 -- S = b·b − E² and M = f·b − G E: |S f − M b|² ≤ (M E − S G)², so that S (f·p) ≥ M (b·p) − (M E − S G) |p| ≥ S G |p|. Assumes nothing.
-use mathlib.Core.Path.{_≡_, refl, subst}
+use mathlib.Core.Path.{refl}
 use mathlib.Core.List.{[], _∷_}
 use lib.IntN.{ℤ, pos, _+ℤ_, _-ℤ_, _*ℤ_}
 use lib.Signed.{_≤ℤ_, _<ℤ_}
-use Rattle.algebra.proofs.Ring.{Expr, con, _:+_, _:-_, _:*_}
+use Rattle.algebra.proofs.Ring.{con, _:+_, _:-_, _:*_}
 use Rattle.algebra.proofs.Order.{nn-mul, ≤ℤ-trans}
-use Rattle.algebra.proofs.Claim.{_:≤_, _:<_, _:≡_, hyp, sq, _⊕_, _⊗_, prove}
+use Rattle.algebra.proofs.Claim.{_:≤_, _:<_, hyp, sq, _⊕_, _⊗_, prove}
 use Rattle.algebra.proofs.Inequalities.{`0, <ℤ→≤ℤ, sq-≤ℤ, sq-mono, cancel-≤ℤ, cancel-nn, <ℤ-mul}
-use Rattle.algebra.proofs.Vec.{V3, E3, dot, dotE, ringV, cauchy-schwarz, dot-nn}
+use Rattle.algebra.proofs.Vec.{V3, dot, dot-nn, difference-bound}
 use Rattle.algebra.proofs.Cone.{Far}
-
--- ---- S f − M b
-
-abbrev apart : ℤ → ℤ → V3 → V3 → V3
-apart S M f b = record { x = S *ℤ f .x -ℤ M *ℤ b .x; y = S *ℤ f .y -ℤ M *ℤ b .y; z = S *ℤ f .z -ℤ M *ℤ b .z }
-
-abbrev apartE : Expr → Expr → E3 → E3 → E3
-apartE S M f b = record { x = S :* f .x :- M :* b .x; y = S :* f .y :- M :* b .y; z = S :* f .z :- M :* b .z }
-
-apart-along : (S M : ℤ) (f b p : V3) → dot (apart S M f b) p ≡ S *ℤ dot f p -ℤ M *ℤ dot b p
-apart-along S M f b p = ringV 4
-    (λ f b p s. dotE (apartE (s .x) (s .y) f b) p :≡ s .x :* dotE f p :- s .y :* dotE b p)
-    refl f b p (record { x = S; y = M; z = pos 0 })
-
-apart-square : (S M : ℤ) (f b : V3) → dot (apart S M f b) (apart S M f b) ≡ S *ℤ S *ℤ dot f f -ℤ pos 2 *ℤ S *ℤ M *ℤ dot f b +ℤ M *ℤ M *ℤ dot b b
-apart-square S M f b = ringV 3
-    (λ f b s. dotE (apartE (s .x) (s .y) f b) (apartE (s .x) (s .y) f b)
-    :≡ s .x :* s .x :* dotE f f :- con (pos 2) :* s .x :* s .y :* dotE f b :+ s .y :* s .y :* dotE b b)
-    refl f b (record { x = S; y = M; z = pos 0 })
 
 -- ---- of numbers: N = p·p, F = f·p, B = b·p, c = f·b, a = f·f, b = b·b
 
@@ -104,10 +85,7 @@ pub containment : (f b p : V3) (G E : ℤ) → Far b p E → pos 0 <ℤ G → po
 containment f b p G E near g s m t h =
     let S = dot b b -ℤ E *ℤ E in
     let M = dot f b -ℤ G *ℤ E in
-    let cs : ((S *ℤ dot f p -ℤ M *ℤ dot b p) *ℤ (S *ℤ dot f p -ℤ M *ℤ dot b p)) ≤ℤ ((S *ℤ S *ℤ dot f f -ℤ pos 2 *ℤ S *ℤ M *ℤ dot f b +ℤ M *ℤ M *ℤ dot b b) *ℤ dot p p) =
-    subst (λ z. (z *ℤ z) ≤ℤ ((S *ℤ S *ℤ dot f f -ℤ pos 2 *ℤ S *ℤ M *ℤ dot f b +ℤ M *ℤ M *ℤ dot b b) *ℤ dot p p)) (apart-along S M f b p)
-    (subst (λ z. (dot (apart S M f b) p *ℤ dot (apart S M f b) p) ≤ℤ (z *ℤ dot p p)) (apart-square S M f b) (cauchy-schwarz (apart S M f b) p)) in
-    let c = across (dot p p) (dot f p) (dot b p) (dot f f) (dot b b) (dot f b) G E (dot-nn p) cs (<ℤ→≤ℤ s) h in
+    let c = across (dot p p) (dot f p) (dot b p) (dot f f) (dot b b) (dot f b) G E (dot-nn p) (difference-bound S M f b p) (<ℤ→≤ℤ s) h in
     let front = ahead-of (dot f p) (dot b p) S M G E (turned (dot p p) (dot f p) (dot b p) S M G E (<ℤ→≤ℤ m) (near .front) t (near .far) c) in
     let w : pos 0 <ℤ (M *ℤ E *ℤ S) = <ℤ-mul (positive-edge S M G E s g t) s in
     let n : pos 0 ≤ℤ (S *ℤ G *ℤ (M *ℤ dot b p)) = nn-mul (nn-mul (<ℤ→≤ℤ s) (<ℤ→≤ℤ g)) (nn-mul (<ℤ→≤ℤ m) (near .front)) in

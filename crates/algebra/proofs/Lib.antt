@@ -7,6 +7,7 @@ pub mod Filters
 pub mod Inequalities
 pub mod Moved
 pub mod Order
+pub mod Plane
 pub mod Reciprocal
 pub mod Ring
 pub mod RingLaws

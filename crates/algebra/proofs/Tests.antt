@@ -48,6 +48,9 @@ pub or-right : (a : Bool) {b : Bool} → b ≡ true → a || b ≡ true
 or-right true e = refl
 or-right false e = e
 
+pub or-neither : {a b : Bool} → a ≡ false → b ≡ false → a || b ≡ false
+or-neither {a} {b} e f = rw e f
+
 pub and-no-left : (b : Bool) {a : Bool} → a ≡ false → a && b ≡ false
 and-no-left b e = rw e
 
@@ -110,6 +113,12 @@ no-le {a} {b} e = by-order b a (λ l. l) (λ g. absurd (true≢false (sym (yes-l
 
 pub le-not-lt : (a b : ℤ) → leZ a b ≡ not (ltZ b a)
 le-not-lt a b = by-order b a (λ l. not-le l ∙ sym (ap not (yes-lt l))) (λ g. yes-le g ∙ sym (ap not (no-lt g)))
+
+-- two tests of which each holds where the other does
+pub same-lt-tests : {a b c d : ℤ} → (a <ℤ b → c <ℤ d) → (c <ℤ d → a <ℤ b) → ltZ a b ≡ ltZ c d
+same-lt-tests {a} {b} {c} {d} f g = by-order a b
+    (λ l. yes-lt l ∙ sym (yes-lt (f l)))
+    (λ h. no-lt h ∙ sym (by-order c d (λ l. absurd (clashℤ (g l) h)) no-lt))
 
 -- ---- tests over lists
 

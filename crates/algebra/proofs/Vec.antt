@@ -1,5 +1,5 @@
 -- Vectors of three integers, and the same over expressions, with the identities that the geometry rests on. Assumes nothing.
-use mathlib.Core.Path.{_≡_, refl}
+use mathlib.Core.Path.{_≡_, refl, subst}
 use mathlib.Core.List.{List, [], _∷_, _++_}
 use Prim.Native.Nat.{ℕ, zero, suc}
 use lib.IntN.{ℤ, pos, _+ℤ_, _-ℤ_, _*ℤ_}
@@ -96,3 +96,30 @@ reach-at-most f r G h k =
     (prove 4
     (λ G s n m. record { given = (G :* G :* n :≤ s :* s) ∷ (s :* s :≤ m :* n) ∷ []; goal = n :* (G :* G) :≤ n :* m; cert = hyp 0 ⊕ hyp 1 })
     refl G (dot f r) (dot r r) (dot f f) k c)
+
+-- ---- S f − M b
+
+abbrev less : ℤ → ℤ → V3 → V3 → V3
+less S M f b = record { x = S *ℤ f .x -ℤ M *ℤ b .x; y = S *ℤ f .y -ℤ M *ℤ b .y; z = S *ℤ f .z -ℤ M *ℤ b .z }
+
+abbrev lessE : Expr → Expr → E3 → E3 → E3
+lessE S M f b = record { x = S :* f .x :- M :* b .x; y = S :* f .y :- M :* b .y; z = S :* f .z :- M :* b .z }
+
+less-along : (S M : ℤ) (f b p : V3) → dot (less S M f b) p ≡ S *ℤ dot f p -ℤ M *ℤ dot b p
+less-along S M f b p = ringV 4
+    (λ f b p s. dotE (lessE (s .x) (s .y) f b) p :≡ s .x :* dotE f p :- s .y :* dotE b p)
+    refl f b p (record { x = S; y = M; z = pos 0 })
+
+less-square : (S M : ℤ) (f b : V3) → dot (less S M f b) (less S M f b) ≡ S *ℤ S *ℤ dot f f -ℤ pos 2 *ℤ S *ℤ M *ℤ dot f b +ℤ M *ℤ M *ℤ dot b b
+less-square S M f b = ringV 3
+    (λ f b s. dotE (lessE (s .x) (s .y) f b) (lessE (s .x) (s .y) f b)
+    :≡ s .x :* s .x :* dotE f f :- con (pos 2) :* s .x :* s .y :* dotE f b :+ s .y :* s .y :* dotE b b)
+    refl f b (record { x = S; y = M; z = pos 0 })
+
+-- Cauchy and Schwarz of S f − M b and p
+pub difference-bound : (S M : ℤ) (f b p : V3)
+    → ((S *ℤ dot f p -ℤ M *ℤ dot b p) *ℤ (S *ℤ dot f p -ℤ M *ℤ dot b p))
+    ≤ℤ ((S *ℤ S *ℤ dot f f -ℤ pos 2 *ℤ S *ℤ M *ℤ dot f b +ℤ M *ℤ M *ℤ dot b b) *ℤ dot p p)
+difference-bound S M f b p =
+    subst (λ z. (z *ℤ z) ≤ℤ ((S *ℤ S *ℤ dot f f -ℤ pos 2 *ℤ S *ℤ M *ℤ dot f b +ℤ M *ℤ M *ℤ dot b b) *ℤ dot p p)) (less-along S M f b p)
+    (subst (λ z. (dot (less S M f b) p *ℤ dot (less S M f b) p) ≤ℤ (z *ℤ dot p p)) (less-square S M f b) (cauchy-schwarz (less S M f b) p))

@@ -1,5 +1,6 @@
 -- Two trixels that show what 'V > 0' and 'every b·r > 0' are for: in each, that condition alone decides, and a point of the trixel would
--- be classified wrongly without it. The facts hold by computing. Assumes nothing.
+-- be classified wrongly without it. And caps beside each edge of the first of them, one that ends just before the edge's plane and one that touches it, for
+-- both signs of the offset. The facts hold by computing. Assumes nothing.
 use mathlib.Core.Path.{_≡_, refl}
 use mathlib.Core.Bool.{true, false}
 use lib.IntN.{pos, negℤ}
@@ -11,7 +12,9 @@ use Rattle.mesh.specs.declared.Trixel.{Trixel}
 use Rattle.mesh.proofs.Path.{Inside}
 use Rattle.region.specs.declared.Halfspace.{Halfspace}
 use Rattle.region.specs.Regions.{holdsHalfspace}
-use Rattle.classify.specs.Shape.{positive, volume, eOf, fOf, DOf, GOf, ahead, reaches, bOf, EOf, within, far, apart}
+use Rattle.classify.specs.declared.Class.the-variants.{Outside, Partial, Full}
+use Rattle.classify.specs.Shape.{positive, volume, eOf, fOf, DOf, GOf, ahead, reaches, bOf, EOf, within, far, beyondEdge, apart}
+use Rattle.classify.specs.Classes.{halfspaceClass}
 
 -- ---- V > 0: an octant with its three normals turned inside out
 
@@ -75,7 +78,7 @@ backward = record { n = vec (negℤ K) (pos 0) (pos 0); d = pos 524288 }
 
 -- not apart, and only the second ray says so
 behind : apart backward behindTrixel ≡ false
-unfolding apart bOf EOf greatest unit root rootIn
+unfolding apart beyondEdge bOf EOf greatest unit root rootIn
 behind = refl
 
 behind-volume : positive (volume behindTrixel) ≡ true
@@ -107,3 +110,30 @@ behind-inside = record { in0 = leZ-yes tt; in1 = leZ-yes tt; in2 = leZ-yes tt }
 
 behind-held : holdsHalfspace backward (behindTrixel .v1) ≡ true
 behind-held = refl
+
+-- ---- an edge: caps of 45 degrees around directions 45 degrees from the plane of one of the three edges of the trixel that is turned inside out. Where D is
+-- 741456 the cap ends before that plane, where D is 741455 it touches it. V > 0 is not asked, so the bounding cap plays no part.
+
+abbrev beside : Vec3 → Halfspace
+beside n = record { n = n; d = pos 741458 }
+
+first-edge : halfspaceClass (beside (vec (pos 741455) (negℤ (pos 741455)) (pos 0))) turnedTrixel ≡ Outside
+unfolding halfspaceClass within apart beyondEdge
+first-edge = refl
+
+second-edge : halfspaceClass (beside (vec (pos 0) (pos 741455) (negℤ (pos 741455)))) turnedTrixel ≡ Outside
+unfolding halfspaceClass within apart beyondEdge
+second-edge = refl
+
+third-edge : halfspaceClass (beside (vec (negℤ (pos 741455)) (pos 0) (pos 741455))) turnedTrixel ≡ Outside
+unfolding halfspaceClass within apart beyondEdge
+third-edge = refl
+
+-- the same cap, left out
+left-out : halfspaceClass (record { n = vec (negℤ (pos 741455)) (pos 741455) (pos 0); d = negℤ (pos 741458) }) turnedTrixel ≡ Full
+unfolding halfspaceClass within apart beyondEdge
+left-out = refl
+
+touching : halfspaceClass (record { n = vec (pos 741455) (negℤ (pos 741455)) (pos 0); d = pos 741457 }) turnedTrixel ≡ Partial
+unfolding halfspaceClass within apart beyondEdge
+touching = refl

@@ -11,4 +11,4 @@ pub never-both : (h : Halfspace) (t : Trixel) → within h t ≡ true → apart 
 unfolding within
 never-both h t w a =
     let all = sym (by-rays (fOf h) (GOf (eOf h)) t) ∙ and-right (positive (volume t)) _ w in
-    true≢false (sym a ∙ refutes-apart h t (or-left _ (and-left (passes (fOf h) (GOf (eOf h)) (ray0 t)) _ all)))
+    true≢false (sym a ∙ refutes-apart h t (and-left (positive (volume t)) _ w) (or-left _ (and-left (passes (fOf h) (GOf (eOf h)) (ray0 t)) _ all)))

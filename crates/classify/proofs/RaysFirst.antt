@@ -1,28 +1,29 @@
--- Rays first. One ray that passes with G refutes apart: a ray r is itself a direction of the trixel, so that b reaches it by E, and f reaches it by G
--- and by D, which is not above G: against the separation lemma at p = r. Assumes nothing.
+-- Rays first. Where V > 0, one ray that passes with G refutes apart: the ray is itself a direction inside the trixel, and f reaches it by G and by D, which is
+-- not above G. Assumes nothing.
 --   passes f g r                     f·r > 0 and (f·r)² ≥ g² (r·r)
 --   allPass f g t, onePasses f g t   all rays of t do; at least one does
 use Prim.Native.Nat.{ℕ, _*_, _+_, _/_}
 use native.Mathlib.Omega.{arith}
-use mathlib.Core.Path.{_≡_, sym, _∙_}
+use mathlib.Core.Path.{_≡_}
 use mathlib.Core.Bool.{true, false, _&&_, Bool, _||_}
 use lib.Dec.{le→leb, leb}
-use lib.IntN.{ℤ, pos, natAbs, _-ℤ_, _*ℤ_}
+use lib.IntN.{ℤ, pos, natAbs}
 use lib.Signed.{_≤ℤ_, leZ-yes}
 use Rattle.algebra.proofs.Order.{nn-pos}
 use Rattle.algebra.proofs.Inequalities.{<ℤ→≤ℤ, factor-positive}
 use Rattle.algebra.proofs.Vec.{cauchy-schwarz, dot-nn}
 use Rattle.algebra.proofs.Cone.{Far}
-use Rattle.algebra.proofs.Separation.{separation}
-use Rattle.algebra.proofs.Tests.{split, and-left, and-right, and-both, and-pairs, or-cases, le-yes, lt-yes}
+use Rattle.algebra.proofs.Plane.{edge-front, turned-volume}
+use Rattle.algebra.proofs.Tests.{split, and-left, and-right, and-pairs, or-cases, le-yes, lt-yes}
 use Rattle.vector.specs.declared.Vec3.{Vec3}
 use Rattle.vector.specs.Vectors.{dot}
 use Rattle.vector.proofs.VectorLaws.{v3}
 use Rattle.mesh.specs.declared.Trixel.{Trixel}
+use Rattle.mesh.proofs.Path.{Inside}
 use Rattle.region.specs.declared.Halfspace.{Halfspace}
-use Rattle.classify.specs.Shape.{square, positive, ray0, ray1, ray2, volume, eOf, fOf, DOf, GOf, ahead, reachesRay, reaches, bOf, EOf, far, apart, apartBy}
+use Rattle.classify.specs.Shape.{square, positive, ray0, ray1, ray2, volume, eOf, fOf, DOf, GOf, ahead, reachesRay, reaches, apart, apartBy}
 use Rattle.classify.proofs.ELaws.{smaller}
-use Rattle.classify.proofs.WithinApart.{E-reaches}
+use Rattle.classify.proofs.WithinApart.{not-apart}
 
 unfoldable pub passes : Vec3 → ℤ → Vec3 → Bool
 passes f g r = positive (dot f r) && reachesRay f g r
@@ -41,18 +42,6 @@ pub passes-far : (f : Vec3) (g : ℤ) (r : Vec3) → passes f g r ≡ true → F
 unfolding passes
 passes-far f g r e = record { front = <ℤ→≤ℤ (lt-yes (and-left (positive (dot f r)) _ e)); far = le-yes (and-right (positive (dot f r)) _ e) }
 
--- a ray that f and b pass, f by a number not below D: f and b are not far apart
-near-both : (f b r : Vec3) (D G E : ℤ) → pos 0 ≤ℤ D → D ≤ℤ G → passes f G r ≡ true → passes b E r ≡ true → far f D b E ≡ true → ⊥
-unfolding passes
-near-both f b r D G E n l p k a =
-    let near : Far (v3 f) (v3 r) G = passes-far f G r p in
-    separation (v3 f) (v3 b) (v3 r) D E
-    (factor-positive (dot f r) (dot f f) (dot r r) (lt-yes (and-left (positive (dot f r)) _ p)) (cauchy-schwarz (v3 f) (v3 r)) (dot-nn (v3 f)))
-    (record { front = near .front; far = smaller D G (dot r r) (square (dot f r)) n l (dot-nn (v3 r)) (near .far) })
-    (passes-far b E r k)
-    (lt-yes (and-left (positive (D *ℤ E -ℤ dot f b)) _ a))
-    (lt-yes (and-right (positive (D *ℤ E -ℤ dot f b)) _ a))
-
 -- ---- the three rays of a trixel
 
 -- ahead of all rays and reaching all is passing all
@@ -62,27 +51,42 @@ by-rays f g t = and-pairs
     (positive (dot f (ray0 t))) (positive (dot f (ray1 t))) (positive (dot f (ray2 t)))
     (reachesRay f g (ray0 t)) (reachesRay f g (ray1 t)) (reachesRay f g (ray2 t))
 
-module _ (f : Vec3) (e : ℕ) (t : Trixel) where
-  -- where b is ahead, every ray passes with b and E
-  middle-passes : apartBy f (DOf (pos e)) t ≡ true → allPass (bOf t) (EOf t) t ≡ true
-  middle-passes a = sym (by-rays (bOf t) (EOf t) t) ∙ and-both (and-left (ahead (bOf t) t) _ (and-right (positive (volume t)) _ a)) (E-reaches t)
+-- where V > 0 a ray is inside the trixel
+module _ (t : Trixel) (v : positive (volume t) ≡ true) where
+  inside0 : Inside (ray0 t) t
+  inside0 =
+      let e = edge-front (v3 (t .p0)) (v3 (t .p1)) (v3 (t .p2)) (lt-yes v) in
+      record { in0 = e .0; in1 = e .1; in2 = e .2 }
 
-  refutes : (r : Vec3) → (allPass (bOf t) (EOf t) t ≡ true → passes (bOf t) (EOf t) r ≡ true) → passes f (GOf (pos e)) r ≡ true → apartBy f (DOf (pos e)) t ≡ false
-  refutes r b p = split (apartBy f (DOf (pos e)) t)
-      (λ a. absurd (near-both f (bOf t) r (DOf (pos e)) (GOf (pos e)) (EOf t) (nn-pos (e * 1048576 / 1048578)) (D-below-G e) p (b (middle-passes a))
-      (and-right (ahead (bOf t) t) _ (and-right (positive (volume t)) _ a))))
+  inside1 : Inside (ray1 t) t
+  inside1 =
+      let e = edge-front (v3 (t .p1)) (v3 (t .p2)) (v3 (t .p0)) (turned-volume (v3 (t .p0)) (v3 (t .p1)) (v3 (t .p2)) (lt-yes v)) in
+      record { in0 = e .2; in1 = e .0; in2 = e .1 }
+
+  inside2 : Inside (ray2 t) t
+  inside2 =
+      let w = turned-volume (v3 (t .p0)) (v3 (t .p1)) (v3 (t .p2)) (lt-yes v) in
+      let e = edge-front (v3 (t .p2)) (v3 (t .p0)) (v3 (t .p1)) (turned-volume (v3 (t .p1)) (v3 (t .p2)) (v3 (t .p0)) w) in
+      record { in0 = e .1; in1 = e .2; in2 = e .0 }
+
+module _ (f : Vec3) (e : ℕ) (t : Trixel) where
+  refutes : (r : Vec3) → Inside r t → passes f (GOf (pos e)) r ≡ true → apartBy f (DOf (pos e)) t ≡ false
+  unfolding passes
+  refutes r i p =
+      let D = DOf (pos e) in
+      let near : Far (v3 f) (v3 r) (GOf (pos e)) = passes-far f (GOf (pos e)) r p in
+      split (apartBy f D t)
+      (λ a. absurd (not-apart r t i
+      (factor-positive (dot f r) (dot f f) (dot r r) (lt-yes (and-left (positive (dot f r)) _ p)) (cauchy-schwarz (v3 f) (v3 r)) (dot-nn (v3 f)))
+      f D (record { front = near .front; far = smaller D (GOf (pos e)) (dot r r) (square (dot f r)) (nn-pos (e * 1048576 / 1048578)) (D-below-G e) (dot-nn (v3 r)) (near .far) })
+      a))
       (λ n. n)
 
-  pub one-refutes : onePasses f (GOf (pos e)) t ≡ true → apartBy f (DOf (pos e)) t ≡ false
-  one-refutes p =
-      let b0 = passes (bOf t) (EOf t) (ray0 t) in
-      let b1 = passes (bOf t) (EOf t) (ray1 t) in
-      let b2 = passes (bOf t) (EOf t) (ray2 t) in
-      or-cases (passes f (GOf (pos e)) (ray0 t)) _ p (refutes (ray0 t) (and-left b0 (b1 && b2)))
-      (λ q. or-cases (passes f (GOf (pos e)) (ray1 t)) _ q
-      (refutes (ray1 t) (λ a. and-left b1 b2 (and-right b0 (b1 && b2) a)))
-      (refutes (ray2 t) (λ a. and-right b1 b2 (and-right b0 (b1 && b2) a))))
+  pub one-refutes : positive (volume t) ≡ true → onePasses f (GOf (pos e)) t ≡ true → apartBy f (DOf (pos e)) t ≡ false
+  one-refutes v p =
+      or-cases (passes f (GOf (pos e)) (ray0 t)) _ p (refutes (ray0 t) (inside0 t v))
+      (λ q. or-cases (passes f (GOf (pos e)) (ray1 t)) _ q (refutes (ray1 t) (inside1 t v)) (refutes (ray2 t) (inside2 t v)))
 
-pub refutes-apart : (h : Halfspace) (t : Trixel) → onePasses (fOf h) (GOf (eOf h)) t ≡ true → apart h t ≡ false
+pub refutes-apart : (h : Halfspace) (t : Trixel) → positive (volume t) ≡ true → onePasses (fOf h) (GOf (eOf h)) t ≡ true → apart h t ≡ false
 unfolding apart
 refutes-apart h t = one-refutes (fOf h) (natAbs (h .d)) t

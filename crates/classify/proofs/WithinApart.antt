@@ -1,6 +1,7 @@
 -- What the two tests say of a point p inside the trixel: within gives f·p > e·K, apart gives f·p < e·K.
 -- Within: by the cone lemma (f·p)² ≥ G² (p·p) ≥ (G (K − 2))², and G (K − 2) > e K.
--- Apart: by the cone lemma (b·p)² ≥ E² (p·p). If f·p ≥ e K ≥ D (K + 2) then (f·p)² ≥ D² (p·p), against the separation lemma. Assumes nothing.
+-- Apart: if f·p ≥ e K ≥ D (K + 2) then (f·p)² ≥ D² (p·p). By the bounding cap: (b·p)² ≥ E² (p·p), by the cone lemma, against the separation lemma. By
+-- an edge: P·p ≥ 0, against the plane lemma. Assumes nothing.
 use Prim.Native.Nat.{ℕ, _+_, _*_, _/_}
 use native.Mathlib.Omega.{arith}
 use mathlib.Core.Path.{_≡_, refl, sym, subst}
@@ -8,14 +9,15 @@ use mathlib.Core.Bool.{true, _&&_}
 use mathlib.Core.List.{[], _∷_}
 use lib.Dec.{le→leb, lt→ltb}
 use lib.IntN.{ℤ, pos, natAbs, _-ℤ_, _*ℤ_, zero-*ℤ}
-use lib.Signed.{_≤ℤ_, _<ℤ_, leZ-yes, ltZ-yes, <ℤ-≤ℤ-trans}
+use lib.Signed.{ltZ, _≤ℤ_, _<ℤ_, leZ-yes, ltZ-yes, <ℤ-≤ℤ-trans}
 use Rattle.algebra.proofs.Ring.{_:*_}
 use Rattle.algebra.proofs.Claim.{_:≤_, nat, hyp, sq, _⊕_, _⊗_, prove}
 use Rattle.algebra.proofs.Order.{by-order, ≤ℤ-trans, nn-sq, nn-pos}
 use Rattle.algebra.proofs.Inequalities.{`0, <ℤ→≤ℤ, sq-≤ℤ}
-use Rattle.algebra.proofs.Tests.{and-left, and-right, and-both, le-yes, lt-yes, yes-le}
+use Rattle.algebra.proofs.Tests.{and-left, and-right, and-both, or-cases, le-yes, lt-yes, yes-le}
 use Rattle.algebra.proofs.Cone.{Far, cone}
 use Rattle.algebra.proofs.Separation.{separation}
+use Rattle.algebra.proofs.Plane.{beyond-plane}
 use Rattle.vector.specs.declared.Vec3.{Vec3}
 use Rattle.vector.specs.Numbers.{K, Kℕ}
 use Rattle.vector.specs.Vectors.{dot}
@@ -24,7 +26,7 @@ use Rattle.vector.proofs.GreatestLaws.{greatest-passes}
 use Rattle.mesh.specs.declared.Trixel.{Trixel}
 use Rattle.mesh.proofs.Path.{Inside}
 use Rattle.region.specs.declared.Halfspace.{Halfspace}
-use Rattle.classify.specs.Shape.{square, positive, ray0, ray1, ray2, volume, eOf, fOf, DOf, GOf, ahead, reachesRay, reaches, bOf, EOf, within, far, apart}
+use Rattle.classify.specs.Shape.{square, positive, ray0, ray1, ray2, volume, eOf, fOf, DOf, GOf, ahead, reachesRay, reaches, bOf, EOf, within, far, byCap, beyondEdge, beyond, apart, apartBy}
 
 -- ---- the cone lemma, from the tests
 
@@ -86,6 +88,32 @@ pub E-reaches : (t : Trixel) → reaches (bOf t) (EOf t) t ≡ true
 unfolding EOf
 E-reaches t = greatest-passes (λ n. reaches (bOf t) (pos n) t) Kℕ (and-both (no-reach (bOf t) (ray0 t)) (and-both (no-reach (bOf t) (ray1 t)) (no-reach (bOf t) (ray2 t))))
 
+-- ---- a direction inside the trixel is not within reach of what is apart
+
+module _ (p : Vec3) (t : Trixel) (i : Inside p t) (n : pos 0 <ℤ dot p p) (f : Vec3) (D : ℤ) (near : Far (v3 f) (v3 p) D) where
+  not-by-cap : byCap f D t ≡ true → ⊥
+  not-by-cap a =
+      let vol = and-left (positive (volume t)) (ahead (bOf t) t && far f D (bOf t) (EOf t)) a in
+      let rest = and-right (positive (volume t)) (ahead (bOf t) t && far f D (bOf t) (EOf t)) a in
+      let b : Far (v3 (bOf t)) (v3 p) (EOf t) = reach p t i (bOf t) (EOf t) vol (and-left (ahead (bOf t) t) (far f D (bOf t) (EOf t)) rest) (E-reaches t) in
+      let w = and-right (ahead (bOf t) t) (far f D (bOf t) (EOf t)) rest in
+      separation (v3 f) (v3 (bOf t)) (v3 p) D (EOf t) n near b
+      (lt-yes (and-left (positive (D *ℤ EOf t -ℤ dot f (bOf t))) _ w))
+      (lt-yes (and-right (positive (D *ℤ EOf t -ℤ dot f (bOf t))) _ w))
+
+  not-beyond-edge : (P : Vec3) → pos 0 ≤ℤ dot P p → beyondEdge f D P ≡ true → ⊥
+  unfolding beyondEdge
+  not-beyond-edge P front w = beyond-plane (v3 f) (v3 P) (v3 p) D n near front
+      (lt-yes (and-left (ltZ (dot f P) (pos 0)) _ w))
+      (lt-yes (and-right (ltZ (dot f P) (pos 0)) _ w))
+
+  not-beyond : beyond f D t ≡ true → ⊥
+  not-beyond w = or-cases (beyondEdge f D (t .p0)) _ w (not-beyond-edge (t .p0) (i .in0))
+      (λ w. or-cases (beyondEdge f D (t .p1)) _ w (not-beyond-edge (t .p1) (i .in1)) (not-beyond-edge (t .p2) (i .in2)))
+
+  pub not-apart : apartBy f D t ≡ true → ⊥
+  not-apart a = or-cases (byCap f D t) (beyond f D t) a not-by-cap not-beyond
+
 -- ---- the two tests
 
 module _ (p : Vec3) (l : Long p) (t : Trixel) (i : Inside p t) (h : Halfspace) where
@@ -102,16 +130,10 @@ module _ (p : Vec3) (l : Long p) (t : Trixel) (i : Inside p t) (h : Halfspace) w
   unfolding apart
   apart-below a =
       let e : ℕ = natAbs (h .d) in
-      let vol = and-left (positive (volume t)) (ahead (bOf t) t && far (fOf h) (DOf (eOf h)) (bOf t) (EOf t)) a in
-      let rest = and-right (positive (volume t)) (ahead (bOf t) t && far (fOf h) (DOf (eOf h)) (bOf t) (EOf t)) a in
-      let b : Far (v3 (bOf t)) (v3 p) (EOf t) = reach p t i (bOf t) (EOf t) vol (and-left (ahead (bOf t) t) (far (fOf h) (DOf (eOf h)) (bOf t) (EOf t)) rest) (E-reaches t) in
-      let f = and-right (ahead (bOf t) t) (far (fOf h) (DOf (eOf h)) (bOf t) (EOf t)) rest in
       by-order (dot (fOf h) p) (eOf h *ℤ K) (λ below. below)
       (λ above.
       let q : (DOf (pos e) *ℤ pos 1048578) ≤ℤ dot (fOf h) p = ≤ℤ-trans (D-below e) above in
       let n : pos 0 ≤ℤ (DOf (pos e) *ℤ pos 1048578) = nn-pos (e * 1048576 / 1048578 * 1048578) in
-      absurd (separation (v3 (fOf h)) (v3 (bOf t)) (v3 p) (DOf (pos e)) (EOf t) (positive-square (dot p p) (l .low))
+      absurd (not-apart p t i (positive-square (dot p p) (l .low)) (fOf h) (DOf (pos e))
       (record { front = ≤ℤ-trans n q; far = down (DOf (pos e)) (pos 1048578) (dot p p) (dot (fOf h) p) (l .high) n q })
-      b
-      (lt-yes (and-left (positive (DOf (eOf h) *ℤ EOf t -ℤ dot (fOf h) (bOf t))) _ f))
-      (lt-yes (and-right (positive (DOf (eOf h) *ℤ EOf t -ℤ dot (fOf h) (bOf t))) _ f))))
+      a))

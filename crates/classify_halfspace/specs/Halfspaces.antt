@@ -1,20 +1,27 @@
--- The class of a trixel for one halfspace, by what was prepared of it. Document 01, 'Classifying'.
+-- The class of a trixel for one halfspace, by what was prepared of it. Document 01, 'Classifying', and document 02, F-8.
 --   judged q t           the class of t for the halfspace that q was prepared from (proofs/JudgedLaws: it is halfspaceClass)
 --   enclosed f D G b E               the cap of b and E lies in that of f and G, by a test that is enough (proofs/Enclosing)
---   withinClass q t                  the class where apart does not hold
 --   classWithin d, classApart d      the class where within holds, and where apart holds
 --   apartClass q t                   the class where within does not hold
-use Prim.Native.Nat.{_*_}
+--   edgesClass q t                   the class where within does not hold, nor apart by the bounding cap
+--   raysClass q t                    the class where apart does not hold by the bounding cap
+--   NormalsIn t ps                   the normals of t stand in ps behind its corners, and are within ±K
+use Prim.Native.Nat.{_*_, _≤_}
+use mathlib.Core.Path.{_≡_}
 use mathlib.Core.Bool.{Bool, cond, _&&_}
+use mathlib.Core.List.{List}
+use lib.ListN.{length}
 use lib.IntN.{ℤ, _-ℤ_, _*ℤ_}
 use lib.Signed.{nonNeg, leZ, ltZ}
 use Rattle.vector.specs.declared.Vec3.{Vec3}
 use Rattle.vector.specs.Vectors.{dot}
+use Rattle.vector_products.specs.Stored.{vecIn}
 use Rattle.mesh.specs.declared.Trixel.{Trixel}
+use Rattle.mesh_trixels.specs.Corners.{SmallTrixel}
 use Rattle.classify.specs.declared.Class.{Class}
 use Rattle.classify.specs.declared.Class.the-variants.{Outside, Partial, Full}
 use Rattle.classify_measures.specs.declared.PreparedHalfspace.{PreparedHalfspace}
-use Rattle.classify.specs.Shape.{square, positive, withinBy, apartBy}
+use Rattle.classify.specs.Shape.{square, positive, withinBy, beyond, apartBy}
 
 unfoldable pub judged : PreparedHalfspace → Trixel → Class
 judged q t =
@@ -39,5 +46,15 @@ classApart d = cond (nonNeg d) Outside Full
 unfoldable pub apartClass : PreparedHalfspace → Trixel → Class
 apartClass q t = cond (apartBy (q .f) (q .low) t) (classApart (q .d)) Partial
 
-unfoldable pub withinClass : PreparedHalfspace → Trixel → Class
-withinClass q t = cond (withinBy (q .f) (q .high) t) (classWithin (q .d)) Partial
+unfoldable pub edgesClass : PreparedHalfspace → Trixel → Class
+edgesClass q t = cond (beyond (q .f) (q .low) t) (classApart (q .d)) Partial
+
+unfoldable pub raysClass : PreparedHalfspace → Trixel → Class
+raysClass q t = cond (withinBy (q .f) (q .high) t) (classWithin (q .d)) (edgesClass q t)
+
+pub record NormalsIn (t : Trixel) (ps : List ℤ) : Type 0 where
+  pub room : 18 ≤ length ps
+  pub p0 : vecIn ps 9 ≡ t .p0
+  pub p1 : vecIn ps 12 ≡ t .p1
+  pub p2 : vecIn ps 15 ≡ t .p2
+  pub small : SmallTrixel t

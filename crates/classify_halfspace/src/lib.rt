@@ -1,5 +1,5 @@
-// The class of a trixel for one halfspace: by the bounding cap, and by the rays where that does not tell. The rule is `halfspaceClass` of
-// classify/specs/Classes, the tests on the way stand in specs/Halfspaces.
+// The class of a trixel for one halfspace: by the bounding cap, by the rays where that does not tell, and by the edges where these do not tell. The rule
+// is `halfspaceClass` of classify/specs/Classes, the tests on the way stand in specs/Halfspaces.
 use classify::Class;
 use classify_measures::PreparedHalfspace;
 use classify_measures::TrixelRays;
@@ -7,14 +7,17 @@ use classify_middle::BoundingCap;
 use mesh::Trixel;
 ghost use mathlib.Core.Path.{_≡_};
 ghost use mathlib.Core.Bool.{true, _&&_};
-ghost use Prim.Native.Nat.{_-_, _*_, _^_, _≤_};
+ghost use Prim.Native.Nat.{_+_, _-_, _*_, _^_, _≤_};
 ghost use lib.Dec.{ltb};
 ghost use lib.IntN.{_*ℤ_};
 ghost use lib.Signed.{ltZ};
 ghost use Rattle.algebra.proofs.Sizes.{Upto};
+ghost use Rattle.vector.proofs.Sizes.{Small};
+ghost use Rattle.vector_products.specs.Stored.{vecIn};
+ghost use lib.ListN.{length};
 ghost use Rattle.classify.specs.Shape as rule;
 ghost use Rattle.classify.specs.Shape.{positive, ahead, bOf, EOf, volume};
-ghost use Rattle.classify_halfspace.specs.Halfspaces.{enclosed, judged, classWithin, classApart, withinClass, apartClass};
+ghost use Rattle.classify_halfspace.specs.Halfspaces.{enclosed, judged, classWithin, classApart, apartClass, edgesClass, raysClass, NormalsIn};
 ghost use Rattle.classify_measures.specs.Measures.{SoundHalfspace, Rest, RaysOf};
 ghost use Rattle.classify_middle.specs.Middle.{IsBoundingCap};
 
@@ -121,24 +124,60 @@ pub fn class_apart(d: i64) -> Class
     Class::Outside
 }
 
-// The class by the rays, where apart does not hold.
-fn class_by_rays(t: Trixel, s: TrixelRays, q: PreparedHalfspace) -> Class
-    requires { ⌜ RaysOf t s × (s .solid ≡ true) ⌝ }
+// Whether f·P < 0 and (P·P)(f·f − D²) < (f·P)², for the normal P of an edge, which stands in ps from number k on.
+fn beyond_edge(q: PreparedHalfspace, ps: &[i64], k: usize) -> bool
     requires { ⌜ SoundHalfspace q ⌝ }
-    ensures { λ r. ⌜ r ≡ withinClass q t ⌝ }
+    requires { ⌜ (k + 3 ≤ length (now ps)) × Small (vecIn (now ps) k) ⌝ }
+    ensures { λ r. ⌜ r ≡ rule.beyondEdge (q .f) (q .low) (vecIn (now (ps .entry)) k) ⌝ }
+{
+    let f = q.f;
+    let p = vector_products::vec_in(ps, k);
+    let behind = -vector_products::dot(f, p);
+    beyond(behind, q.rest, vector_products::dot(p, p))
+}
+
+// The class by the edges, where within does not hold, nor apart by the bounding cap. The normals are read from the numbers of the trixel, so that these
+// stay where they lie.
+pub fn class_by_edges(t: Trixel, ps: &[i64], q: PreparedHalfspace) -> Class
+    requires { ⌜ NormalsIn t (now ps) ⌝ }
+    requires { ⌜ SoundHalfspace q ⌝ }
+    ensures { λ r. ⌜ r ≡ edgesClass q t ⌝ }
+{
+    if beyond_edge(q, ps, 9) {
+        return class_apart(q.d);
+    }
+    if beyond_edge(q, ps, 12) {
+        return class_apart(q.d);
+    }
+    if beyond_edge(q, ps, 15) {
+        return class_apart(q.d);
+    }
+    Class::Partial
+}
+
+// The class by the rays, where apart does not hold by the bounding cap, and by the edges where not all rays pass. A great circle is beyond no edge.
+fn class_by_rays(t: Trixel, s: TrixelRays, ps: &[i64], q: PreparedHalfspace) -> Class
+    requires { ⌜ RaysOf t s × (s .solid ≡ true) ⌝ }
+    requires { ⌜ NormalsIn t (now ps) ⌝ }
+    requires { ⌜ SoundHalfspace q ⌝ }
+    ensures { λ r. ⌜ r ≡ raysClass q t ⌝ }
 {
     let f = q.f;
     let all = classify_rays::all_pass(f, q.high, s);
     if all {
         return class_within(q.d);
     }
-    Class::Partial
+    if q.low <= 0 {
+        return Class::Partial;
+    }
+    class_by_edges(t, ps, q)
 }
 
-// The class by the middle, where within does not hold.
-pub fn class_by_middle(t: Trixel, m: BoundingCap, q: PreparedHalfspace) -> Class
+// The class by the middle, where within does not hold, and by the edges where f is not far.
+pub fn class_by_middle(t: Trixel, m: BoundingCap, ps: &[i64], q: PreparedHalfspace) -> Class
     requires { ⌜ positive (volume t) ≡ true ⌝ }
     requires { ⌜ IsBoundingCap t m ⌝ }
+    requires { ⌜ NormalsIn t (now ps) ⌝ }
     requires { ⌜ SoundHalfspace q ⌝ }
     ensures { λ r. ⌜ r ≡ apartClass q t ⌝ }
 {
@@ -146,19 +185,20 @@ pub fn class_by_middle(t: Trixel, m: BoundingCap, q: PreparedHalfspace) -> Class
     if apart {
         class_apart(q.d)
     } else {
-        Class::Partial
+        class_by_edges(t, ps, q)
     }
 }
 
-// The class of t for the halfspace that q was prepared from. Of many halfspaces most are far from the trixel or enclose it; the rays are for the others.
-pub fn judge(t: Trixel, s: TrixelRays, m: BoundingCap, q: PreparedHalfspace) -> Class
+// The class of t for the halfspace that q was prepared from. Of many halfspaces most are far from the trixel or enclose it; rays and edges are for the others.
+pub fn judge(t: Trixel, s: TrixelRays, m: BoundingCap, ps: &[i64], q: PreparedHalfspace) -> Class
     requires { ⌜ RaysOf t s ⌝ }
     requires { ⌜ IsBoundingCap t m ⌝ }
+    requires { ⌜ NormalsIn t (now ps) ⌝ }
     requires { ⌜ SoundHalfspace q ⌝ }
     ensures { λ r. ⌜ r ≡ judged q t ⌝ }
 {
     if !s.solid {
-        return Class::Partial;
+        return class_by_edges(t, ps, q);
     }
     if far(q, t, m) {
         return class_apart(q.d);
@@ -166,5 +206,5 @@ pub fn judge(t: Trixel, s: TrixelRays, m: BoundingCap, q: PreparedHalfspace) -> 
     if encloses(q, t, m) {
         return class_within(q.d);
     }
-    class_by_rays(t, s, q)
+    class_by_rays(t, s, ps, q)
 }

@@ -14,6 +14,7 @@ ghost use lib.ListN.{length, drop};
 ghost use Rattle.mesh_trixels.specs.Corners.{SmallTrixel};
 ghost use Rattle.classify_measures.specs.Measures.{RaysOf};
 ghost use Rattle.classify_middle.specs.Middle.{IsBoundingCap};
+ghost use Rattle.classify_halfspace.specs.Halfspaces.{NormalsIn};
 ghost use Rattle.classify_places.specs.Near.{Placed, placeIn};
 ghost use Rattle.classify_region.specs.PreparedLists.{countIn, Ready, Classed};
 ghost use Rattle.classify_near.specs.Narrow.{Narrowed, BesideIn, ByOpen, openCount, SomeConvex, OpenedConvex, keptCount, keptList, SomeNarrowing, NarrowsOn};
@@ -241,30 +242,31 @@ fn by_open(t: Trixel, s: TrixelRays, m: BoundingCap, ys: &OpenHalves, marks: &Op
     classify_places::close(place_behind(ys), t, m)
 }
 
-// The class of a trixel for the region that was prepared to `xs` and `ends`: by the open halfspaces beside a place where there are some and the trixel
-// is close.
+// The class of a trixel, whose numbers stand in `ps`, for the region that was prepared to `xs` and `ends`: by the open halfspaces beside a place where there
+// are some and the trixel is close.
 pub fn class_near(
     t: Trixel,
     s: TrixelRays,
+    ps: &[i64],
     xs: &Halves,
     ends: &Ends,
     ys: &OpenHalves,
     marks: &OpenEnds,
 ) -> Class
-    requires { ⌜ SmallTrixel t × RaysOf t s ⌝ }
+    requires { ⌜ RaysOf t s × NormalsIn t (now ps) ⌝ }
     requires { ⌜ Ready (now xs) (now ends) (countIn (now ends)) ⌝ }
     requires { ⌜ BesideIn (now xs) (now ends) (now ys) (now marks) ⌝ }
     ensures { λ c. ⌜ Classed t (now (xs .entry)) (now (ends .entry)) (countIn (now (ends .entry))) c ⌝ }
 {
     let n = classify_region::count(ends);
     if n == 1 {
-        return classify_region::alone(t, s, xs, ends, n);
+        return classify_region::alone(t, s, ps, xs, ends, n);
     }
     let m = classify_middle::cap_of(t, classify_middle::middle_of(t), s);
     if by_open(t, s, m, ys, marks) {
-        return classify_region::scanned(t, s, m, ys, marks, open_count(marks));
+        return classify_region::scanned(t, s, m, ps, ys, marks, open_count(marks));
     }
-    classify_region::scanned(t, s, m, xs, ends, n)
+    classify_region::scanned(t, s, m, ps, xs, ends, n)
 }
 
 // Whether open halfspaces shall be looked for: there are many halfspaces, and none is known to be open.

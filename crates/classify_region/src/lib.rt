@@ -12,10 +12,10 @@ use vector::Vec3;
 ghost use mathlib.Core.Path.{_≡_};
 ghost use Prim.Native.Nat.{_+_, _*_, _≤_};
 ghost use lib.ListN.{length};
-ghost use Rattle.mesh_trixels.specs.Corners.{SmallTrixel};
 ghost use Rattle.classify.specs.Classes.{isOutside, isFull};
 ghost use Rattle.classify_measures.specs.Measures.{RaysOf};
 ghost use Rattle.classify_middle.specs.Middle.{IsBoundingCap};
+ghost use Rattle.classify_halfspace.specs.Halfspaces.{NormalsIn};
 ghost use Rattle.classify_region.specs.PreparedLists as halves;
 ghost use Rattle.classify_region.specs.PreparedLists.{preparedIn, countIn, Ready, Classed};
 
@@ -99,17 +99,18 @@ fn is_full(c: Class) -> bool
     }
 }
 
-// The class of a trixel for the region whose n halfspaces were prepared to `xs`, with the ends of its convexes in `ends`. The scan of a convex ends at its
-// first halfspace that leaves the trixel outside, that of the region at its first full convex.
+// The class of a trixel, whose numbers stand in `ps`, for the region whose n halfspaces were prepared to `xs`, with the ends of its convexes in `ends`. The
+// scan of a convex ends at its first halfspace that leaves the trixel outside, that of the region at its first full convex.
 pub fn scanned(
     t: Trixel,
     s: TrixelRays,
     m: BoundingCap,
+    ps: &[i64],
     xs: &[i64],
     ends: &[u64],
     n: usize,
 ) -> Class
-    requires { ⌜ RaysOf t s × IsBoundingCap t m ⌝ }
+    requires { ⌜ RaysOf t s × IsBoundingCap t m × NormalsIn t (now ps) ⌝ }
     requires { ⌜ Ready (now xs) (now ends) n ⌝ }
     ensures { λ r. ⌜ Classed t (now (xs .entry)) (now (ends .entry)) n r ⌝ }
 {
@@ -120,7 +121,7 @@ pub fn scanned(
         let end = ends[k] as usize;
         let mut class = Class::Full;
         'halfspaces: while i < end {
-            let c = classify_halfspace::judge(t, s, m, prepared_at(xs, 7 * i));
+            let c = classify_halfspace::judge(t, s, m, ps, prepared_at(xs, 7 * i));
             class = meet(class, c);
             if is_outside(class) {
                 break 'halfspaces;
@@ -138,15 +139,15 @@ pub fn scanned(
 }
 
 // The same for a region of one halfspace: the rays come first, for where one of them passes and where all do b and E are not needed.
-pub fn alone(t: Trixel, s: TrixelRays, xs: &[i64], ends: &[u64], n: usize) -> Class
-    requires { ⌜ SmallTrixel t × RaysOf t s ⌝ }
+pub fn alone(t: Trixel, s: TrixelRays, ps: &[i64], xs: &[i64], ends: &[u64], n: usize) -> Class
+    requires { ⌜ RaysOf t s × NormalsIn t (now ps) ⌝ }
     requires { ⌜ Ready (now xs) (now ends) n × (n ≡ 1) ⌝ }
     ensures { λ r. ⌜ Classed t (now (xs .entry)) (now (ends .entry)) n r ⌝ }
 {
-    if !s.solid {
-        return Class::Partial;
-    }
     let q = prepared_at(xs, 0);
+    if !s.solid {
+        return classify_halfspace::class_by_edges(t, ps, q);
+    }
     let f = q.f;
     let passed = classify_rays::count_passed(f, q.high, s);
     match passed {
@@ -154,7 +155,7 @@ pub fn alone(t: Trixel, s: TrixelRays, xs: &[i64], ends: &[u64], n: usize) -> Cl
         Passed::Some => Class::Partial,
         Passed::None => {
             let m = classify_middle::cap_of(t, classify_middle::middle_of(t), s);
-            classify_halfspace::class_by_middle(t, m, q)
+            classify_halfspace::class_by_middle(t, m, ps, q)
         }
     }
 }

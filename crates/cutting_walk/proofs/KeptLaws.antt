@@ -1,8 +1,9 @@
 -- A trixel that was kept with its first ray, and its other two rays: they are read back, and each of the first three children has a ray of the trixel as
 -- its first one, since it has two normals of the trixel as its second and third. Assumes nothing.
-use Prim.Native.Nat.{ℕ, _<_}
+use Prim.Native.Nat.{ℕ, _≤_, _<_}
 use mathlib.Core.Path.{_≡_, refl, sym, ap, subst, _∙_}
 use mathlib.Core.List.{List}
+use lib.ListN.{length}
 use lib.IntN.{ℤ}
 use Rattle.vector.specs.declared.Vec3.{Vec3}
 use Rattle.vector_products.specs.Stored.{vecIn}
@@ -13,6 +14,7 @@ use Rattle.mesh_trixels.specs.Corners.{SmallTrixel, SmallCut}
 use Rattle.classify_measures.specs.declared.TrixelRays.{TrixelRays}
 use Rattle.classify.specs.Shape.{ray0, ray1, ray2}
 use Rattle.classify_measures.specs.Measures.{RaysOf}
+use Rattle.classify_halfspace.specs.Halfspaces.{NormalsIn}
 use Rattle.classify_region.specs.PreparedLists.{countIn, Classed}
 use Rattle.cutting_walk.specs.declared.Judged.{Judged}
 use Rattle.cutting_walk.specs.Kept.{trixelIn, KeptTrixel, OtherRays, JudgedOf, CutParts, ChildKept}
@@ -24,6 +26,9 @@ module _ {ks : List ℤ} {t : Trixel} (e : t ≡ trixelIn ks) where
 
   pub first-kept : {r : Vec3} → KeptTrixel ks → r ≡ vecIn ks 18 → r ≡ ray0 t
   first-kept k q = q ∙ k .ray ∙ ap ray0 (sym e)
+
+  pub normals-kept : KeptTrixel ks → 18 ≤ length ks → NormalsIn t ks
+  normals-kept k l = subst (λ t. NormalsIn t ks) (sym e) (record { room = l; p0 = refl; p1 = refl; p2 = refl; small = k .small })
 
   -- what its children are made of
   pub parts-kept : {c : Cut} {r : Vec3} {j : Judged} → KeptTrixel ks → OtherRays (trixelIn ks) j → (c ≡ cut t) × SmallCut c → r ≡ vecIn ks 18 → CutParts t c r j

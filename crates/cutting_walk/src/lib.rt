@@ -97,7 +97,7 @@ fn judge(
 {
     let t = trixel_in(trixel);
     let s = classify_measures::measured(t, vector_products::vec_in(trixel, 18));
-    let class = classify_near::class_near(t, s, xs, ends, ys, marks);
+    let class = classify_near::class_near(t, s, trixel, xs, ends, ys, marks);
     let y1 = s.r1;
     let y2 = s.r2;
     let second = y1.r;

@@ -1,4 +1,5 @@
--- `classify_halfspace::judge` is the class: hollow, apart where f is far, within where the cap is enclosed, else by the rays. Assumes nothing.
+-- `classify_halfspace::judge` is the class: by the edges where V is not positive, apart where f is far, within where the cap is enclosed, else by the rays.
+-- Assumes nothing.
 use mathlib.Core.Path.{_≡_, sym, ap, _∙_}
 use mathlib.Core.Bool.{true}
 use borrow.Author.Tests.{not-true, not-false}
@@ -16,24 +17,25 @@ solid c = sym (c .before .before .pre .0 .solid) ∙ not-false _ (c .if1 .left)
 returns-2 : tie.Need-returns-2
 returns-2 c =
     let s = c .before .before .before .before .before .before in
-    c .class-apart .ensures ∙ ap classApart (held (sound-offset (s .pre .1 .1)) tt .eq)
-    ∙ sym (when-far (s .args .q) (s .args .t) (solid (c .before .before .before .before)) (s .pre .1 .1) (sym (c .before .before .before .far .ensures) ∙ c .before .before .if2 .taken))
+    c .class-apart .ensures ∙ ap classApart (held (sound-offset (s .pre .1 .1 .1)) tt .eq)
+    ∙ sym (when-far (s .args .q) (s .args .t) (solid (c .before .before .before .before)) (s .pre .1 .1 .1) (sym (c .before .before .before .far .ensures) ∙ c .before .before .if2 .taken))
 
 returns-3 : tie.Need-returns-3
 returns-3 c =
     let s = c .before .before .before .before .before .before .before .before in
-    c .class-within .ensures ∙ ap classWithin (held (sound-offset (s .pre .1 .1)) tt .eq)
-    ∙ sym (when-enclosed (s .args .q) (s .args .t) (solid (c .before .before .before .before .before .before)) (s .pre .1 .1) (sym (c .before .before .before .encloses .ensures) ∙ c .before .before .if3 .taken))
+    c .class-within .ensures ∙ ap classWithin (held (sound-offset (s .pre .1 .1 .1)) tt .eq)
+    ∙ sym (when-enclosed (s .args .q) (s .args .t) (solid (c .before .before .before .before .before .before)) (s .pre .1 .1 .1) (sym (c .before .before .before .encloses .ensures) ∙ c .before .before .if3 .taken))
 
 pub judge-spec : {M : Type 1} → statement M
 judge-spec =
     tie.close
     (tie.spec
-    (λ c. let s = c .before .before in sym (hollow (s .args .q) (s .args .t) (sym (s .pre .0 .solid) ∙ not-true _ (c .if1 .taken))))
-    (λ c κs. let p = c .before .before .pre .1 in (p .1, p .0))
+    (λ c κs. c .before .before .pre .1 .1)
+    (λ c. let s = c .before .before .before in c .class-by-edges .ensures ∙ sym (hollow (s .args .q) (s .args .t) (sym (s .pre .0 .solid) ∙ not-true _ (c .before .if1 .taken))))
+    (λ c κs. let p = c .before .before .pre .1 in (p .1 .1, p .0))
     (λ c κs. tt)
     returns-2
-    (λ c κs. let p = c .before .before .before .before .pre .1 in (p .1, p .0))
+    (λ c κs. let p = c .before .before .before .before .pre .1 in (p .1 .1, p .0))
     (λ c κs. tt)
     returns-3
     (λ c κs. let p = c .before .before .before .before .before .before .pre in ((p .0, not-false _ (c .before .before .before .before .if1 .left)), p .1 .1))

@@ -17,9 +17,9 @@ class-near-spec =
     (λ c κs. search needs)
     (λ c κs.
     let s = c .before .before .before .before .before .before .before .before .before in
-    ((s .pre .0 .1, c .before .before .before .before .before .cap-of .ensures), ready-count (c .open-count .ensures) (open-ready (s .pre .1 .1) (c .before .before .before .before .by-open .ensures (c .before .before .before .if2 .taken)) (s .pre .1 .0))))
+    ((s .pre .0 .0, c .before .before .before .before .before .cap-of .ensures, s .pre .0 .1), ready-count (c .open-count .ensures) (open-ready (s .pre .1 .1) (c .before .before .before .before .by-open .ensures (c .before .before .before .if2 .taken)) (s .pre .1 .0))))
     (λ c.
     by-open-in (c .before .before .before .before .before .before .before .before .before .before .pre .1 .1) (c .before .before .before .before .before .by-open .ensures (c .before .before .before .before .if2 .taken)) (c .before .before .before .before .before .before .cap-of .ensures)
     (λ g p. c .scanned .ensures g (prepared-count (c .before .open-count .ensures) p)))
-    (λ c κs. let s = c .before .before .before .before .before .before .before .before in ((s .pre .0 .1, c .before .before .before .before .cap-of .ensures), ready-count (c .before .before .before .before .before .before .before .count .ensures) (s .pre .1 .0)))
+    (λ c κs. let s = c .before .before .before .before .before .before .before .before in ((s .pre .0 .0, c .before .before .before .before .cap-of .ensures, s .pre .0 .1), ready-count (c .before .before .before .before .before .before .before .count .ensures) (s .pre .1 .0)))
     (λ c g p. c .scanned2 .ensures g (prepared-count (c .before .before .before .before .before .before .before .before .count .ensures) p)))

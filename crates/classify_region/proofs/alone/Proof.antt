@@ -1,4 +1,5 @@
--- `classify_region::alone` is the class for the only halfspace: by the rays, or by the middle where none passes. Assumes nothing.
+-- `classify_region::alone` is the class for the only halfspace: by the rays, by the middle where none passes, or by the edges where V is not positive.
+-- Assumes nothing.
 use mathlib.Core.Path.{_≡_, sym, ap, subst, _∙_}
 use mathlib.Core.Bool.{true}
 use borrow.Author.Needs.{needs}
@@ -11,64 +12,78 @@ use Rattle.classify_rays.specs.Rays.{raysPassed}
 use Rattle.classify_measures.proofs.PreparedLaws.{sound-small, sound-offset, sound-high}
 use Rattle.classify_rays.proofs.RayLaws.{own-rays, rays-passed}
 use Rattle.classify_halfspace.proofs.JudgedLaws.{hollow, when-all, when-some, when-none}
-use Rattle.classify_region.specs.PreparedLists.{preparedIn}
 use Rattle.classify_region.proofs.ScanLaws.{only-half, only-class}
 use Rattle.classify_region.proofs.alone.Statement.{statement}
 use Rattle.classify_region.proofs.alone.Tie as tie
 
 -- the halfspace is sound
 sound : (c : tie.After-prepared-at) → SoundHalfspace (c .prepared-at .result)
-sound c = let s = c .before .before .before .before in let r = s .pre .1 .0 in subst SoundHalfspace (sym (c .prepared-at .ensures)) (only-half (s .args .t) _ _ _ (r .0) (r .1) (s .pre .1 .1) .sound)
+sound c = let s = c .before .before in let r = s .pre .1 .0 in subst SoundHalfspace (sym (c .prepared-at .ensures)) (only-half (s .args .t) _ _ _ (r .0) (r .1) (s .pre .1 .1) .sound)
 
-solid : (c : tie.Else1) → positive (volume (c .before .before .before .args .t)) ≡ true
-solid c = sym (c .before .before .before .pre .0 .1 .solid) ∙ not-false _ (c .if1 .left)
+solid : (c : tie.Else1) → positive (volume (c .before .before .before .before .args .t)) ≡ true
+solid c = sym (c .before .before .before .before .pre .0 .0 .solid) ∙ not-false _ (c .if1 .left)
 
 -- how many rays of the trixel pass
-rays : (c : tie.After-count-passed) → c .count-passed .result ≡ raysPassed (c .before .before .before .prepared-at .result .f) (c .before .before .before .prepared-at .result .high) (c .before .before .before .before .before .before .before .args .t)
+rays : (c : tie.After-count-passed) → c .count-passed .result ≡ raysPassed (c .before .before .before .before .before .prepared-at .result .f) (c .before .before .before .before .before .prepared-at .result .high) (c .before .before .before .before .before .before .before .args .t)
 rays c =
+    let h = c .before .before .before .before .before in
+    rays-passed (h .prepared-at .result .f) (h .before .before .pre .0 .0) (held (sound-high (sound h)) tt .eq) (c .count-passed .ensures)
+
+-- by the edges, where V is not positive
+returns : tie.Need-returns
+returns c g p =
     let h = c .before .before .before in
-    rays-passed (h .prepared-at .result .f) (c .before .before .before .before .before .before .before .pre .0 .1) (held (sound-high (sound h)) tt .eq) (c .count-passed .ensures)
+    let s = h .before .before in
+    only-class _ _ _ _ g p (s .pre .1 .1)
+    (c .class-by-edges .ensures ∙ sym (hollow (h .prepared-at .result) (s .args .t) (sym (s .pre .0 .0 .solid) ∙ not-true _ (c .before .if1 .taken))) ∙ ap (λ q. judged q (s .args .t)) (h .prepared-at .ensures))
 
 returns-2 : tie.Need-returns-2
 returns-2 c g p =
     let a = c .before .before .before .before in
-    let h = c .before .before .before .before .before .before .before in
-    let s = c .before .before .before .before .before .before .before .before .before .before .before in
+    let e = a .before .before .before in
+    let h = e .before .before in
+    let s = h .before .before in
     only-class _ _ _ _ g p (s .pre .1 .1)
-    (c .class-within .ensures ∙ ap classWithin (held (sound-offset (sound h)) tt .eq) ∙ sym (when-all (h .prepared-at .result) (s .args .t) (solid (c .before .before .before .before .before .before .before .before)) (sym (rays a) ∙ c .before .before .enum-told .given .1)) ∙ ap (λ q. judged q (s .args .t)) (h .prepared-at .ensures))
+    (c .class-within .ensures ∙ ap classWithin (held (sound-offset (sound h)) tt .eq) ∙ sym (when-all (h .prepared-at .result) (s .args .t) (solid e) (sym (rays a) ∙ c .before .before .enum-told .given .1)) ∙ ap (λ q. judged q (s .args .t)) (h .prepared-at .ensures))
 
 returns-3 : tie.Need-returns-3
 returns-3 c g p =
     let a = c .before .before in
-    let h = c .before .before .before .before .before in
-    let s = c .before .before .before .before .before .before .before .before .before in
+    let e = a .before .before .before in
+    let h = e .before .before in
+    let s = h .before .before in
     only-class _ _ _ _ g p (s .pre .1 .1)
-    (sym (when-some (h .prepared-at .result) (s .args .t) (solid (c .before .before .before .before .before .before)) (sound h) (sym (rays a) ∙ c .enum-told2 .given .1)) ∙ ap (λ q. judged q (s .args .t)) (h .prepared-at .ensures))
+    (sym (when-some (h .prepared-at .result) (s .args .t) (solid e) (sound h) (sym (rays a) ∙ c .enum-told2 .given .1)) ∙ ap (λ q. judged q (s .args .t)) (h .prepared-at .ensures))
 
 by-middle : tie.Need-class-by-middle-requires
-by-middle c κs = (solid (c .before .before .before .before .before .before .before .before), (c .cap-of .ensures, sound (c .before .before .before .before .before .before .before)))
+by-middle c κs =
+    let e = c .before .before .before .before .before .before .before in
+    let h = e .before .before in
+    (solid e, (c .cap-of .ensures, (h .before .before .pre .0 .1, sound h)))
 
 returns-4 : tie.Need-returns-4
 returns-4 c g p =
     let a = c .before .before .before .before .before in
-    let h = a .before .before .before in
-    let s = h .before .before .before .before in
+    let e = a .before .before .before in
+    let h = e .before .before in
+    let s = h .before .before in
     only-class _ _ _ _ g p (s .pre .1 .1)
-    (c .class-by-middle .ensures ∙ sym (when-none (h .prepared-at .result) (s .args .t) (solid (h .before)) (sym (rays a) ∙ c .before .before .before .enum-told3 .given .1)) ∙ ap (λ q. judged q (s .args .t)) (h .prepared-at .ensures))
+    (c .class-by-middle .ensures ∙ sym (when-none (h .prepared-at .result) (s .args .t) (solid e) (sym (rays a) ∙ c .before .before .before .enum-told3 .given .1)) ∙ ap (λ q. judged q (s .args .t)) (h .prepared-at .ensures))
 
 pub alone-spec : {M : Type 1} → statement M
 alone-spec =
     tie.close
     (tie.spec
-    (λ c g p. let s = c .before .before .before in only-class _ _ _ _ g p (s .pre .1 .1) (sym (hollow (preparedIn (s .args .xs .now) 0) (s .args .t) (sym (s .pre .0 .1 .solid) ∙ not-true _ (c .if1 .taken)))))
-    (λ c κs. let s = c .before .before .before in let r = s .pre .1 .0 in only-half (s .args .t) _ _ _ (r .0) (r .1) (s .pre .1 .1) .room)
-    (λ c κs. let q = sound (c .before .before) in (sound-small q, (upto-held (sound-high q) tt, own-rays (c .before .before .before .before .before .before .pre .0 .1))))
+    (λ c κs. let s = c .before in let r = s .pre .1 .0 in only-half (s .args .t) _ _ _ (r .0) (r .1) (s .pre .1 .1) .room)
+    (λ c κs. let h = c .before .before in (h .before .before .pre .0 .1, sound h))
+    returns
+    (λ c κs. let h = c .before .before .before .before in (sound-small (sound h), (upto-held (sound-high (sound h)) tt, own-rays (h .before .before .pre .0 .0))))
     (λ c. search needs)
     (λ c κs. tt)
     (λ c. search needs)
     (λ c. search needs)
-    (λ c κs. c .before .before .before .before .before .before .before .before .before .pre .0 .0)
-    (λ c κs. (c .middle-of .ensures, c .before .before .before .before .before .before .before .before .before .before .pre .0 .1))
+    (λ c κs. c .before .before .before .before .before .before .before .before .before .pre .0 .1 .small)
+    (λ c κs. (c .middle-of .ensures, c .before .before .before .before .before .before .before .before .before .before .pre .0 .0))
     by-middle
     returns-2
     returns-3

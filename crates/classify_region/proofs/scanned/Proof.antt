@@ -18,16 +18,16 @@ use Rattle.classify_region.proofs.scanned.Statement.{statement}
 use Rattle.classify_region.proofs.scanned.Tie as tie
 
 abbrev Inv-halfspaces : tie.InvT-halfspaces
-Inv-halfspaces t s m xs ends n settled i₀ k end class₀ i class = (i₀ < end) × (end ≤ n) × ((g : Region) → Prepared g xs ends n → AtHalfspace t xs ends n g k end i settled class)
+Inv-halfspaces t s m ps xs ends n settled i₀ k end class₀ i class = (i₀ < end) × (end ≤ n) × ((g : Region) → Prepared g xs ends n → AtHalfspace t xs ends n g k end i settled class)
 
 abbrev μ-halfspaces : tie.MeasureT-halfspaces
-μ-halfspaces t s m xs ends n settled i₀ k end class₀ i class = end - i
+μ-halfspaces t s m ps xs ends n settled i₀ k end class₀ i class = end - i
 
 abbrev Inv-convexes : tie.InvT-convexes
-Inv-convexes t s m xs ends n settled₀ i₀ k₀ settled i k = (g : Region) → Prepared g xs ends n → AtConvex t xs ends n g i k settled
+Inv-convexes t s m ps xs ends n settled₀ i₀ k₀ settled i k = (g : Region) → Prepared g xs ends n → AtConvex t xs ends n g i k settled
 
 abbrev μ-convexes : tie.MeasureT-convexes
-μ-convexes t s m xs ends n settled₀ i₀ k₀ settled i k = n - i
+μ-convexes t s m ps xs ends n settled₀ i₀ k₀ settled i k = n - i
 
 -- a halfspace more is taken
 module _ (t : Trixel) (xs : List ℤ) (es : List ℕ) (n k end i : ℕ) (settled class : Class) where
@@ -48,7 +48,7 @@ opening c =
 
 -- a convex more is still counted
 counted : (c : tie.In-convexes Inv-halfspaces μ-halfspaces Inv-convexes μ-convexes) → c .before .convexes .k + 1 < 2 ^ 64
-counted c = let h = opening c in omega arith
+counted c = omega (arith, opening c, c .before .before .before .good .1 .1 .1 .1 .1 .0)
 
 -- the halfspace at the next place
 module _ (c : tie.In-halfspaces Inv-halfspaces μ-halfspaces Inv-convexes μ-convexes) where
@@ -92,7 +92,7 @@ scanned-spec =
     Inv-convexes
     μ-convexes
     (λ c g p. start _ _ _ _ g p)
-    (λ c. let h = opening c in omega arith)
+    (λ c. omega (arith, opening c, c .before .before .before .good .1 .1 .1 .1 .1 .0))
     (λ c. opening (c .before))
     (λ c.
     let l = c .before .before in
@@ -101,7 +101,7 @@ scanned-spec =
     (o .0, omega (arith, o .1 .after .count), λ g p. opened _ _ _ _ g _ _ _ (l .convexes .inv g p) (omega arith) .1 _ refl .1))
     (λ c. let h = next-half c .room in omega arith)
     (λ c κs. next-half c .room)
-    (λ c κs. let p = c .before .before .before .before .before .before .before .pre .0 in (p .0, (p .1, subst SoundHalfspace (sym (c .prepared-at .ensures)) (next-half (c .before) .sound))))
+    (λ c κs. let p = c .before .before .before .before .before .before .before .pre .0 in (p .0, (p .1, (p .2, subst SoundHalfspace (sym (c .prepared-at .ensures)) (next-half (c .before) .sound)))))
     (λ c κs. tt)
     (λ c κs. tt)
     (λ c. let h = below (c .before .before .before .before .before) in omega arith)
