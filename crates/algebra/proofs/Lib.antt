@@ -1,8 +1,10 @@
 pub mod Beyond
 pub mod Cells
+pub mod Cheapest
 pub mod Claim
 pub mod Cone
 pub mod Containment
+pub mod Counting
 pub mod Filters
 pub mod Inequalities
 pub mod Moved

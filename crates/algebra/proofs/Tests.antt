@@ -51,6 +51,10 @@ or-right false e = e
 pub or-neither : {a b : Bool} → a ≡ false → b ≡ false → a || b ≡ false
 or-neither {a} {b} e f = rw e f
 
+pub or-none : (a b : Bool) → a || b ≡ false → (a ≡ false) × (b ≡ false)
+or-none true b e = absurd (true≢false e)
+or-none false b e = (refl, e)
+
 pub and-no-left : (b : Bool) {a : Bool} → a ≡ false → a && b ≡ false
 and-no-left b e = rw e
 

@@ -7,3 +7,4 @@ pub mod LocatedLaws
 pub mod PromiseKept
 pub mod Refusals
 pub mod Starred
+pub mod TightestKept

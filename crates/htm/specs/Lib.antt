@@ -5,3 +5,4 @@ pub mod Refusals
 pub mod Promise
 pub mod Counted
 pub mod EitherForm
+pub mod Tightest

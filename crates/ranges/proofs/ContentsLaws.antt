@@ -1,23 +1,24 @@
 -- What the outer list contains: the identifiers of the ranges that went in, and those in the gaps that were joined over. Joining two touching ranges
 -- changes no count, and joining over a gap adds what lies in it; and in a list that ascends no identifier is counted twice. Assumes nothing.
-use Prim.Native.Nat.{ℕ, zero, suc, _+_, _-_, _*_, _≤_, _<_, min}
+use Prim.Native.Nat.{ℕ, zero, suc, _+_, _-_, _*_, _≤_, _<_}
 use mathlib.Core.Path.{_≡_, refl, sym, ap, _∙_, subst}
-use mathlib.Core.Bool.{Bool, true, false, cond, _||_, true≢false}
+use mathlib.Core.Bool.{Bool, true, false}
 use mathlib.Core.List.{List, [], _∷_, _++_}
 use native.Mathlib.Omega.{arith}
-use lib.Dec.{eqb, leb}
+use lib.Dec.{eqb}
 use lib.ListN.{length, getD, drop}
 use lib.Seq.{getD-drop}
-use borrow.Author.Tests.{leb-true, leb-false, lt-ltb, le-ltb, eqb-true, eqb-false}
-use Rattle.algebra.specs.Lists.{some}
+use borrow.Author.Tests.{lt-ltb, le-ltb, eqb-true, eqb-false}
+use Rattle.algebra.specs.Lists.{some, numbersFrom}
 use Rattle.algebra.proofs.Tests.{split, or-left, or-right}
+use Rattle.algebra.proofs.Counting.{count, count-parts, count-all, count-none, count-same}
 use Rattle.ranges.specs.Ranges.{Range, isIn, inSome, Ascends, rangesIn}
 use Rattle.ranges.specs.Lists.{over, touch, joined, joinedFrom, smallest, place, earliest, gap, gaps, joinAt, joinSmallest, outerOf}
 use Rattle.ranges.specs.Contents.{identifiers, different, Contains, inGap, swallowedFrom, swallowedOf}
 use Rattle.ranges.proofs.Earliest.{place-here, place-later, earliest-inside}
 use Rattle.ranges.proofs.Loop.{reduced-ind, reduced-keeps}
 use Rattle.ranges.proofs.OuterPass.{length-gaps, joinSmallest-shrinks}
-use Rattle.ranges.proofs.ListLaws.{is-in, in-high, not-below, not-above, Between, between-le, between-widen}
+use Rattle.ranges.proofs.ListLaws.{is-in, not-below, not-above, Between, between-le, between-widen}
 
 -- ---- lists in a row, and in a stretch
 
@@ -92,7 +93,7 @@ over-gap g a b (r ∷ s ∷ rs) p h =
         → identifiers (joinAt (suc i) (r ∷ s ∷ rs)) ≡ identifiers (r ∷ s ∷ rs) + inGap g
     next i e = unfold joinAt identifiers in omega arith
 
-some-gap : (rs : List Range) → 1 < length rs → 0 < length (gaps rs)
+pub some-gap : (rs : List Range) → 1 < length rs → 0 < length (gaps rs)
 some-gap [] h = absurd (omega arith)
 some-gap (r ∷ rs) h = omega (arith, length-gaps r rs)
 
@@ -109,12 +110,12 @@ module _ (a b : ℕ) where
 -- ---- the outer list
 
 module _ (B : ℕ) (one : 1 ≤ B) where
-  none-swallowed : (fuel : ℕ) (xs : List Range) → length xs ≤ B → swallowedFrom B fuel xs ≡ 0
+  pub none-swallowed : (fuel : ℕ) (xs : List Range) → length xs ≤ B → swallowedFrom B fuel xs ≡ 0
   unfolding swallowedFrom
   none-swallowed zero xs h = refl
   none-swallowed (suc fuel) xs h = rw (le-ltb B (length xs) h)
 
-  more-swallowed : (xs : List Range) → B < length xs
+  pub more-swallowed : (xs : List Range) → B < length xs
       → swallowedFrom B (length xs) xs ≡ inGap (smallest (gaps xs)) + swallowedFrom B (length (joinSmallest xs)) (joinSmallest xs)
   unfolding swallowedFrom
   more-swallowed xs h =
@@ -141,53 +142,28 @@ module _ (B : ℕ) (one : 1 ≤ B) where
 
 -- ---- in a list that ascends each identifier is counted once
 
--- one range alone: its identifiers below m
-different-one : (m : ℕ) (r : Range) → different m (r ∷ []) ≡ min m (r .high + 1) - r .low
-unfolding different some
-different-one zero r = omega arith
-different-one (suc m) r =
-    let ih = different-one m r in
-    split (leb (r .low) m)
-    (λ l.
-    split (leb m (r .high))
-    (λ h. rw (is-in m r (leb-true (r .low) m l) (leb-true m (r .high) h)) (omega (arith, leb-true (r .low) m l, leb-true m (r .high) h)))
-    (λ h. rw (not-below m r (omega (arith, leb-false m (r .high) h))) (omega (arith, leb-false m (r .high) h))))
-    (λ l. rw (not-above m r (omega (arith, leb-false (r .low) m l))) (omega (arith, leb-false (r .low) m l)))
-
 -- below a stretch there is none
 none-below : (a b n : ℕ) (rs : List Range) → Between a b rs → n < a → inSome n rs ≡ false
 unfolding some
 none-below a b n [] p h = refl
 none-below a b n (r ∷ rs) p h = rw (not-above n r (omega arith)) (none-below (r .high + 1) b n rs (p .2) (omega arith))
 
--- two tests that are never both passed
-apart-tests : (x y : Bool) (p q s : ℕ) → (x ≡ true → y ≡ false) → s ≡ p + q
-    → cond (x || y) (suc s) s ≡ cond (x || false) (suc p) p + cond y (suc q) q
-apart-tests true true p q s n e = absurd (true≢false (n refl))
-apart-tests true false p q s n e = omega arith
-apart-tests false true p q s n e = omega arith
-apart-tests false false p q s n e = e
+-- range by range: none before it, all in it, and behind it those of the others
+counted-once : (a b : ℕ) (rs : List Range) → Between a b rs → count (λ i. inSome i rs) a b ≡ identifiers rs
+unfolding identifiers some
+counted-once a b [] p = count-none (λ i. inSome i []) a b (λ i l h. refl)
+counted-once a b (r ∷ rs) p =
+    let f : ℕ → Bool = λ i. inSome i (r ∷ rs) in
+    let end = between-le (r .high + 1) b rs (p .2) in
+    let before = count-none f a (r .low) (λ i l h. none-below (r .low) b i (r ∷ rs) (omega arith, p .1, p .2) h) in
+    let inside = count-all f (r .low) (r .high + 1) (λ i l h. or-left (inSome i rs) (is-in i r l (omega arith))) in
+    let behind = count-same f (λ i. inSome i rs) (r .high + 1) b (λ i l. rw (not-below i r (omega arith))) in
+    let parts = count-parts f a (r .low) b (p .0) (omega arith) in
+    let rest = count-parts f (r .low) (r .high + 1) b (omega arith) end in
+    omega (arith, counted-once (r .high + 1) b rs (p .2))
 
--- the first range and the others share no identifier
-different-cons : (b m : ℕ) (r : Range) (rs : List Range) → Between (r .high + 1) b rs
-    → different m (r ∷ rs) ≡ different m (r ∷ []) + different m rs
-unfolding different some
-different-cons b zero r rs p = refl
-different-cons b (suc m) r rs p =
-    apart-tests (isIn m r) (inSome m rs) (different m (r ∷ [])) (different m rs) (different m (r ∷ rs))
-    (λ e. none-below (r .high + 1) b m rs p (omega (arith, in-high m r e))) (different-cons b m r rs p)
-
-different-none : (m : ℕ) → different m [] ≡ 0
-unfolding different some
-different-none zero = refl
-different-none (suc m) = different-none m
-
-different-all : (a b : ℕ) (rs : List Range) → Between a b rs → different b rs ≡ identifiers rs
-unfolding identifiers
-different-all a b [] p = different-none b
-different-all a b (r ∷ rs) p =
-    let l = between-le (r .high + 1) b rs (p .2) in
-    omega (arith, different-cons b b r rs (p .2), different-one b r, different-all (r .high + 1) b rs (p .2))
+pub different-all : (a n : ℕ) (rs : List Range) → Between a (a + n) rs → different (numbersFrom a n) rs ≡ identifiers rs
+different-all a n rs p = let e : n ≡ a + n - a = omega arith in ap (λ k. different (numbersFrom a k) rs) e ∙ counted-once a (a + n) rs p
 
 -- a list ends before any number that no identifier in it reaches
 ends-before : (a b m : ℕ) (rs : List Range) → ((i : ℕ) → inSome i rs ≡ true → i < m) → a ≤ m → Between a b rs → Between a m rs
@@ -200,7 +176,9 @@ ends-before a b m (r ∷ rs) f h p =
 pub between-contains : (a b : ℕ) (rs : List Range) → Between a b rs → Contains rs (identifiers rs)
 between-contains a b rs p = record {
   counted = refl;
-  once = λ m f. different-all 0 m rs (ends-before 0 b m rs f (omega arith) (between-widen 0 b a b rs (omega arith) (omega arith) p));
+  once = λ m f.
+      let wide = between-widen 0 b a b rs (omega arith) (omega arith) p in
+      different-all 0 m rs (ends-before 0 b (0 + m) rs (λ i e. omega (arith, f i e)) (omega arith) wide);
 }
 
 ascends-from : (a : ℕ) (r : Range) (rs : List Range) → a ≤ r .low → Ascends (r ∷ rs) → (b : ℕ) × Between a b (r ∷ rs)

@@ -108,18 +108,26 @@ earliest-snoc (x ∷ l) g =
 
 -- ---- the same from the end
 
-smallest-cons : (x y : ℕ) (l : List ℕ) → smallest (x ∷ y ∷ l) ≡ min x (smallest (y ∷ l))
+pub smallest-one : (x : ℕ) → smallest (x ∷ []) ≡ x
+unfolding smallest
+smallest-one x = refl
+
+pub smallest-cons : (x y : ℕ) (l : List ℕ) → smallest (x ∷ y ∷ l) ≡ min x (smallest (y ∷ l))
 unfolding smallest
 smallest-cons x y l = refl
 
-earliest-here : (x y : ℕ) (l : List ℕ) → x ≤ smallest (y ∷ l) → earliest (x ∷ y ∷ l) ≡ 0
+pub earliest-one : (x : ℕ) → earliest (x ∷ []) ≡ 0
+unfolding earliest smallest
+earliest-one x = place-here x x [] refl
+
+pub earliest-here : (x y : ℕ) (l : List ℕ) → x ≤ smallest (y ∷ l) → earliest (x ∷ y ∷ l) ≡ 0
 unfolding earliest
 earliest-here x y l h = at (smallest (y ∷ l)) h (smallest-cons x y l)
   where
     at : (m : ℕ) → x ≤ m → smallest (x ∷ y ∷ l) ≡ min x m → place (smallest (x ∷ y ∷ l)) (x ∷ y ∷ l) ≡ 0
     at m h e = place-here (smallest (x ∷ y ∷ l)) x (y ∷ l) (omega arith)
 
-earliest-later : (x y : ℕ) (l : List ℕ) → smallest (y ∷ l) < x → earliest (x ∷ y ∷ l) ≡ suc (earliest (y ∷ l))
+pub earliest-later : (x y : ℕ) (l : List ℕ) → smallest (y ∷ l) < x → earliest (x ∷ y ∷ l) ≡ suc (earliest (y ∷ l))
 unfolding earliest
 earliest-later x y l h = at (smallest-cons x y l)
   where

@@ -3,7 +3,7 @@
 use Prim.Native.Nat.{ℕ}
 use mathlib.Core.Path.{_≡_, refl}
 use mathlib.Core.List.{List, [], _∷_}
-use Rattle.algebra.specs.Lists.{some}
+use Rattle.algebra.specs.Lists.{some, tally, numbersFrom}
 use Rattle.ranges.specs.Ranges.{Range}
 use Rattle.ranges.specs.Lists.{joined, joinedFrom, smallest, place, earliest, whileMore, gaps, joinAt, joinSmallest, outerOf, without, dropShortest, innerOf}
 use Rattle.ranges.specs.Contents.{identifiers, different, swallowedFrom, swallowedOf}
@@ -33,7 +33,9 @@ pub swallowed-examples : (swallowedOf 5 accepted ≡ 0) × (swallowedOf 4 accept
 unfolding joined joinedFrom smallest place earliest gaps joinAt joinSmallest swallowedFrom swallowedOf
 swallowed-examples = (refl, refl, refl, refl, refl, refl, refl)
 
-pub contents-examples : (identifiers accepted ≡ 28) × (different 64 accepted ≡ 28) × (identifiers (outerOf 4 accepted) ≡ 29)
-    × (identifiers [] ≡ 0) × (different 9 [] ≡ 0) × (different 9 (r 2 5 ∷ r 4 6 ∷ []) ≡ 5)
-unfolding joined joinedFrom smallest place earliest whileMore gaps joinAt joinSmallest outerOf identifiers different some
-contents-examples = (refl, refl, refl, refl, refl, refl)
+-- what overlaps counts once, in any order, and a reversed range contains nothing
+pub contents-examples : (identifiers accepted ≡ 28) × (different (numbersFrom 0 64) accepted ≡ 28) × (identifiers (outerOf 4 accepted) ≡ 29)
+    × (identifiers [] ≡ 0) × (different (numbersFrom 0 9) [] ≡ 0) × (different (numbersFrom 0 9) (r 4 6 ∷ r 2 5 ∷ r 8 7 ∷ []) ≡ 5)
+    × (different (numbersFrom 32 32) (outerOf 4 accepted) ≡ 29)
+unfolding joined joinedFrom smallest place earliest whileMore gaps joinAt joinSmallest outerOf identifiers tally numbersFrom some
+contents-examples = (refl, refl, refl, refl, refl, refl, refl)

@@ -5,6 +5,8 @@ pub mod InnerPass
 pub mod ListLaws
 pub mod Loop
 pub mod OnePass
+pub mod OtherLists
 pub mod OuterPass
 pub mod Pushing
 pub mod Sound
+pub mod Tightest

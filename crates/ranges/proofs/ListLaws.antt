@@ -9,7 +9,7 @@ use lib.Dec.{leb, ltb}
 use lib.ListN.{length}
 use borrow.Author.Tests.{leb-true, le-leb, lt-leb, ltb-true, ltb-false}
 use Rattle.algebra.specs.Lists.{some, tally}
-use Rattle.algebra.proofs.Tests.{split, and-left, and-right, and-both, and-no-left, and-no-right, or-cases}
+use Rattle.algebra.proofs.Tests.{split, and-left, and-right, and-both, and-no-left, and-no-right, or-cases, or-left, or-right}
 use Rattle.ranges.specs.Ranges.{Range, isIn, inSome, timesIn, Ascends, Spaced, Proper}
 use Rattle.ranges.proofs.Sound.{SpacedBy, Separate, In, Has, later}
 
@@ -24,7 +24,7 @@ not-below n r h = and-no-right (leb (r .low) n) (lt-leb n (r .high) h)
 pub not-above : (n : ℕ) (r : Range) → n < r .low → isIn n r ≡ false
 not-above n r h = and-no-left (leb n (r .high)) (lt-leb (r .low) n h)
 
-in-low : (n : ℕ) (r : Range) → isIn n r ≡ true → r .low ≤ n
+pub in-low : (n : ℕ) (r : Range) → isIn n r ≡ true → r .low ≤ n
 in-low n r e = leb-true (r .low) n (and-left (leb (r .low) n) (leb n (r .high)) e)
 
 pub in-high : (n : ℕ) (r : Range) → isIn n r ≡ true → n ≤ r .high
@@ -40,6 +40,15 @@ pub some-has : (n : ℕ) (rs : List Range) → inSome n rs ≡ true → Has rs n
 unfolding some
 some-has n [] e = absurd (false≢true e)
 some-has n (r ∷ rs) e = or-cases (isIn n r) (some (isIn n) rs) e (λ t. first r rs n (in-low n r t) (in-high n r t)) (λ t. later r rs n (some-has n rs t))
+
+in-some : (n : ℕ) (rs : List Range) (i : ℕ) → In rs i n → inSome n rs ≡ true
+unfolding some In
+in-some n [] i h = absurd h
+in-some n (r ∷ rs) zero h = or-left (inSome n rs) (is-in n r (h .0) (h .1))
+in-some n (r ∷ rs) (suc i) h = or-right (isIn n r) (in-some n rs i h)
+
+pub has-some : (n : ℕ) (rs : List Range) → Has rs n → inSome n rs ≡ true
+has-some n rs h = in-some n rs (h .0) (h .1)
 
 -- ---- in exactly one
 

@@ -104,6 +104,12 @@ unfolding joinSmallest
 joinSmallest-shrinks [] h = absurd (omega arith)
 joinSmallest-shrinks (a ∷ xs) h = length-joinAt (earliest (gaps (a ∷ xs))) a xs (inside a xs (omega arith))
 
+-- one of the smallest gaps goes, and the others stay
+pub gaps-joinSmallest : (xs : List Range) → 1 < length xs → gaps (joinSmallest xs) ≡ without (earliest (gaps xs)) (gaps xs)
+unfolding joinSmallest
+gaps-joinSmallest [] h = absurd (omega arith)
+gaps-joinSmallest (a ∷ xs) h = gaps-joinAt (earliest (gaps (a ∷ xs))) a xs (inside a xs (omega arith))
+
 joinSmallest-extend : (xs : List Range) (r : Range) → 1 < length xs → joinSmallest (extend xs r) ≡ extend (joinSmallest xs) r
 unfolding joinSmallest
 joinSmallest-extend [] r h = absurd (omega arith)
@@ -176,11 +182,9 @@ length-full xs r h =
 
 -- the new gap stays below the others when two of them join
 nearest-stays : (xs : List Range) (r : Range) → 1 < length xs → Nearest xs r ≡ true → Nearest (joinSmallest xs) r ≡ true
-unfolding Nearest joinSmallest
-nearest-stays [] r h t = absurd (omega arith)
-nearest-stays (a ∷ xs) r h t =
-    let i : ℕ = earliest (gaps (a ∷ xs)) in
-    rw (lastHigh-joinAt i (a ∷ xs), gaps-joinAt i a xs (inside a xs (omega arith))) (below-without (r .low - lastHigh (a ∷ xs)) i (gaps (a ∷ xs)) t)
+unfolding Nearest
+nearest-stays xs r h t =
+    rw (lastHigh-joinSmallest xs, gaps-joinSmallest xs h) (below-without (r .low - lastHigh xs) (earliest (gaps xs)) (gaps xs) t)
 
 commutes : (xs : List Range) (r : Range) → 1 < length xs → joinSmallest (joinSmallest (xs ++ r ∷ [])) ≡ joinSmallest (joinSmallest xs ++ r ∷ [])
 commutes xs r h =

@@ -177,7 +177,7 @@ joined-only-from a (b ∷ xs) i n h =
     (λ t. let g = joined-only-from (over a b) xs i n (rw t at h) in split-has a b xs (g .0) n (eqb-true (a .high + 1) (b .low) t) (g .1))
     (λ t. first-or-later a (joinedFrom b xs) (b ∷ xs) i n (rw t at h) (λ j k. joined-only-from b xs j n k))
 
-joined-only : (xs : List Range) (i n : ℕ) → In (joined xs) i n → Has xs n
+pub joined-only : (xs : List Range) (i n : ℕ) → In (joined xs) i n → Has xs n
 unfolding joined
 joined-only [] i n h = (i, h)
 joined-only (a ∷ xs) i n h = joined-only-from a xs i n h

@@ -1,0 +1,52 @@
+-- The tightest list for its budget: document 02, F-9. For every accepted file, of its accepted ranges and its outer list holds
+--   at-depth   every identifier in the outer list is one at the file's depth, so that counting those leaves none out
+--   feasible   it has at most the budget of ranges, and contains all accepted identifiers
+--   tightest   every other list of which this holds contains at least as many different identifiers at the depth. It may be any list: its ranges may stand
+--              in any order, overlap, be reversed, and go beyond the identifiers at the depth
+--   empty      an empty accepted set gives no ranges
+-- The rule's 'earliest among equals' plays no part: it chooses between gaps of one size, so between lists that contain equally many identifiers.
+-- `Tightest` says so of the rules, `TightestOfAnswers` of the list that stands in the lent list where the cover answers, `TightestOfCalls` of values that
+-- meet the contract of the call. All are proved: proofs/TightestKept.
+use Prim.Native.Nat.{ℕ, _+_, _*_, _^_, _≤_}
+use mathlib.Core.Path.{_≡_}
+use mathlib.Core.Bool.{true, false}
+use mathlib.Core.List.{List, []}
+use Rattle.algebra.specs.Lists.{numbersFrom}
+use Rattle.answer.specs.Answer.{gives}
+use Rattle.mesh.specs.Identifiers.{identifierAt}
+use Rattle.region.specs.Budgets.{budgetOf}
+use Rattle.region.specs.Reader.{File, Accepted}
+use Rattle.ranges.specs.Ranges.{Range, inSome}
+use Rattle.ranges.specs.Contents.{different, Feasible}
+use Rattle.cutting.specs.Cover.{cutting, cover}
+use Rattle.cutting.specs.declared.Counts.{Counts}
+use Rattle.htm.specs.declared.CoverOf.{CoverOf}
+use Rattle.htm.specs.Answers.{coverAnswer, coverAfter, coverGiven, outerIn}
+
+-- the identifiers at depth d, in a row: those whose highest set bit is bit 2·d + 1
+abbrev pub identifiersAt : ℕ → List ℕ
+identifiersAt d = numbersFrom (2 ^ (2 * d + 1)) (2 ^ (2 * d + 1))
+
+-- of a depth, the budget that is counted with, the accepted ranges and a list
+pub record TightestFor (d budget : ℕ) (accepted outer : List Range) : Type 0 where
+  pub at-depth : (i : ℕ) → inSome i outer ≡ true → identifierAt d i ≡ true
+  pub feasible : Feasible budget accepted outer
+  pub tightest : (other : List Range) → Feasible budget accepted other → different (identifiersAt d) outer ≤ different (identifiersAt d) other
+  pub empty : ((i : ℕ) → inSome i accepted ≡ false) → outer ≡ []
+
+abbrev pub TightestOf : File → List Range → Type 0
+TightestOf x outer = TightestFor (x .depth) (budgetOf (x .budget)) (cutting (x .depth) (x .region) .accepted) outer
+
+abbrev pub Tightest : Type 0
+Tightest = (f : List ℕ) (x : File) → Accepted f x → TightestOf x (cover x .outer)
+
+-- Whatever the cover answers: the file is accepted, and this holds of the outer list in the lent list as the cover leaves it.
+abbrev pub TightestOfAnswers : Type 0
+TightestOfAnswers =
+    (f before : List ℕ) (c : Counts) → coverAnswer f before ≡ gives c → (x : File) × Accepted f x × TightestOf x (outerIn c (coverAfter f before))
+
+-- The same by the contract of the call `htm::cover` (src/lib.rt), where it gave c and left `after` in the lent list.
+abbrev pub TightestOfCalls : Type 0
+TightestOfCalls =
+    (f before after : List ℕ) (c : Counts) → coverGiven (CoverOf.Gives c) ≡ coverAnswer f before → after ≡ coverAfter f before
+    → (x : File) × Accepted f x × TightestOf x (outerIn c after)
