@@ -1,7 +1,7 @@
 # The hosts in C and their tests, over the archive that `rt staticlib htm` proves and writes. All output goes to target/.
 #
 #   make host        builds and runs examples/host.c
-#   make test        every C call on the stored cases of program query, the lookups of floats beside C's own product, what examples/host.c prints
+#   make test        every C call on the stored cases of query and archive, the lookups of floats beside C's own product, what examples/host.c prints
 #   make sqlite      the SQLite host on 300,000 frames: what it delivers beside a test of every frame
 #   make postgres    the same table in private PostgreSQL servers, beside the SQLite host's answers
 #
@@ -17,8 +17,9 @@ COMPILE = $(CC) $(CFLAGS) -I$(INCLUDE)
 host: target/c/host
 	target/c/host
 
-test: target/c/calls target/c/reports target/c/host
+test: target/c/calls target/c/index target/c/reports target/c/host
 	target/c/calls crates/query/stdin crates/query/stdout
+	target/c/index crates/archive/stdin crates/archive/stdout
 	target/c/reports
 	target/c/host | diff examples/host.expected -
 	@echo "host: its output is that of examples/host.expected"
@@ -47,6 +48,10 @@ target/c/host: examples/host.c $(LIB) $(INCLUDE)/htm.h
 target/c/calls: tests/c/calls.c $(LIB) $(INCLUDE)/htm.h
 	@mkdir -p target/c
 	$(COMPILE) -o $@ tests/c/calls.c $(LIB)
+
+target/c/index: tests/c/index.c $(LIB) $(INCLUDE)/htm.h
+	@mkdir -p target/c
+	$(COMPILE) -o $@ tests/c/index.c $(LIB)
 
 target/c/reports: tests/c/reports.c $(LIB) $(INCLUDE)/htm.h
 	@mkdir -p target/c

@@ -1,9 +1,12 @@
 // One table: the proved library through its C calls, and the literal implementation beside it. For each row how many trixels were classified (or
 // pointings looked up), microseconds for all of them and nanoseconds for each, of both, and our time over the literal one. Covers are of depth 12 where
 // none is named. Of both the best of seven rounds (of one for the worst cases), one after the other, in processor time; reading the file is part of a
-// cover. Both lists, counts, seen and the elements that must stay are compared, and the identifiers of the pointings: a difference ends with 1.
+// cover. Both lists, counts, seen and the elements that must stay are compared, and the identifiers of the pointings, and the entries of an index with
+// those of a std::map: a difference ends with 1.
 #include "literal.hpp"
 #include "../include/htm.h"
+#include <array>
+#include <map>
 #include <random>
 #include <time.h>
 
@@ -211,6 +214,67 @@ static bool line_row(size_t n, unsigned depth)
     return print(("lookups of lines at depth " + std::to_string(depth)).c_str(), n, t, id == want);
 }
 
+// The same index as C++ keeps it: the entries in a std::map by identifier and number, and the identifiers in a second one by number. It takes the
+// identifiers from our own lookup, so that the row compares the keeping of entries alone.
+struct MapIndex {
+    std::map<std::pair<uint64_t, uint32_t>, std::array<int32_t, 3>> entries;
+    std::map<uint32_t, uint64_t> identifiers;
+    int64_t add(uint32_t number, int32_t x, int32_t y, int32_t z)
+    {
+        uint64_t id = lookup(x, y, z, 12);
+        if (id == 0) return -8;
+        if (identifiers.count(number)) return -15;
+        if (entries.size() == 2048) return -16;
+        identifiers[number] = id;
+        entries[{id, number}] = {x, y, z};
+        return 0;
+    }
+    int64_t remove(uint32_t number)
+    {
+        auto i = identifiers.find(number);
+        if (i == identifiers.end()) return -17;
+        entries.erase({i->second, number});
+        identifiers.erase(i);
+        return 0;
+    }
+};
+
+// A full index, of which in each turn the sixteen oldest exposures are removed and sixteen others added: the time of each kind of call by itself.
+static bool index_rows(const std::vector<int32_t> &p)
+{
+    const size_t turns = 2000, some = 16, length = HTM_INDEX_LENGTH;
+    std::vector<int64_t> list(length, 0);
+    MapIndex map;
+    auto number = [](size_t i) { return (uint32_t)(i * 2654435761u); };
+    auto at = [&](size_t i) { return &p[3 * (i % (p.size() / 3))]; };
+    bool same = true;
+    size_t oldest = 0, next = 0;
+    for (; next < 2048; next++) {
+        const int32_t *q = at(next);
+        same &= htm_add(list.data(), length, number(next), q[0], q[1], q[2]) == 0 && map.add(number(next), q[0], q[1], q[2]) == 0;
+    }
+    Times add, remove;
+    for (int round = 0; round < 7; round++) {
+        Times a = {0, 0}, r = {0, 0};
+        for (size_t k = 0; k < turns; k++, oldest += some, next += some) {
+            r.ours += us([&] { for (size_t i = oldest; i < oldest + some; i++) same &= htm_remove(list.data(), length, number(i)) == 0; });
+            a.ours += us([&] { for (size_t i = next; i < next + some; i++) same &= htm_add(list.data(), length, number(i), at(i)[0], at(i)[1], at(i)[2]) == 0; });
+            r.literal += us([&] { for (size_t i = oldest; i < oldest + some; i++) same &= map.remove(number(i)) == 0; });
+            a.literal += us([&] { for (size_t i = next; i < next + some; i++) same &= map.add(number(i), at(i)[0], at(i)[1], at(i)[2]) == 0; });
+        }
+        add = {std::min(add.ours, a.ours), std::min(add.literal, a.literal)};
+        remove = {std::min(remove.ours, r.ours), std::min(remove.literal, r.literal)};
+    }
+    same &= list[0] == (int64_t)map.entries.size();
+    size_t k = 1;
+    for (auto &e : map.entries) {
+        same &= list[k++] == (int64_t)e.first.first && list[k++] == e.first.second;
+        for (int32_t c : e.second) same &= list[k++] == c;
+    }
+    same &= print("adds, at 2048 exposures", turns * some, add, same);
+    return print("removals, at 2048 exposures", turns * some, remove, same);
+}
+
 // A small cover is made several times a round, a large one in fewer rounds.
 static bool cover_row(const std::string &name, const Bytes &file, int times = 1, int rounds = 7)
 {
@@ -252,6 +316,7 @@ static bool large_rows()
     same &= report_row("the same from f32", points, 12, htm_lookup_f32);
     same &= refused_line(points);
     same &= line_row(200000, 12);
+    same &= index_rows(points);
     for (unsigned budget : {64u, 256u, 2048u}) {
         std::string end = ", budget " + std::to_string(budget);
         for (int degrees : {1, 5, 30}) same &= cover_row("cap of " + std::to_string(degrees) + " degrees" + end, cap(degrees, budget));

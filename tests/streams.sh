@@ -1,6 +1,6 @@
 #!/usr/bin/env bash
-# The programs cover, query and catalogue where standard input or output fails, is closed, is interrupted or moves a few bytes only.
-# `rt check cover query catalogue` builds them; the case of interrupted calls needs cc, and programs that this machine runs itself.
+# The programs cover, query, catalogue and archive where standard input or output fails, is closed, is interrupted or moves a few bytes only.
+# `rt check cover query catalogue archive` builds them; the case of interrupted calls needs cc, and programs that this machine runs itself.
 set -u
 cd "$(dirname "$0")/.."
 work=$(mktemp -d)
@@ -16,7 +16,7 @@ said() {
     fi
 }
 
-for p in cover query catalogue; do
+for p in cover query catalogue archive; do
     in=crates/$p/stdin
     args=$([ ! -f crates/$p/args ] || cat crates/$p/args)
     : > "$work/out"

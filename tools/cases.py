@@ -10,6 +10,7 @@ from math import gcd, isqrt
 import cover_cases
 import grouped_cases
 import htm
+import index_cases
 import line_cases
 import region_cases as regions
 import report_cases as reports
@@ -18,6 +19,7 @@ from htm import K, Refused
 CRATES = pathlib.Path(__file__).resolve().parent.parent / 'crates'
 HOME = CRATES / 'query'
 CATALOGUE = CRATES / 'catalogue'
+ARCHIVE = CRATES / 'archive'
 LINE = 65536                                        # the longest line, without its line feed
 
 
@@ -125,10 +127,10 @@ class Draws:
 DRAWS = Draws(20140521)
 
 
-def direction():
+def direction(draws=DRAWS):
     """Any vector: a point of the ball of radius K that is not too near its middle, made a unit."""
     while True:
-        s = tuple(DRAWS.between(-K, K) for _ in range(3))
+        s = tuple(draws.between(-K, K) for _ in range(3))
         if K * K // 16 <= htm.dot(s, s) <= K * K:
             return into_rule(htm.unit(s))
 
@@ -456,6 +458,16 @@ def main():
     text = line_cases.text(DRAWS, direction)
     (CATALOGUE / 'stdin').write_bytes(text)
     (CATALOGUE / 'stdout').write_text(''.join(a + '\n' for a in line_cases.catalogue(text, int((CATALOGUE / 'args').read_text()))))
+    archive()
+
+
+def archive():
+    """The run of the program archive, from draws of its own."""
+    draws = Draws(20250306)
+    lines = list(index_cases.lines(draws, lambda: direction(draws)))
+    assert not any(b'\n' in l for l in lines)
+    (ARCHIVE / 'stdin').write_bytes(b'\n'.join(lines))
+    (ARCHIVE / 'stdout').write_text(''.join(a + '\n' for a in index_cases.answers(lines, number)))
 
 
 if __name__ == '__main__':

@@ -1,6 +1,6 @@
 -- Answers. Document 01, 'What is sent back': every call gives its values, or refuses with one number.
 --   Answer A       refused n, or gives a with a of the type A
---   Long .. Mixed  the fourteen numbers by their words; Float, Line and Mixed are of document 02, F-1, F-3 and F-7
+--   Long .. Absent   the seventeen numbers by their words; from Float on they are of document 02: F-1, F-3, F-7, and three of F-10
 --   check n t a    the refusal n unless the test t passes, else the answer a
 --   then a f       f of what a gives; a refusal stays
 --   with-value     an answer's value changed; a refusal stays
@@ -52,6 +52,15 @@ Line = 13
 
 abbrev pub Mixed : ℕ
 Mixed = 14
+
+abbrev pub Twice : ℕ
+Twice = 15
+
+abbrev pub Full : ℕ
+Full = 16
+
+abbrev pub Absent : ℕ
+Absent = 17
 
 module _ {A : Type 0} where
   abbrev pub check : ℕ → Bool → Answer A → Answer A

@@ -28,6 +28,11 @@ pub const LINE: u32 = 13;
 
 pub const MIXED: u32 = 14;
 
+pub const TWICE: u32 = 15;
+
+pub const FULL: u32 = 16;
+
+pub const ABSENT: u32 = 17;
 // An identifier or a length, or the number of the first check that failed.
 pub enum Number {
     Gives(u64),

@@ -5,7 +5,7 @@ use Prim.Native.Nat.{ℕ, zero, suc, _+_, _-_, _*_, _^_, _≤_, _<_}
 use native.Mathlib.Nat.{pow-suc, one-le-pow, mul-le-mul-right}
 use native.Mathlib.Omega.{arith}
 use mathlib.Core.Path.{_≡_, refl, sym, ap, _∙_, subst}
-use mathlib.Core.Bool.{Bool, true, false, cond, true≢false}
+use mathlib.Core.Bool.{true, false, true≢false}
 use mathlib.Core.List.{List, [], _∷_, _++_}
 use lib.Dec.{lit<, ltb}
 use lib.IntN.{pos, natAbs}
@@ -19,7 +19,8 @@ use Rattle.vector.proofs.DepthLaws.{depth-range}
 use Rattle.vector.proofs.VectorLaws.{Long}
 use Rattle.mesh.specs.declared.Trixel.{Trixel}
 use Rattle.mesh.specs.Trixels.{child, rootTrixel}
-use Rattle.mesh.specs.Lookup.{notNegative, northRoot, southRoot, rootNumber, digit, descend, identifier}
+use Rattle.mesh.specs.Lookup.{rootNumber, digit, descend, identifier}
+use Rattle.mesh.proofs.LookupLaws.{four-high, root-small, descend-high}
 use Rattle.mesh.proofs.Path.{Inside, root-inside, child-inside, digit-small}
 use Rattle.region.specs.Regions.{Region, holds}
 use Rattle.region.proofs.ReaderLaws.{read-depth}
@@ -56,9 +57,6 @@ power n = one-le-pow n 4 (lit< tt)
 four-low : (i n : ℕ) → i * 4 ^ suc n ≡ 4 * i * 4 ^ n
 four-low i n = ap (λ x. i * x) (pow-suc 4 n) ∙ ap natAbs (ring 2 (λ i q. i :* (q :* con (pos 4)) :≡ con (pos 4) :* i :* q) refl (pos i) (pos (4 ^ n)))
 
-four-high : (i n : ℕ) → (i + 1) * 4 ^ suc n ≡ (4 * i + 4) * 4 ^ n
-four-high i n = ap (λ x. (i + 1) * x) (pow-suc 4 n) ∙ ap natAbs (ring 2 (λ i q. (i :+ `1) :* (q :* con (pos 4)) :≡ (con (pos 4) :* i :+ con (pos 4)) :* q) refl (pos i) (pos (4 ^ n)))
-
 one-range : (n i : ℕ) → Between (i * 4 ^ n) ((i + 1) * 4 ^ n) (descendants n i ∷ [])
 one-range n i =
     let e = full-stretch i (4 ^ n) in
@@ -76,21 +74,7 @@ nowhere : {X : Type 0} (j : ℕ) → Has [] j → X
 unfolding In
 nowhere j h = absurd (h .1)
 
--- ---- the digits and the descent
-
-small-root : (z y x : Bool) → cond z (northRoot x y) (southRoot x y) < 8
-small-root true true true = lit< tt
-small-root true true false = lit< tt
-small-root true false true = lit< tt
-small-root true false false = lit< tt
-small-root false true true = lit< tt
-small-root false true false = lit< tt
-small-root false false true = lit< tt
-small-root false false false = lit< tt
-
-pub root-small : (p : Vec3) → rootNumber p < 8
-unfolding rootNumber
-root-small p = small-root (notNegative (p .z)) (notNegative (p .y)) (notNegative (p .x))
+-- ---- the descent
 
 descend-low : (p : Vec3) (n : ℕ) (t : Trixel) (i : ℕ) → i * 4 ^ n ≤ descend p n t i
 unfolding descend
@@ -99,15 +83,6 @@ descend-low p (suc n) t i =
     let e = four-low i n in
     let m : 4 * i * 4 ^ n ≤ (4 * i + digit p t) * 4 ^ n = mul-le-mul-right (4 ^ n) (omega arith) in
     omega (arith, descend-low p n (child (digit p t) t) (4 * i + digit p t))
-
-pub descend-high : (p : Vec3) (n : ℕ) (t : Trixel) (i : ℕ) → descend p n t i < (i + 1) * 4 ^ n
-unfolding descend
-descend-high p zero t i = omega arith
-descend-high p (suc n) t i =
-    let e = four-high i n in
-    let d = digit-small p t in
-    let m : (4 * i + digit p t + 1) * 4 ^ n ≤ (4 * i + 4) * 4 ^ n = mul-le-mul-right (4 ^ n) (omega arith) in
-    omega (arith, descend-high p n (child (digit p t) t) (4 * i + digit p t))
 
 -- ---- what a visit finds, by the class
 

@@ -32,7 +32,10 @@ use Rattle.region.proofs.ConvertLaws.{converted}
 use Rattle.cutting.specs.declared.Counts.{Counts}
 use Rattle.cutting.specs.Cover.{cover, countsOf, counted, countsList}
 use Rattle.htm.specs.Answers.{coverInto, coverAnswer, bothLists, coverAfter}
-use Rattle.htm.specs.CalledFromC.{statusOf, cornersList, cornersForC, cornersAfterC, refusalOf, inBoth, headerList, readForC, rowsAfterC, headerAfterC, coverForC, coverAfterC, countsAfterC}
+use Rattle.index.specs.declared.Entry.{Entry}
+use Rattle.index.specs.Entries.{Width, numbers}
+use Rattle.index.specs.Answers.{entryAnswer}
+use Rattle.htm.specs.CalledFromC.{statusOf, entryForC, entryAfterC, cornersList, cornersForC, cornersAfterC, refusalOf, inBoth, headerList, readForC, rowsAfterC, headerAfterC, coverForC, coverAfterC, countsAfterC}
 
 -- ---- lengths are small: 32 bytes a name, 10508 a file
 
@@ -64,6 +67,26 @@ converted-short s f before n e =
     let t = roomy (convert s f) before n e in
     let x = value-gives (inStyle s f) (read f) (t .0) (t .1) in
     omega (arith, t .2, accepted-short (t .0) (x .0) (converted s f (t .0) (t .1) .1 ∙ x .1))
+
+-- ---- an entry of an index
+
+module _ (i : ℕ) (l out : List ℤ) where
+  entered : (a : Answer Entry) → entryForC i l out ≡ a → (statusOf a ≡ statusOf (entryForC i l out)) × (stored (λ e before. put 0 (numbers e) before) a out ≡ entryAfterC i l out)
+  unfolding entryAfterC
+  entered a e = (ap statusOf (sym e), ap (λ b. stored (λ x before. put 0 (numbers x) before) b out) (sym e))
+
+  entry-into : (a : Answer Entry) → a ≡ entryAnswer i l → entryForC i l out ≡ then a (λ e. room Width out e)
+  unfolding entryForC
+  entry-into a e = ap (λ b. then b (λ x. room Width out x)) (sym e)
+
+  pub no-entry : (n : ℕ) → refused n ≡ entryAnswer i l → (statusOf {A = Entry} (refused n) ≡ statusOf (entryForC i l out)) × (out ≡ entryAfterC i l out)
+  no-entry n e = entered (refused n) (entry-into (refused n) e)
+
+  pub no-entry-room : (x : Entry) → gives x ≡ entryAnswer i l → length out < Width → (statusOf {A = Entry} (refused Space) ≡ statusOf (entryForC i l out)) × (out ≡ entryAfterC i l out)
+  no-entry-room x e h = entered (refused Space) (entry-into (gives x) e ∙ ap (λ t. check Space t (gives x)) (lt-leb Width (length out) h))
+
+  pub entry-put : (x : Entry) → gives x ≡ entryAnswer i l → Width ≤ length out → (statusOf (gives x) ≡ statusOf (entryForC i l out)) × (put 0 (numbers x) out ≡ entryAfterC i l out)
+  entry-put x e h = entered (gives x) (entry-into (gives x) e ∙ ap (λ t. check Space t (gives x)) (le-leb Width (length out) h))
 
 -- ---- corners
 

@@ -1,45 +1,21 @@
 -- The lookup of a pointing that comes in another form, by its checks: depth, then the pointing's own, then the ordinary lookup. What it gives is what the
--- lookup gives at that pointing, which is a vector: so `calls-kept` (AnswersKept) covers it. An identifier to depth 12 is below 2^26. Assumes nothing.
-use Prim.Native.Nat.{ℕ, _+_, _-_, _*_, _^_, _≤_, _<_}
-use native.Mathlib.Nat.{pow-le-pow-right, mul-le-mul}
+-- lookup gives at that pointing, which is a vector: so `calls-kept` (AnswersKept) covers it. Assumes nothing.
+use Prim.Native.Nat.{ℕ, _^_, _<_}
 use native.Mathlib.Omega.{arith}
 use mathlib.Core.Path.{_≡_, sym}
 use mathlib.Core.Bool.{true, false}
 use mathlib.Core.List.{List}
-use lib.Dec.{lit<}
-use Rattle.answer.specs.Answer.{Answer, refused, gives, check, then, Depth, Vector}
-use Rattle.answer.proofs.AnswerLaws.{check-passed, check-gives, then-gives, same-value}
+use Rattle.answer.specs.Answer.{Answer, refused, gives, then, Depth}
+use Rattle.answer.proofs.AnswerLaws.{check-gives, then-gives}
 use Rattle.vector.specs.declared.Vec3.{Vec3}
 use Rattle.vector.specs.Numbers.{isDepth}
 use Rattle.vector.specs.Vectors.{isVector}
-use Rattle.vector.proofs.DepthLaws.{depth-range}
 use Rattle.mount.specs.declared.Report.{Report}
 use Rattle.mount.specs.Reports.{pointing}
 use Rattle.lines.specs.Lines.{pointingIn}
-use Rattle.mesh.specs.Trixels.{rootTrixel}
-use Rattle.mesh.specs.Lookup.{rootNumber, identifier, lookup}
-use Rattle.cutting.proofs.CuttingLaws.{root-small, descend-high}
+use Rattle.mesh.specs.Lookup.{lookup}
+use Rattle.mesh.proofs.LookupLaws.{lookup-is, identifier-small}
 use Rattle.htm.specs.Answers.{located, lookupReport, locateLine}
-
--- ---- the lookup
-
--- what is looked up is a vector, at a depth from 1 to 12
-lookup-is : (v : Vec3) (d i : ℕ) → lookup v d ≡ gives i → (isVector v ≡ true) × (d ≤ 12) × (identifier v d ≡ i)
-unfolding lookup
-lookup-is v d i e =
-    let found = gives (identifier v d) in
-    let checked = check-gives Depth (isDepth d) (check Vector (isVector v) found) i e in
-    let deep = check-passed Depth (isDepth d) (check Vector (isVector v) found) i e in
-    (check-passed Vector (isVector v) found i checked, depth-range d deep .1, same-value (identifier v d) i (check-gives Vector (isVector v) found i checked))
-
-identifier-small : (p : Vec3) (d : ℕ) → d ≤ 12 → identifier p d < 2 ^ 26
-unfolding identifier
-identifier-small p d h =
-    let w : 4 ^ (d - 1) ≤ 4 ^ 11 = pow-le-pow-right {n = 4} (lit< tt) {i = d - 1} {j = 11} (omega arith) in
-    let n = rootNumber p in
-    let r : 8 + n + 1 ≤ 16 = omega (arith, root-small p) in
-    let m : (8 + n + 1) * 4 ^ (d - 1) ≤ 16 * 4 ^ 11 = mul-le-mul r w in
-    omega (arith, descend-high p (d - 1) (rootTrixel n) (8 + n))
 
 -- ---- the checks in their order
 

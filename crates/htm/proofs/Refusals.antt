@@ -10,8 +10,10 @@ use Rattle.region.specs.Converting.{convert}
 use Rattle.region.specs.Answers.{headerOf, rowsInto, readInto, readAnswer, readAfter, fileInto, fileAnswer, fileAfter}
 use Rattle.region.proofs.ConvertLaws.{refusal-stays}
 use Rattle.cutting.specs.Cover.{cover, countsOf, counted, countsList}
+use Rattle.index.specs.Entries.{numbers, keeping}
+use Rattle.index.specs.Answers.{beginning, adding, removing, beginAnswer, beginAfter, addAnswer, addAfter, removeAnswer, removeAfter}
 use Rattle.htm.specs.Answers.{coverInto, coverAnswer, bothLists, coverAfter}
-use Rattle.htm.specs.CalledFromC.{cornersList, cornersForC, cornersAfterC, inBoth, headerList, readForC, rowsAfterC, headerAfterC, coverForC, coverAfterC, countsAfterC}
+use Rattle.htm.specs.CalledFromC.{entryAfterC, cornersList, cornersForC, cornersAfterC, inBoth, headerList, readForC, rowsAfterC, headerAfterC, coverForC, coverAfterC, countsAfterC}
 use Rattle.htm.specs.Refusals.{SpaceLast, LentListsStay}
 
 pub space-last : SpaceLast
@@ -28,7 +30,7 @@ space-last = (
 )
 
 pub lent-lists-stay : LentListsStay
-unfolding nameAnswer nameAfter readAnswer readAfter fileAnswer fileAfter coverAnswer coverAfter cornersAfterC readForC rowsAfterC headerAfterC coverForC coverAfterC countsAfterC
+unfolding beginAnswer beginAfter addAnswer addAfter removeAnswer removeAfter entryAfterC nameAnswer nameAfter readAnswer readAfter fileAnswer fileAfter coverAnswer coverAfter cornersAfterC readForC rowsAfterC headerAfterC coverForC coverAfterC countsAfterC
 lent-lists-stay = (
   λ i n before. not-stored length (put 0) (nameInto i before) before n,
   λ f n before. not-stored headerOf rowsInto (readInto f before) before n,
@@ -38,4 +40,8 @@ lent-lists-stay = (
   λ i n out. ap (λ a. stored (λ c before. put 0 (cornersList c) before) a out),
   λ f n rows header e. (not-stored headerOf rowsInto (inBoth 3 (readInto f rows) header) rows n e, ap (λ a. stored (λ h before. put 0 (headerList h) before) a header) e),
   λ f n out counts e. (not-stored (λ x. countsOf (cover x)) bothLists (inBoth counted (coverInto f out) counts) out n e, ap (λ a. stored (λ c before. put 0 (countsList c) before) a counts) e),
+  λ n l. not-stored (λ _. tt) keeping (beginning l) l n,
+  λ x n l. not-stored (λ _. tt) keeping (adding x l) l n,
+  λ k n l. not-stored (λ _. tt) keeping (removing k l) l n,
+  λ i n l out. ap (λ a. stored (λ e before. put 0 (numbers e) before) a out),
 )

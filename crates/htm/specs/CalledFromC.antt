@@ -1,4 +1,5 @@
--- The calls for a host in C: a number instead of an answer. Document 01, 'What is sent back', 'Regions' and 'The two lists'.
+-- The calls for a host in C: a number instead of an answer. Document 01, 'What is sent back', 'Regions' and 'The two lists';
+-- document 02, F-10.
 -- A refusal is minus its number, and comes before any list is written. The lookup and the identifier of a name give 0 instead: `entry`, `orZero` (Answers).
 --   numberForC a         the number that is asked for, or minus the number of the refusal: the lengths of `nameAnswer` (mesh) and `writeAnswer` (region),
 --                        the identifiers of `lookupReport` and `locateLine` (Answers)
@@ -9,6 +10,8 @@
 --   inBoth n a list      what a call has to write, or its refusal; then 10 where the second lent list has fewer than n elements
 --   readForC, rowsAfterC, headerAfterC     the reader's header; the lent list and the header's afterwards: count, depth, budget
 --   coverForC, coverAfterC, countsAfterC   the cover's counts; the lent list and the list of counts afterwards (`countsList`)
+--   entryForC i l out, entryAfterC         the entry at place i of the index l, or the refusal, then 10; the lent list afterwards (`numbers`)
+-- The other calls on an index answer `statusOf` and `numberForC` of what its calls answer (index/specs/Answers).
 use Prim.Native.Nat.{ℕ}
 use mathlib.Core.Bool.{Bool, cond}
 use mathlib.Core.List.{List, [], _∷_, _++_}
@@ -23,6 +26,9 @@ use Rattle.region.specs.Reader.{File, read}
 use Rattle.region.specs.Answers.{headerOf, readInto, rowsInto}
 use Rattle.cutting.specs.declared.Counts.{Counts}
 use Rattle.cutting.specs.Cover.{cover, countsOf, counted, countsList}
+use Rattle.index.specs.declared.Entry.{Entry}
+use Rattle.index.specs.Entries.{Width, numbers}
+use Rattle.index.specs.Answers.{entryAnswer}
 use Rattle.htm.specs.Answers.{coverInto, bothLists}
 
 -- ---- answers as numbers
@@ -49,6 +55,14 @@ cornersForC i out = then (corners i) (λ c. room 9 out c)
 
 unfoldable pub cornersAfterC : ℕ → List ℤ → List ℤ
 cornersAfterC i out = stored (λ c before. put 0 (cornersList c) before) (cornersForC i out) out
+
+-- ---- an entry of an index
+
+unfoldable pub entryForC : ℕ → List ℤ → List ℤ → Answer Entry
+entryForC i l out = then (entryAnswer i l) (λ e. room Width out e)
+
+unfoldable pub entryAfterC : ℕ → List ℤ → List ℤ → List ℤ
+entryAfterC i l out = stored (λ e before. put 0 (numbers e) before) (entryForC i l out) out
 
 -- ---- a file, with two lent lists
 

@@ -2,6 +2,7 @@
 -- Statements; they are proved in proofs/Refusals. The calls that write into a lent list are the name, the reader, the two writers (`writeIn`), the two
 -- conversions (`convert`) and the cover; for C also the corners, and the reader and the cover with a second list. (The calls for C that answer a length have
 -- the rules of the others.)
+-- Those that write into an index are begin, add and remove; there 10 says that the list is no index, and comes before what is asked of one.
 --   SpaceLast     what is refused for another reason keeps its number, whatever list is lent
 --   LentListsStay where a call refuses, every lent list is as it was
 use Prim.Native.Nat.{ℕ}
@@ -17,8 +18,10 @@ use Rattle.region.specs.declared.Style.{Style}
 use Rattle.region.specs.Writer.{writeIn}
 use Rattle.region.specs.Converting.{convert}
 use Rattle.region.specs.Answers.{readAnswer, readAfter, fileAnswer, fileAfter}
+use Rattle.index.specs.Exposures.{Exposure, Key}
+use Rattle.index.specs.Answers.{beginAnswer, beginAfter, addAnswer, addAfter, removeAnswer, removeAfter}
 use Rattle.htm.specs.Answers.{coverAnswer, coverAfter}
-use Rattle.htm.specs.CalledFromC.{cornersForC, cornersAfterC, readForC, rowsAfterC, headerAfterC, coverForC, coverAfterC, countsAfterC}
+use Rattle.htm.specs.CalledFromC.{entryForC, entryAfterC, cornersForC, cornersAfterC, readForC, rowsAfterC, headerAfterC, coverForC, coverAfterC, countsAfterC}
 
 abbrev pub SpaceLast : Type 0
 SpaceLast =
@@ -42,3 +45,7 @@ LentListsStay =
     × ((i n : ℕ) (out : List ℤ) → cornersForC i out ≡ refused n → cornersAfterC i out ≡ out)
     × ((f : List ℕ) (n : ℕ) (rows : List ℤ) (header : List ℕ) → readForC f rows header ≡ refused n → (rowsAfterC f rows header ≡ rows) × (headerAfterC f rows header ≡ header))
     × ((f : List ℕ) (n : ℕ) (out counts : List ℕ) → coverForC f out counts ≡ refused n → (coverAfterC f out counts ≡ out) × (countsAfterC f out counts ≡ counts))
+    × ((n : ℕ) (l : List ℤ) → beginAnswer l ≡ refused n → beginAfter l ≡ l)
+    × ((x : Exposure) (n : ℕ) (l : List ℤ) → addAnswer x l ≡ refused n → addAfter x l ≡ l)
+    × ((k : Key) (n : ℕ) (l : List ℤ) → removeAnswer k l ≡ refused n → removeAfter k l ≡ l)
+    × ((i n : ℕ) (l out : List ℤ) → entryForC i l out ≡ refused n → entryAfterC i l out ≡ out)

@@ -1,9 +1,11 @@
-// The public face: every exported call; those for a host in C stand in from_c.rt. Each answers by the rule that its contract names, for good and bad
-// input alike, and none has a `requires`. A refusal carries its number only (crate answer), and then every lent element keeps its value.
+// The public face: every exported call; those for a host in C stand in from_c.rt and index_from_c.rt. Each answers by the rule that its contract
+// names, for good and bad input alike, and none has a `requires`. A refusal carries its number only (crate answer), and then every lent element keeps its value.
 use answer::DEPTH;
 use answer::Number;
 use answer::SPACE;
 use cutting::Counts;
+use index::Change;
+use index::EntryOf;
 use limits::HALFSPACES;
 use mesh::CornersOf;
 use mount::Report;
@@ -23,10 +25,14 @@ ghost use Rattle.mesh.specs.Answers.{cornersGiven, nameAnswer, nameAfter};
 ghost use Rattle.region.specs.Writer.{writeGrouped};
 ghost use Rattle.region.specs.Converting.{toGrouped, toPlain};
 ghost use Rattle.region.specs.Answers.{headerGiven, readAnswer, readAfter, fileAnswer, fileAfter, writeAnswer, writeAfter, heldGiven, pointTest};
+ghost use Rattle.index.specs.Exposures.{exposure};
+ghost use Rattle.index.specs.Answers.{beginAnswer, beginAfter, addAnswer, addAfter, removeAnswer, removeAfter, countAnswer, entryAnswer};
+ghost use Rattle.index.specs.Answers.{changeGiven, entryGiven};
 ghost use Rattle.htm.specs.Answers as answers;
 ghost use Rattle.htm.specs.Answers.{lookupReport, locateLine, coverGiven, coverAnswer, coverAfter};
 
 pub mod from_c;
+pub mod index_from_c;
 mod to_c;
 
 // The six counts, or the number of the first check that failed.
@@ -168,4 +174,42 @@ pub fn cover(file: &[u8], out: &mut [u64]) -> CoverOf
         }
         HeaderOf::Refused(n) => CoverOf::Refused(n),
     }
+}
+
+// Makes a list an empty index of exposures; refusal 10 where it has fewer than index::LEAST elements, as in the four calls below.
+pub fn index_begin(index: &mut [i64]) -> Change
+    ensures { λ r. ⌜ changeGiven r ≡ beginAnswer (now (index .entry)) ⌝ }
+    ensures { λ r. ⌜ now (index .exit) ≡ beginAfter (now (index .entry)) ⌝ }
+{
+    index_calls::begin(index)
+}
+
+// One exposure more in an index, by its number and its pointing; refusals 8, 10, 15, 16.
+pub fn add(index: &mut [i64], number: u32, x: i32, y: i32, z: i32) -> Change
+    ensures { λ r. ⌜ changeGiven r ≡ addAnswer (exposure number x y z) (now (index .entry)) ⌝ }
+    ensures { λ r. ⌜ now (index .exit) ≡ addAfter (exposure number x y z) (now (index .entry)) ⌝ }
+{
+    index_calls::add(index, number, pointing(x, y, z))
+}
+
+// One exposure less, by its number; refusals 10, 17.
+pub fn remove(index: &mut [i64], number: u32) -> Change
+    ensures { λ r. ⌜ changeGiven r ≡ removeAnswer number (now (index .entry)) ⌝ }
+    ensures { λ r. ⌜ now (index .exit) ≡ removeAfter number (now (index .entry)) ⌝ }
+{
+    index_calls::remove(index, number)
+}
+
+// How many entries an index has; refusal 10.
+pub fn index_count(index: &[i64]) -> Number
+    ensures { λ r. ⌜ numberOf r ≡ countAnswer (now (index .entry)) ⌝ }
+{
+    index_calls::count(index)
+}
+
+// The entry at a place, counted from 0; refusals 10, 17.
+pub fn index_entry(index: &[i64], place: u32) -> EntryOf
+    ensures { λ r. ⌜ entryGiven r ≡ entryAnswer place (now (index .entry)) ⌝ }
+{
+    index_calls::entry(index, place)
 }

@@ -1,6 +1,7 @@
 // What the calls for C are made of: answers as numbers, and values in lent lists. None of it is exported, so each may ask something of its callers.
 use answer::Number;
 use answer::SPACE;
+use index::Change;
 use limits::HALFSPACES;
 use mesh::Corners;
 use region::Header;
@@ -17,6 +18,7 @@ ghost use Rattle.answer.specs.Lent.{put};
 ghost use Rattle.vector.specs.Vectors.{three};
 ghost use Rattle.vector.proofs.Sizes.{Small};
 ghost use Rattle.mesh_trixels.specs.Corners.{SmallCorners};
+ghost use Rattle.index.specs.Answers.{changeGiven};
 ghost use Rattle.htm.specs.Answers.{orZero};
 ghost use Rattle.htm.specs.CalledFromC.{numberForC, statusOf, cornersList, refusalOf, headerList};
 
@@ -45,6 +47,16 @@ pub(crate) fn number_or_minus(answer: Number) -> i64
     match answer {
         Number::Gives(n) => n as i64,
         Number::Refused(n) => minus(n),
+    }
+}
+
+// What a call answers that changes the index: 0, or minus the number of the refusal.
+pub(crate) fn status(answer: Change) -> i64
+    ensures { λ r. ⌜ (r ≡ statusOf (changeGiven answer)) × Upto (2 ^ 32) r ⌝ }
+{
+    match answer {
+        Change::Made => 0,
+        Change::Refused(n) => minus(n),
     }
 }
 

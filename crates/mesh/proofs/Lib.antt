@@ -1,3 +1,4 @@
+pub mod LookupLaws
 pub mod NameLaws
 pub mod NamesInverse
 pub mod Path

@@ -1,0 +1,21 @@
+// An index of exposures, kept while the program runs: answers command lines on standard input, one line each on standard output.
+//
+//   add NUMBER X Y Z     one exposure more: ok, or refused N
+//   remove NUMBER        one exposure less: ok, or refused N
+//   list                 the entries in their order, IDENTIFIER NUMBER X Y Z each, joined by `|`; `-` where there is none
+//
+// The index begins empty. A line of another shape is answered `usage`. Words are parted by one blank; numbers are decimal, NUMBER of 32 bits without a
+// sign, X Y Z with an optional minus. A line ends with a line feed; the last line may do without. A line of more than 65536 bytes is of another shape.
+// Where a read or a write fails, standard error says so and no line more is answered.
+use index::LEAST;
+
+fn main() {
+    let mut index = [0i64; LEAST];
+    let mut line = io::large_buffer();
+    let mut out = io::large_buffer();
+    let n = archive_lines::answer_lines(&mut index, &mut line, &mut out);
+    if 0 < n {
+        let at = archive_lines::answer_line(&mut index, &line, n, &mut out, 0);
+        print::flush(&out, at);
+    }
+}

@@ -1,0 +1,64 @@
+// The calls on an index of exposures for a host in C: each is a call of the crate, with a number for its answer. None has a `requires`.
+// A list is passed as a pointer and its number of elements: include/htm.h.
+use crate::to_c;
+use answer::SPACE;
+use index::EntryOf;
+use index::WIDTH;
+ghost use mathlib.Core.Path.{_≡_};
+ghost use Rattle.index.specs.Exposures.{exposure};
+ghost use Rattle.index.specs.Answers.{beginAnswer, beginAfter, addAnswer, addAfter, removeAnswer, removeAfter, countAnswer};
+ghost use Rattle.htm.specs.CalledFromC.{numberForC, statusOf, entryForC, entryAfterC};
+
+// Makes a list an empty index: 0, or minus the number of the refusal.
+#[no_mangle]
+pub extern "C" fn htm_index_begin(index: &mut [i64]) -> i64
+    ensures { λ r. ⌜ r ≡ statusOf (beginAnswer (now (index .entry))) ⌝ }
+    ensures { λ r. ⌜ now (index .exit) ≡ beginAfter (now (index .entry)) ⌝ }
+{
+    to_c::status(crate::index_begin(index))
+}
+
+// One exposure more: 0, or minus the number of the refusal.
+#[no_mangle]
+pub extern "C" fn htm_add(index: &mut [i64], number: u32, x: i32, y: i32, z: i32) -> i64
+    ensures { λ r. ⌜ r ≡ statusOf (addAnswer (exposure number x y z) (now (index .entry))) ⌝ }
+    ensures { λ r. ⌜ now (index .exit) ≡ addAfter (exposure number x y z) (now (index .entry)) ⌝ }
+{
+    to_c::status(crate::add(index, number, x, y, z))
+}
+
+// One exposure less: 0, or minus the number of the refusal.
+#[no_mangle]
+pub extern "C" fn htm_remove(index: &mut [i64], number: u32) -> i64
+    ensures { λ r. ⌜ r ≡ statusOf (removeAnswer number (now (index .entry))) ⌝ }
+    ensures { λ r. ⌜ now (index .exit) ≡ removeAfter number (now (index .entry)) ⌝ }
+{
+    to_c::status(crate::remove(index, number))
+}
+
+// How many entries there are, or minus the number of the refusal.
+#[no_mangle]
+pub extern "C" fn htm_index_count(index: &[i64]) -> i64
+    ensures { λ r. ⌜ r ≡ numberForC (countAnswer (now (index .entry))) ⌝ }
+{
+    to_c::number_or_minus(crate::index_count(index))
+}
+
+// The entry at a place, its five numbers at the beginning of `out`: 0, or minus the number of the refusal, 10 also where `out` has fewer elements.
+#[no_mangle]
+pub extern "C" fn htm_index_entry(index: &[i64], place: u32, out: &mut [i64]) -> i64
+    ensures { λ r. ⌜ r ≡ statusOf (entryForC place (now (index .entry)) (now (out .entry))) ⌝ }
+    ensures { λ r. ⌜ now (out .exit) ≡ entryAfterC place (now (index .entry)) (now (out .entry)) ⌝ }
+{
+    let answer = crate::index_entry(index, place);
+    match answer {
+        EntryOf::Gives(e) => {
+            if out.len() < WIDTH {
+                return to_c::minus(SPACE);
+            }
+            index_entries::store_entry(out, 0, e);
+            0
+        }
+        EntryOf::Refused(n) => to_c::minus(n),
+    }
+}

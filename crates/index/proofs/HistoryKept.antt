@@ -1,0 +1,249 @@
+-- A history of calls is kept: each call answers what the rule says of the exposures that are there, and the entries are theirs, each once, ascending.
+-- By induction over the calls: the entries and the exposures pass every test equally often, so they have the same numbers and are as many, and the
+-- checks of a call agree; an accepted add inserts one entry into its place, an accepted removal takes the one with the number. Assumes nothing.
+use Prim.Native.Nat.{ℕ, suc, _≤_, _<_}
+use mathlib.Core.Path.{_≡_, sym, ap, subst, _∙_, refl}
+use mathlib.Core.Bool.{Bool, true, false, cond, not, _&&_, and-true, true≢false, false≢true}
+use mathlib.Core.List.{List, [], _∷_, map}
+use native.Mathlib.Omega.{arith}
+use borrow.Author.Tests.{le-leb, lt-ltb, le-ltb, ltb-true, ltb-false, eqb-true, not-true}
+use lib.Dec.{leb, ltb, leb·zero}
+use lib.ListN.{length, getD, drop}
+use lib.IntN.{ℤ, pos}
+use Rattle.algebra.specs.Lists.{every, some, tally}
+use Rattle.algebra.proofs.Tests.{and-left, and-right, and-both, split}
+use Rattle.answer.specs.Answer.{Answer, refused, gives, check, Vector, Twice, Full, Absent, Space}
+use Rattle.answer.specs.Lent.{stored}
+use Rattle.vector.specs.Numbers.{eqZ}
+use Rattle.vector.specs.Vectors.{isVector}
+use Rattle.mesh.specs.Lookup.{identifier}
+use Rattle.index.specs.declared.Entry.{Entry}
+use Rattle.index.specs.declared.Change.{Change}
+use Rattle.index.specs.Exposures.{Most, Exposure, isNumber, Key, keyOf, hasKey, Call, adds, removes, without, giving, leaving, answered, contentFrom, contentOf, answersFrom}
+use Rattle.index.specs.Entries.{Least, entryOf, isKeyed, countOf, entriesFrom, entriesIn, keeping, inserted, withdrawn}
+use Rattle.index.specs.Answers.{adding, removing, addAnswer, addAfter, removeAnswer, removeAfter, beginAnswer, beginAfter, countAnswer, changeGiven}
+use Rattle.index.specs.Kept.{Holds, isFiled, IsIndex, IsEmpty, callAnswer, callAfter, Runs, numbered, Numbered, ServesAgain, Kept}
+use Rattle.index.proofs.WrittenLaws.{keeping-long, in-keeping, length-in}
+use Rattle.index.proofs.TallyLaws.{some-tally, tally-all, all-pass, both-fewer, inserted-tally, inserted-length, withdrawn-tally, withdrawn-fewer, without-tally, without-length}
+use Rattle.index.proofs.OrderLaws.{inserted-ascends, withdrawn-ascends, eqZ-eq, eqZ-refl}
+
+-- ---- exposures and their entries
+
+key-of : (k : Key) (x : Exposure) → hasKey k x ≡ true → keyOf x ≡ k
+key-of k x e = eqb-true (x .number) k e
+
+-- a number of 32 bits, and a vector
+abbrev isExposure : Exposure → Bool
+isExposure x = isNumber (x .number) && isVector (x .pointing)
+
+pub record Files (xs : List Exposure) (es : List Entry) : Type 0 where
+  pub holds : Holds xs es
+  pub few : length es ≤ Most
+  pub single : (k : Key) → tally (hasKey k) xs ≤ 1
+  pub proper : tally (λ x. not (isExposure x)) xs ≡ 0
+
+module _ (xs : List Exposure) (es : List Entry) (h : Files xs es) where
+  as-many : length es ≡ length xs
+  as-many = sym (tally-all es) ∙ h .holds .exactly (λ e. true) ∙ tally-all xs
+
+  same-some : (n : Key) → some (isKeyed n) es ≡ some (hasKey n) xs
+  same-some n = some-tally (isKeyed n) es ∙ ap (ltb 0) (h .holds .exactly (isKeyed n)) ∙ sym (some-tally (hasKey n) xs)
+
+  -- one exposure more, whose number is not there
+  more : (x : Exposure) → isNumber (x .number) ≡ true → isVector (x .pointing) ≡ true → some (isKeyed (keyOf x)) es ≡ false → length es < Most → Files (x ∷ xs) (inserted (entryOf x) es)
+  unfolding tally
+  more x u v o f =
+      let e = entryOf x in
+      let none : tally (hasKey (keyOf x)) xs ≡ 0 = omega (arith, ltb-false 0 (tally (hasKey (keyOf x)) xs) (sym (some-tally (hasKey (keyOf x)) xs) ∙ sym (same-some (keyOf x)) ∙ o)) in
+      record {
+        holds = record {
+          ascends = inserted-ascends x es o (h .holds .ascends);
+          exactly = λ g. inserted-tally g e es ∙ ap (λ m. cond (g e) (suc m) m) (h .holds .exactly g);
+        };
+        few = omega (arith, inserted-length e es);
+        single = λ n.
+            split (hasKey n x)
+            (λ t. let z : tally (hasKey n) xs ≡ 0 = ap (λ m. tally (hasKey m) xs) (sym (key-of n x t)) ∙ none in
+            subst (λ b. cond b (suc (tally (hasKey n) xs)) (tally (hasKey n) xs) ≤ 1) (sym t) (omega arith))
+            (λ t. subst (λ b. cond b (suc (tally (hasKey n) xs)) (tally (hasKey n) xs) ≤ 1) (sym t) (h .single n));
+        proper = ap (λ b. cond (not b) (suc (tally (λ y. not (isExposure y)) xs)) (tally (λ y. not (isExposure y)) xs)) (and-both u v) ∙ h .proper;
+      }
+
+  -- those without a number
+  fewer : (n : Key) → Files (without n xs) (withdrawn n es)
+  fewer n =
+      let one : tally (isKeyed n) es ≤ 1 = omega (arith, h .holds .exactly (isKeyed n), h .single n) in
+      let left : (g : Exposure → Bool) → tally g (without n xs) ≤ tally g xs = λ g. omega (arith, without-tally g n xs, both-fewer g (λ x. not (hasKey n x)) xs) in
+      record {
+        holds = record {
+          ascends = withdrawn-ascends n es (h .holds .ascends);
+          exactly = λ g. withdrawn-tally g n es one ∙ h .holds .exactly (λ e. g e && not (isKeyed n e)) ∙ sym (without-tally (λ x. g (entryOf x)) n xs);
+        };
+        few = omega (arith, withdrawn-fewer n es, h .few);
+        single = λ m. omega (arith, left (hasKey m), h .single m);
+        proper = omega (arith, left (λ x. not (isExposure x)), h .proper);
+      }
+
+-- ---- the answer of a call, on the entries and by the rule
+
+abbrev Agree : Answer (List Entry) → Answer (List Exposure) → Type 0
+Agree (refused m) (refused n) = m ≡ n
+Agree (refused m) (gives xs) = ⊥
+Agree (gives es) (refused n) = ⊥
+Agree (gives es) (gives xs) = Files xs es
+
+agree-check : (n : ℕ) (t u : Bool) (a : Answer (List Entry)) (b : Answer (List Exposure)) → t ≡ u → (t ≡ true → Agree a b) → Agree (check n t a) (check n u b)
+agree-check n true true a b e f = f refl
+agree-check n true false a b e f = absurd (true≢false e)
+agree-check n false true a b e f = absurd (false≢true e)
+agree-check n false false a b e f = refl
+
+agree-passed : (n : ℕ) (t : Bool) (a : Answer (List Entry)) (b : Answer (List Exposure)) → t ≡ true → Agree a b → Agree (check n t a) b
+agree-passed n t a b e h = subst (λ u. Agree (check n u a) b) (sym e) h
+
+-- a list that holds the entries of the exposures xs
+pub record Stands (xs : List Exposure) (l : List ℤ) : Type 0 where
+  pub long : Least ≤ length l
+  pub counted : getD l 0 (pos 0) ≡ pos (length (entriesIn l))
+  pub files : Files xs (entriesIn l)
+
+-- the entries after a call, or its refusal
+abbrev calling : Call → List ℤ → Answer (List Entry)
+calling (adds x) l = adding x l
+calling (removes k) l = removing k l
+
+agrees : (c : Call) (xs : List Exposure) (l : List ℤ) → numbered c ≡ true → Stands xs l → Agree (calling c l) (giving Most c xs)
+agrees (adds x) xs l u s =
+    let es = entriesIn l in
+    let v = isVector (x .pointing) in
+    agree-check Vector v v _ _ refl (λ p.
+    agree-passed Space (leb Least (length l)) _ _ (le-leb Least (length l) (s .long))
+    (agree-check Twice (not (some (isKeyed (keyOf x)) es)) (not (some (hasKey (keyOf x)) xs)) _ _ (ap not (same-some xs es (s .files) (keyOf x))) (λ q.
+    agree-check Full (ltb (length es) Most) (ltb (length xs) Most) _ _ (ap (λ n. ltb n Most) (as-many xs es (s .files))) (λ r.
+    more xs es (s .files) x u p (not-true (some (isKeyed (keyOf x)) es) q) (ltb-true (length es) Most r)))))
+agrees (removes n) xs l u s =
+    let es = entriesIn l in
+    agree-passed Space (leb Least (length l)) _ _ (le-leb Least (length l) (s .long))
+    (agree-check Absent (some (isKeyed n) es) (some (hasKey n) xs) _ _ (same-some xs es (s .files) n) (λ p. fewer xs es (s .files) n))
+
+-- ---- one call
+
+kept-stands : (xs : List Exposure) (es : List Entry) (l : List ℤ) → Least ≤ length l → Files xs es → Stands xs (keeping es l)
+unfolding keeping
+kept-stands xs es l h f =
+    let e : es ≡ entriesIn (keeping es l) = sym (in-keeping es l (f .few) h) in
+    record { long = keeping-long es l (f .few) h; counted = ap (λ x. pos (length x)) e; files = subst (Files xs) e f }
+
+module _ (xs : List Exposure) (l m : List ℤ) (r : Change) (s : Stands xs l) where
+  one-call : (a : Answer (List Entry)) (b : Answer (List Exposure)) → Agree a b → changeGiven r ≡ answered a → m ≡ stored keeping a l
+      → (changeGiven r ≡ answered b) × Stands (leaving b xs) m
+  one-call (refused i) (refused j) e c d = (c ∙ ap refused e, subst (Stands xs) (sym d) s)
+  one-call (refused i) (gives ys) e c d = absurd e
+  one-call (gives es) (refused j) e c d = absurd e
+  one-call (gives es) (gives ys) e c d = (c, subst (Stands ys) (sym d) (kept-stands ys es l (s .long) e))
+
+does-answer : (c : Call) (l : List ℤ) → callAnswer c l ≡ answered (calling c l)
+unfolding addAnswer removeAnswer
+does-answer (adds x) l = refl
+does-answer (removes k) l = refl
+
+does-after : (c : Call) (l : List ℤ) → callAfter c l ≡ stored keeping (calling c l) l
+unfolding addAfter removeAfter
+does-after (adds x) l = refl
+does-after (removes k) l = refl
+
+-- ---- all calls
+
+run : (h : List Call) (rs : List Change) (l n : List ℤ) (xs : List Exposure) → Numbered h → Stands xs l → Runs l h rs n
+    → (map changeGiven rs ≡ answersFrom Most xs h) × Stands (contentFrom Most xs h) n
+unfolding answersFrom contentFrom every
+run [] [] l n xs u s e = (refl, subst (Stands xs) (sym e) s)
+run [] (r ∷ rs) l n xs u s e = absurd e
+run (c ∷ h) [] l n xs u s e = absurd e
+run (c ∷ h) (r ∷ rs) l n xs u s e =
+    let m = e .0 in
+    let a = agrees c xs l (and-left (numbered c) (every numbered h) u) s in
+    let one = one-call xs l m r s (calling c l) (giving Most c xs) a (e .1 .answer ∙ does-answer c l) (e .1 .list ∙ does-after c l) in
+    let rest = run h rs m n (leaving (giving Most c xs) xs) (and-right (numbered c) (every numbered h) u) (one .1) (e .2) in
+    ((λ i. one .0 i ∷ rest .0 i), rest .1)
+
+-- ---- an index
+
+-- of the entry of an exposure, the number and the vector are what is left to test
+filed : (x : Exposure) → isFiled (entryOf x) ≡ isExposure x
+filed x =
+    let n = isNumber (x .number) in
+    let v = isVector (x .pointing) in
+    (λ i. leb·zero (x .number) i && n && v && eqZ-refl (pos (identifier (x .pointing) 12)) i) ∙ and-true (n && v)
+
+is-index : (xs : List Exposure) (l : List ℤ) → Stands xs l → IsIndex l
+is-index xs l s =
+    let f = s .files in
+    record {
+      long = s .long;
+      counted = s .counted;
+      few = f .few;
+      ascends = f .holds .ascends;
+      differ = λ n. omega (arith, f .holds .exactly (isKeyed n), f .single n);
+      filed = all-pass isFiled (entriesIn l) (f .holds .exactly (λ e. not (isFiled e)) ∙ (λ i. tally (λ x. not (filed x i)) xs) ∙ f .proper);
+    }
+
+serves-again : (xs : List Exposure) → length xs ≤ Most → ServesAgain xs
+serves-again xs few = record {
+  full = λ x e v o. let f : ltb (length xs) Most ≡ false = le-ltb (length xs) Most (omega arith) in rw (v, o, f) refl;
+  withdrawn = λ k p. rw p refl;
+  again = λ k x p v o.
+      let t : 0 < tally (hasKey k) xs = ltb-true 0 (tally (hasKey k) xs) (sym (some-tally (hasKey k) xs) ∙ p) in
+      let f : ltb (length (without k xs)) Most ≡ true = lt-ltb (length (without k xs)) Most (omega (arith, without-length k xs)) in
+      rw (v, o, f) refl;
+}
+
+-- ---- an empty one
+
+none-files : Files [] []
+unfolding tally
+none-files = record { holds = record { ascends = tt; exactly = λ g. refl }; few = omega arith; single = λ n. omega arith; proper = refl }
+
+empty-stands : (l : List ℤ) → Least ≤ length l → getD l 0 (pos 0) ≡ pos 0 → Stands [] l
+unfolding entriesIn entriesFrom
+empty-stands l h e =
+    let none : entriesIn l ≡ [] = ap (λ z. entriesFrom (countOf z) (drop 1 l)) e in
+    record { long = h; counted = e ∙ ap (λ x. pos (length x)) (sym none); files = subst (Files []) (sym none) none-files }
+
+empty-index : (l : List ℤ) → Least ≤ length l → getD l 0 (pos 0) ≡ pos 0 → IsEmpty l
+unfolding entriesIn entriesFrom
+empty-index l h e = (is-index [] l (empty-stands l h e), ap (λ z. entriesFrom (countOf z) (drop 1 l)) e)
+
+is-empty : (l : List ℤ) → IsEmpty l → Stands [] l
+is-empty l e = empty-stands l (e .0 .long) (e .0 .counted ∙ ap (λ x. pos (length x)) (e .1))
+
+zeros-first : (l : List ℤ) → Least ≤ length l → every (eqZ (pos 0)) l ≡ true → getD l 0 (pos 0) ≡ pos 0
+unfolding every
+zeros-first [] h e = absurd (omega arith)
+zeros-first (z ∷ l) h e = sym (eqZ-eq (pos 0) z (and-left (eqZ (pos 0) z) (every (eqZ (pos 0)) l) e))
+
+begins : (l : List ℤ) → Least ≤ length l → (beginAnswer l ≡ gives tt) × IsEmpty (beginAfter l)
+unfolding beginAnswer beginAfter keeping
+begins l h =
+    let t : leb Least (length l) ≡ true = le-leb Least (length l) h in
+    let after : IsEmpty (keeping [] l) = empty-index (keeping [] l) (keeping-long [] l (omega arith) h) refl in
+    (rw t refl, rw t after)
+
+-- ---- all of it
+
+counts : (xs : List Exposure) (n : List ℤ) → Stands xs n → countAnswer n ≡ gives (length xs)
+unfolding countAnswer
+counts xs n s =
+    let t : leb Least (length n) ≡ true = le-leb Least (length n) (s .long) in
+    rw t (ap gives (sym (length-in n) ∙ as-many xs (entriesIn n) (s .files)))
+
+pub history-kept : Kept
+history-kept = record {
+  zeros = λ l h e. empty-index l h (zeros-first l h e);
+  begun = begins;
+  kept = λ l n h rs e u runs.
+      let o = run h rs l n [] u (is-empty l e) runs in
+      let xs = contentOf Most h in
+      let few : length xs ≤ Most = omega (arith, as-many xs (entriesIn n) (o .1 .files), o .1 .files .few) in
+      record { answers = o .0; index = is-index xs n (o .1); content = o .1 .files .holds; count = counts xs n (o .1); again = serves-again xs few };
+}

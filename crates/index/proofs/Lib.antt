@@ -1,0 +1,5 @@
+pub mod WrittenLaws
+pub mod TallyLaws
+pub mod OrderLaws
+pub mod HistoryKept
+pub mod Examples

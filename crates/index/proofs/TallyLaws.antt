@@ -1,0 +1,134 @@
+-- How many elements pass a test, where one more is inserted, where one is withdrawn, and where all of a kind are left out. By recursion over the list,
+-- test by test. Assumes nothing.
+use Prim.Native.Nat.{ℕ, suc, _+_, _≤_}
+use mathlib.Core.Path.{_≡_, sym, ap, _∙_, refl}
+use mathlib.Core.Bool.{Bool, true, false, cond, not, _&&_, _||_}
+use mathlib.Core.List.{List, [], _∷_}
+use native.Mathlib.Omega.{arith}
+use borrow.Author.Tests.{lt-ltb}
+use lib.Dec.{ltb}
+use lib.ListN.{length}
+use Rattle.algebra.specs.Lists.{every, some, tally}
+use Rattle.index.specs.declared.Entry.{Entry}
+use Rattle.index.specs.Exposures.{Exposure, Key, hasKey, without}
+use Rattle.index.specs.Entries.{precedes, isKeyed, inserted, withdrawn}
+
+-- ---- of any list
+
+abbrev counting : Bool → ℕ → ℕ
+counting t n = cond t (suc n) n
+
+module _ {A : Type 0} where
+  pub some-tally : (f : A → Bool) (xs : List A) → some f xs ≡ ltb 0 (tally f xs)
+  unfolding some tally
+  some-tally f [] = refl
+  some-tally f (x ∷ xs) = by-test (f x) (some-tally f xs)
+    where
+      by-test : (t : Bool) → some f xs ≡ ltb 0 (tally f xs) → (t || some f xs) ≡ ltb 0 (counting t (tally f xs))
+      by-test true e = sym (lt-ltb 0 (suc (tally f xs)) (omega arith))
+      by-test false e = e
+
+  pub tally-all : (xs : List A) → tally (λ x. true) xs ≡ length xs
+  unfolding tally
+  tally-all [] = refl
+  tally-all (x ∷ xs) = ap suc (tally-all xs)
+
+  pub all-pass : (f : A → Bool) (xs : List A) → tally (λ x. not (f x)) xs ≡ 0 → every f xs ≡ true
+  unfolding tally every
+  all-pass f [] e = refl
+  all-pass f (x ∷ xs) e = by-test (f x) (all-pass f xs) e
+    where
+      by-test : (t : Bool) → (tally (λ y. not (f y)) xs ≡ 0 → every f xs ≡ true) → counting (not t) (tally (λ y. not (f y)) xs) ≡ 0 → (t && every f xs) ≡ true
+      by-test true r h = r h
+      by-test false r h = absurd (omega arith)
+
+  pub parted : (f : A → Bool) (xs : List A) → tally f xs + tally (λ x. not (f x)) xs ≡ length xs
+  unfolding tally
+  parted f [] = refl
+  parted f (x ∷ xs) = by-test (f x) (parted f xs)
+    where
+      by-test : (t : Bool) → tally f xs + tally (λ y. not (f y)) xs ≡ length xs → counting t (tally f xs) + counting (not t) (tally (λ y. not (f y)) xs) ≡ suc (length xs)
+      by-test true e = omega arith
+      by-test false e = omega arith
+
+  -- two tests are passed by no more than the first
+  pub both-fewer : (f g : A → Bool) (xs : List A) → tally (λ x. f x && g x) xs ≤ tally f xs
+  unfolding tally
+  both-fewer f g [] = omega arith
+  both-fewer f g (x ∷ xs) = by-test (f x) (g x) (both-fewer f g xs)
+    where
+      by-test : (t u : Bool) → tally (λ y. f y && g y) xs ≤ tally f xs → counting (t && u) (tally (λ y. f y && g y) xs) ≤ counting t (tally f xs)
+      by-test true true h = omega arith
+      by-test true false h = omega arith
+      by-test false u h = h
+
+  -- where none passes g, all that pass f fail g
+  pub none-of : (f g : A → Bool) (xs : List A) → tally g xs ≡ 0 → tally f xs ≡ tally (λ x. f x && not (g x)) xs
+  unfolding tally
+  none-of f g [] h = refl
+  none-of f g (x ∷ xs) h = by-test (f x) (g x) (none-of f g xs) h
+    where
+      by-test : (t u : Bool) → (tally g xs ≡ 0 → tally f xs ≡ tally (λ y. f y && not (g y)) xs) → counting u (tally g xs) ≡ 0
+          → counting t (tally f xs) ≡ counting (t && not u) (tally (λ y. f y && not (g y)) xs)
+      by-test t true r e = absurd (omega arith)
+      by-test true false r e = ap suc (r e)
+      by-test false false r e = r e
+
+-- ---- of the entries
+
+pub inserted-tally : (f : Entry → Bool) (e : Entry) (es : List Entry) → tally f (inserted e es) ≡ tally f (e ∷ es)
+unfolding tally inserted
+inserted-tally f e [] = refl
+inserted-tally f e (x ∷ es) = by-test (every (precedes e) (x ∷ es)) (inserted-tally f e es)
+  where
+    exchanged : (t u : Bool) (n : ℕ) → counting t (counting u n) ≡ counting u (counting t n)
+    exchanged true true n = refl
+    exchanged true false n = refl
+    exchanged false true n = refl
+    exchanged false false n = refl
+
+    by-test : (t : Bool) → tally f (inserted e es) ≡ tally f (e ∷ es) → tally f (cond t (e ∷ x ∷ es) (x ∷ inserted e es)) ≡ tally f (e ∷ x ∷ es)
+    by-test true r = refl
+    by-test false r = ap (counting (f x)) r ∙ exchanged (f x) (f e) (tally f es)
+
+pub inserted-length : (e : Entry) (es : List Entry) → length (inserted e es) ≡ suc (length es)
+unfolding tally
+inserted-length e es = sym (tally-all (inserted e es)) ∙ inserted-tally (λ x. true) e es ∙ ap suc (tally-all es)
+
+pub withdrawn-tally : (f : Entry → Bool) (n : Key) (es : List Entry) → tally (isKeyed n) es ≤ 1 → tally f (withdrawn n es) ≡ tally (λ e. f e && not (isKeyed n e)) es
+unfolding tally withdrawn
+withdrawn-tally f n [] h = refl
+withdrawn-tally f n (x ∷ es) h = by-test (isKeyed n x) (f x) (withdrawn-tally f n es) h refl
+  where
+    by-test : (t u : Bool) → (tally (isKeyed n) es ≤ 1 → tally f (withdrawn n es) ≡ tally (λ e. f e && not (isKeyed n e)) es) → counting t (tally (isKeyed n) es) ≤ 1 → f x ≡ u
+        → tally f (cond t es (x ∷ withdrawn n es)) ≡ counting (u && not t) (tally (λ e. f e && not (isKeyed n e)) es)
+    by-test true true r k e = none-of f (isKeyed n) es (omega arith)
+    by-test true false r k e = none-of f (isKeyed n) es (omega arith)
+    by-test false true r k e = ap (λ v. counting v (tally f (withdrawn n es))) e ∙ ap suc (r k)
+    by-test false false r k e = ap (λ v. counting v (tally f (withdrawn n es))) e ∙ r k
+
+pub withdrawn-fewer : (n : Key) (es : List Entry) → length (withdrawn n es) ≤ length es
+unfolding withdrawn
+withdrawn-fewer n [] = omega arith
+withdrawn-fewer n (x ∷ es) = by-test (isKeyed n x) (withdrawn-fewer n es)
+  where
+    by-test : (t : Bool) → length (withdrawn n es) ≤ length es → length (cond t es (x ∷ withdrawn n es)) ≤ suc (length es)
+    by-test true h = omega arith
+    by-test false h = omega arith
+
+-- ---- of the exposures
+
+pub without-tally : (f : Exposure → Bool) (n : Key) (xs : List Exposure) → tally f (without n xs) ≡ tally (λ x. f x && not (hasKey n x)) xs
+unfolding tally without
+without-tally f n [] = refl
+without-tally f n (x ∷ xs) = by-test (hasKey n x) (f x) (without-tally f n xs) refl
+  where
+    by-test : (t u : Bool) → tally f (without n xs) ≡ tally (λ y. f y && not (hasKey n y)) xs → f x ≡ u
+        → tally f (cond t (without n xs) (x ∷ without n xs)) ≡ counting (u && not t) (tally (λ y. f y && not (hasKey n y)) xs)
+    by-test true true r e = r
+    by-test true false r e = r
+    by-test false true r e = ap (λ v. counting v (tally f (without n xs))) e ∙ ap suc r
+    by-test false false r e = ap (λ v. counting v (tally f (without n xs))) e ∙ r
+
+pub without-length : (n : Key) (xs : List Exposure) → length (without n xs) + tally (hasKey n) xs ≡ length xs
+without-length n xs = omega (arith, tally-all (without n xs), without-tally (λ x. true) n xs, parted (hasKey n) xs)

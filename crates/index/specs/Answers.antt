@@ -1,0 +1,66 @@
+-- What the calls answer, and what they leave in the lent list. Document 02, F-10. A list of fewer than Least elements is no index, and refused as space, 10;
+-- of any other the entries are those that `entriesIn` reads, also where no history leaves it.
+--   adding x l, removing k l, beginning l   the entries after the call, or its refusal: 8, 10, 15, 16; 10, 17; 10
+--   addAnswer, removeAnswer, beginAnswer    what the call answers: that it was done, or its refusal
+--   addAfter, removeAfter, beginAfter       the list afterwards: the entries in the place of the old ones, or all as it was after a refusal
+--   countAnswer l      how many entries there are; refusal 10
+--   entryAnswer i l    the entry at place i; refusals 10, 17
+--   changeGiven r, entryGiven r   what a call gave
+use Prim.Native.Nat.{ℕ}
+use mathlib.Core.List.{List, []}
+use lib.Dec.{leb}
+use lib.ListN.{length}
+use lib.IntN.{ℤ}
+use Rattle.answer.specs.Answer.{Answer, refused, gives, check, Vector, Space}
+use Rattle.answer.specs.Lent.{stored}
+use Rattle.vector.specs.Vectors.{isVector}
+use Rattle.index.specs.declared.Entry.{Entry}
+use Rattle.index.specs.declared.Change.{Change}
+use Rattle.index.specs.declared.EntryOf.{EntryOf}
+use Rattle.index.specs.Exposures.{Exposure, Key, keyOf, answered}
+use Rattle.index.specs.Entries.{Least, entryOf, countIn, entriesIn, keeping, entering, withdrawing, placed}
+
+-- what is answered on a list that is long enough
+abbrev pub inList : {A : Type 0} → List ℤ → Answer A → Answer A
+inList l a = check Space (leb Least (length l)) a
+
+abbrev pub adding : Exposure → List ℤ → Answer (List Entry)
+adding x l = check Vector (isVector (x .pointing)) (inList l (entering (keyOf x) (entryOf x) (entriesIn l)))
+
+abbrev pub removing : Key → List ℤ → Answer (List Entry)
+removing k l = inList l (withdrawing k (entriesIn l))
+
+abbrev pub beginning : List ℤ → Answer (List Entry)
+beginning l = inList l (gives [])
+
+unfoldable pub addAnswer : Exposure → List ℤ → Answer (Unit {0})
+addAnswer x l = answered (adding x l)
+
+unfoldable pub addAfter : Exposure → List ℤ → List ℤ
+addAfter x l = stored keeping (adding x l) l
+
+unfoldable pub removeAnswer : Key → List ℤ → Answer (Unit {0})
+removeAnswer k l = answered (removing k l)
+
+unfoldable pub removeAfter : Key → List ℤ → List ℤ
+removeAfter k l = stored keeping (removing k l) l
+
+unfoldable pub beginAnswer : List ℤ → Answer (Unit {0})
+beginAnswer l = answered (beginning l)
+
+unfoldable pub beginAfter : List ℤ → List ℤ
+beginAfter l = stored keeping (beginning l) l
+
+unfoldable pub countAnswer : List ℤ → Answer ℕ
+countAnswer l = inList l (gives (countIn l))
+
+unfoldable pub entryAnswer : ℕ → List ℤ → Answer Entry
+entryAnswer i l = inList l (placed i (entriesIn l))
+
+abbrev pub changeGiven : Change → Answer (Unit {0})
+changeGiven Change.Made = gives tt
+changeGiven (Change.Refused n) = refused n
+
+abbrev pub entryGiven : EntryOf → Answer Entry
+entryGiven (EntryOf.Gives e) = gives e
+entryGiven (EntryOf.Refused n) = refused n

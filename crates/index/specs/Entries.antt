@@ -1,0 +1,106 @@
+-- The entries of an index, and how they stand in a lent list. Document 02, F-10: ordered by depth-12 identifier and then number. In the list, element 0 is
+-- the count, and then come the entries, five numbers each: identifier, number, x, y, z. What is said here is said of every list, index or not.
+--   entryOf x         the entry of an exposure
+--   below y z t       y is below z or, where they are equal, t: one part of an order, and what the parts after it say
+--   precedes a b      the order of the entries
+--   isKeyed k e       e is the entry of the exposure with the key k
+--   Width, numbers e  how many numbers an entry has, and which, as they stand in the list
+--   Least             the fewest elements of a list that is lent for an index
+--   entryAt l k       the entry whose numbers begin at element k of the list l
+--   entriesFrom n l   the first n entries of a list l without count
+--   countIn l         the count that the list l says: none where it is below 0, and no more than Most
+--   entriesIn l       the entries in the list l
+--   written es l      the list l without count with the entries es at its front; the other elements stay
+--   keeping es l      the list l with the entries es in the place of its own
+--   inserted e es     e before those entries at the end that it precedes
+--   withdrawn k es    without the first entry that has the key k
+--   entering, withdrawing   the entries after an add and after a removal, or the refusal: 15 twice, 16 full; 17 absent
+--   placed i es       the entry at place i, counted from 0, or the refusal 17
+use Prim.Native.Nat.{ℕ, zero, suc, _+_, _*_, min}
+use mathlib.Core.Bool.{Bool, cond, not, _&&_, _||_}
+use mathlib.Core.List.{List, [], _∷_, _++_}
+use lib.ListN.{length, getD, drop}
+use lib.IntN.{ℤ, pos, negsuc}
+use lib.Signed.{ltZ}
+use Rattle.algebra.specs.Lists.{every, some}
+use Rattle.answer.specs.Answer.{Answer, refused, gives, check, Twice, Full, Absent}
+use Rattle.vector.specs.declared.Vec3.{Vec3}
+use Rattle.vector.specs.Numbers.{eqZ}
+use Rattle.vector.specs.Vectors.{vec, three}
+use Rattle.mesh.specs.Lookup.{identifier}
+use Rattle.index.specs.declared.Entry.{Entry}
+use Rattle.index.specs.Exposures.{Most, Exposure, Key, hasPlace}
+
+abbrev pub entry : ℤ → ℤ → Vec3 → Entry
+entry id number pointing = record { id = id; number = number; pointing = pointing }
+
+abbrev pub entryOf : Exposure → Entry
+entryOf x = entry (pos (identifier (x .pointing) 12)) (pos (x .number)) (x .pointing)
+
+abbrev pub below : ℤ → ℤ → Bool → Bool
+below y z t = ltZ y z || (eqZ y z && t)
+
+-- by identifier, then by number
+abbrev pub precedes : Entry → Entry → Bool
+precedes a b = below (a .id) (b .id) (ltZ (a .number) (b .number))
+
+abbrev pub isKeyed : Key → Entry → Bool
+isKeyed k e = eqZ (e .number) (pos k)
+
+-- ---- in a list
+
+abbrev pub Width : ℕ
+Width = 5
+
+abbrev pub Least : ℕ
+Least = 1 + Width * Most
+
+abbrev pub numbers : Entry → List ℤ
+numbers e = e .id ∷ e .number ∷ three (e .pointing)
+
+abbrev pub entryAt : List ℤ → ℕ → Entry
+entryAt l k =
+    entry (getD l k (pos 0)) (getD l (k + 1) (pos 0)) (vec (getD l (k + 2) (pos 0)) (getD l (k + 3) (pos 0)) (getD l (k + 4) (pos 0)))
+
+unfoldable pub entriesFrom : ℕ → List ℤ → List Entry
+entriesFrom zero l = []
+entriesFrom (suc n) l = entryAt l 0 ∷ entriesFrom n (drop Width l)
+
+abbrev pub countOf : ℤ → ℕ
+countOf (pos n) = min n Most
+countOf (negsuc n) = 0
+
+abbrev pub countIn : List ℤ → ℕ
+countIn l = countOf (getD l 0 (pos 0))
+
+unfoldable pub entriesIn : List ℤ → List Entry
+entriesIn l = entriesFrom (countIn l) (drop 1 l)
+
+unfoldable pub written : List Entry → List ℤ → List ℤ
+written [] l = l
+written (e ∷ es) l = numbers e ++ written es (drop Width l)
+
+unfoldable pub keeping : List Entry → List ℤ → List ℤ
+keeping es l = pos (length es) ∷ written es (drop 1 l)
+
+-- ---- one entry more, one less, one by its place
+
+unfoldable pub inserted : Entry → List Entry → List Entry
+inserted e [] = e ∷ []
+inserted e (x ∷ es) = cond (every (precedes e) (x ∷ es)) (e ∷ x ∷ es) (x ∷ inserted e es)
+
+unfoldable pub withdrawn : Key → List Entry → List Entry
+withdrawn k [] = []
+withdrawn k (x ∷ es) = cond (isKeyed k x) es (x ∷ withdrawn k es)
+
+-- the entry e of the exposure with the key k
+abbrev pub entering : Key → Entry → List Entry → Answer (List Entry)
+entering k e es = check Twice (not (some (isKeyed k) es)) (check Full (hasPlace Most es) (gives (inserted e es)))
+
+abbrev pub withdrawing : Key → List Entry → Answer (List Entry)
+withdrawing k es = check Absent (some (isKeyed k) es) (gives (withdrawn k es))
+
+unfoldable pub placed : ℕ → List Entry → Answer Entry
+placed i [] = refused Absent
+placed zero (e ∷ es) = gives e
+placed (suc i) (e ∷ es) = placed i es

@@ -1,0 +1,101 @@
+-- The theorem of the index. Document 02, F-10: over every list of adds and removes from an empty index, the content is the set that the accepted ones leave,
+-- and a withdrawn place serves again.
+--   Ascends es        each entry precedes the next
+--   Holds xs es       es are the entries of the exposures xs, each once, in ascending order: of es as many pass every test as of xs
+--   isFiled e         e is the entry of a number of 32 bits and a vector
+--   IsIndex l         the list l is an index; IsEmpty l: one without entries
+--   Does c before after r   the call c, as its contract has it, gave r and left the list `after` of `before`
+--   Runs l h rs n     the calls h one after the other give rs, from the list l on, and leave the list n
+--   Numbered h        the numbers of the exposures that h adds have 32 bits
+--   ServesAgain xs    a full index refuses every exposure more; with one withdrawn, full or not, it takes any other
+--   Leaves h rs n     the answers rs and the list n are what the rule says of the history h
+--   Kept              the statement: lists of zeros, and lists that `begin` leaves, are empty indexes, and from one every history leaves what it should
+use Prim.Native.Nat.{_≤_}
+use mathlib.Core.Path.{_≡_}
+use mathlib.Core.Bool.{Bool, true, false, _&&_}
+use mathlib.Core.List.{List, [], _∷_, map}
+use lib.ListN.{length, getD}
+use lib.IntN.{ℤ, pos, natAbs}
+use lib.Signed.{leZ}
+use Rattle.algebra.specs.Lists.{every, some, tally}
+use Rattle.answer.specs.Answer.{Answer, refused, gives, Full}
+use Rattle.vector.specs.Numbers.{eqZ}
+use Rattle.vector.specs.Vectors.{isVector}
+use Rattle.mesh.specs.Lookup.{identifier}
+use Rattle.index.specs.declared.Entry.{Entry}
+use Rattle.index.specs.declared.Change.{Change}
+use Rattle.index.specs.Exposures.{Most, Exposure, isNumber, Key, keyOf, hasKey, Call, adds, removes, without, giving, contentOf, answersOf}
+use Rattle.index.specs.Entries.{Least, entryOf, precedes, isKeyed, entriesIn}
+use Rattle.index.specs.Answers.{addAnswer, addAfter, removeAnswer, removeAfter, beginAnswer, beginAfter, countAnswer, changeGiven}
+
+-- ---- an index
+
+abbrev pub Ascends : List Entry → Type 0
+Ascends [] = Unit {0}
+Ascends (a ∷ []) = Unit {0}
+Ascends (a ∷ b ∷ rest) = (precedes a b ≡ true) × Ascends (b ∷ rest)
+
+pub record Holds (xs : List Exposure) (es : List Entry) : Type 0 where
+  pub ascends : Ascends es
+  pub exactly : (f : Entry → Bool) → tally f es ≡ tally (λ x. f (entryOf x)) xs
+
+abbrev pub isFiled : Entry → Bool
+isFiled e = leZ (pos 0) (e .number) && isNumber (natAbs (e .number)) && isVector (e .pointing) && eqZ (e .id) (pos (identifier (e .pointing) 12))
+
+pub record IsIndex (l : List ℤ) : Type 0 where
+  pub long : Least ≤ length l
+  pub counted : getD l 0 (pos 0) ≡ pos (length (entriesIn l))
+  pub few : length (entriesIn l) ≤ Most
+  pub ascends : Ascends (entriesIn l)
+  pub differ : (k : Key) → tally (isKeyed k) (entriesIn l) ≤ 1
+  pub filed : every isFiled (entriesIn l) ≡ true
+
+abbrev pub IsEmpty : List ℤ → Type 0
+IsEmpty l = IsIndex l × (entriesIn l ≡ [])
+
+-- ---- the calls, one after the other
+
+abbrev pub callAnswer : Call → List ℤ → Answer (Unit {0})
+callAnswer (adds x) l = addAnswer x l
+callAnswer (removes k) l = removeAnswer k l
+
+abbrev pub callAfter : Call → List ℤ → List ℤ
+callAfter (adds x) l = addAfter x l
+callAfter (removes k) l = removeAfter k l
+
+pub record Does (c : Call) (before after : List ℤ) (r : Change) : Type 0 where
+  pub answer : changeGiven r ≡ callAnswer c before
+  pub list : after ≡ callAfter c before
+
+abbrev pub Runs : List ℤ → List Call → List Change → List ℤ → Type 0
+Runs l [] [] n = n ≡ l
+Runs l [] (r ∷ rs) n = ⊥
+Runs l (c ∷ h) [] n = ⊥
+Runs l (c ∷ h) (r ∷ rs) n = (m : List ℤ) × Does c l m r × Runs m h rs n
+
+abbrev pub numbered : Call → Bool
+numbered (adds x) = isNumber (x .number)
+numbered (removes k) = true
+
+abbrev pub Numbered : List Call → Type 0
+Numbered h = every numbered h ≡ true
+
+-- ---- the statement
+
+pub record ServesAgain (xs : List Exposure) : Type 0 where
+  pub full : (x : Exposure) → length xs ≡ Most → isVector (x .pointing) ≡ true → some (hasKey (keyOf x)) xs ≡ false → giving Most (adds x) xs ≡ refused Full
+  pub withdrawn : (k : Key) → some (hasKey k) xs ≡ true → giving Most (removes k) xs ≡ gives (without k xs)
+  pub again : (k : Key) (x : Exposure) → some (hasKey k) xs ≡ true → isVector (x .pointing) ≡ true → some (hasKey (keyOf x)) (without k xs) ≡ false
+      → giving Most (adds x) (without k xs) ≡ gives (x ∷ without k xs)
+
+pub record Leaves (h : List Call) (rs : List Change) (n : List ℤ) : Type 0 where
+  pub answers : map changeGiven rs ≡ answersOf Most h
+  pub index : IsIndex n
+  pub content : Holds (contentOf Most h) (entriesIn n)
+  pub count : countAnswer n ≡ gives (length (contentOf Most h))
+  pub again : ServesAgain (contentOf Most h)
+
+pub record Kept : Type 0 where
+  pub zeros : (l : List ℤ) → Least ≤ length l → every (eqZ (pos 0)) l ≡ true → IsEmpty l
+  pub begun : (l : List ℤ) → Least ≤ length l → (beginAnswer l ≡ gives tt) × IsEmpty (beginAfter l)
+  pub kept : (l n : List ℤ) (h : List Call) (rs : List Change) → IsEmpty l → Numbered h → Runs l h rs n → Leaves h rs n

@@ -1,0 +1,4 @@
+pub mod Exposures
+pub mod Entries
+pub mod Answers
+pub mod Kept

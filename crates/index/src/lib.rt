@@ -1,0 +1,30 @@
+// The exposure index: the rules in specs/, the laws in proofs/, and the types that they name. Document 02, F-10.
+use vector::Vec3;
+
+// The most entries that an index holds.
+pub const MOST: usize = 2048;
+
+// How many numbers an entry has.
+pub const WIDTH: usize = 5;
+
+// The fewest elements of a list that is lent for an index: its count, and then the entries.
+pub const LEAST: usize = 1 + WIDTH * MOST;
+
+// An exposure as it stands in the index: its identifier at depth 12, its number and its pointing.
+pub struct Entry {
+    pub id: i64,
+    pub number: i64,
+    pub pointing: Vec3,
+}
+
+// What a call answers that changes the index: that it was done, or the number of the first check that failed.
+pub enum Change {
+    Made,
+    Refused(u32),
+}
+
+// One entry, or the number of the first check that failed.
+pub enum EntryOf {
+    Gives(Entry),
+    Refused(u32),
+}

@@ -1,0 +1,172 @@
+-- What the calls find and store is what their answers say: a search that ends before the last entry found the number, and the entry that is stored
+-- in the place that was made free stands in its order. Assumes nothing.
+use Prim.Native.Nat.{ℕ, zero, suc, _+_, _*_, _-_, _≤_, _<_}
+use mathlib.Core.Path.{_≡_, sym, ap, _∙_, refl}
+use mathlib.Core.Bool.{true, false, not}
+use mathlib.Core.List.{List, [], _∷_, _++_}
+use native.Mathlib.Omega.{arith}
+use borrow.Author.Tests.{lt-leb, le-leb, lt-ltb, le-ltb}
+use lib.Dec.{leb, ltb}
+use lib.ListN.{length, take, drop, set, length-append, length-drop}
+use lib.Seq.{length-take-le, drop-drop}
+use lib.IntN.{ℤ, pos}
+use mir.Syntax.{w64}
+use mir.Val.{toZ}
+use Rattle.algebra.proofs.Sized.{nat}
+use Rattle.algebra.specs.Lists.{some}
+use Rattle.answer.specs.Answer.{Answer, refused, gives, Space, Twice, Full, Absent}
+use Rattle.answer.specs.Lent.{put}
+use Rattle.index.specs.declared.Entry.{Entry}
+use Rattle.index.specs.declared.Change.{Change}
+use Rattle.index.specs.declared.Change.the-variants.{Made, Refused}
+use Rattle.index.specs.Exposures.{Most, Exposure, Key}
+use Rattle.index.specs.Entries.{Width, Least, numbers, entryAt, precedes, isKeyed, countIn, entriesFrom, entriesIn, written, keeping, inserted, withdrawn, entering, placed}
+use Rattle.index.specs.Answers.{inList, beginning, adding, removing, beginAnswer, beginAfter, addAnswer, addAfter, removeAnswer, removeAfter, countAnswer, entryAnswer, changeGiven}
+use Rattle.index.proofs.WrittenLaws.{length-entries}
+use Rattle.index_entries.specs.Steps.{leading, staying, raised, lowered}
+use Rattle.index_entries.proofs.EntryLaws.{entry-drop}
+use Rattle.index_entries.proofs.MovedLaws.{one-more, one-less}
+use Rattle.index_entries.proofs.SearchLaws.{inserted-at, withdrawn-at, found}
+use Rattle.index_calls.specs.Done.{Done}
+
+-- ---- what is done is what the calls answer and leave
+
+module _ (l m : List ℤ) (r : Change) where
+  pub by-begin : Done (beginning l) l m r → (changeGiven r ≡ beginAnswer l) × (m ≡ beginAfter l)
+  unfolding beginAnswer beginAfter
+  by-begin d = (d .answer, d .list)
+
+  pub by-add : (x : Exposure) → Done (adding x l) l m r → (changeGiven r ≡ addAnswer x l) × (m ≡ addAfter x l)
+  unfolding addAnswer addAfter
+  by-add x d = (d .answer, d .list)
+
+  pub by-remove : (k : Key) → Done (removing k l) l m r → (changeGiven r ≡ removeAnswer k l) × (m ≡ removeAfter k l)
+  unfolding removeAnswer removeAfter
+  by-remove k d = (d .answer, d .list)
+
+-- ---- what the steps do
+
+pub too-short : (l : List ℤ) (a : Answer (List Entry)) → length l < Least → Done (inList l a) l l (Refused Space)
+too-short l a h = let e : leb Least (length l) ≡ false = lt-leb Least (length l) h in record { answer = rw e refl; list = rw e refl }
+
+pub begun : (l : List ℤ) → Least ≤ length l → Done (beginning l) l (set l 0 (pos 0)) Made
+unfolding keeping written
+begun [] h = absurd (omega arith)
+begun (c ∷ l) h = let e : leb Least (length (c ∷ l)) ≡ true = le-leb Least (length (c ∷ l)) h in record { answer = rw e refl; list = rw e refl }
+
+-- a count, stored by its bits
+whole : (n : ℕ) → n ≤ Most → toZ w64 n ≡ pos n
+whole n h = nat h tt .eq
+
+-- on a list that is long enough, by the count n that was read
+module _ (l : List ℤ) (n : ℕ) (long : Least ≤ length l) (is : n ≡ countIn l) where
+  read : entriesFrom n (drop 1 l) ≡ entriesIn l
+  unfolding entriesIn
+  read = ap (λ k. entriesFrom k (drop 1 l)) is
+
+  entries : length (entriesIn l) ≡ n
+  entries = ap length (sym read) ∙ length-entries n (drop 1 l)
+
+  -- whether the search for a number ended before the last entry
+  searched : (k : Key) (i : ℕ) → i ≡ leading (λ e. not (isKeyed k e)) (entriesFrom n (drop 1 l)) → ltb i n ≡ some (isKeyed k) (entriesIn l)
+  searched k i s =
+      let p : i ≡ leading (λ e. not (isKeyed k e)) (entriesIn l) = s ∙ ap (leading (λ e. not (isKeyed k e))) read in
+      (λ j. ltb (p j) (sym entries j)) ∙ found (isKeyed k) (entriesIn l)
+
+  module _ (k : Key) (i : ℕ) (s : i ≡ leading (λ e. not (isKeyed k e)) (entriesFrom n (drop 1 l))) where
+    pub is-twice : (e : Entry) → i < n → Done (inList l (entering k e (entriesIn l))) l l (Refused Twice)
+    is-twice e h =
+        let a : leb Least (length l) ≡ true = le-leb Least (length l) long in
+        let b : some (isKeyed k) (entriesIn l) ≡ true = sym (searched k i s) ∙ lt-ltb i n h in
+        record { answer = rw (a, b) refl; list = rw (a, b) refl }
+
+    pub is-full : (e : Entry) → n ≤ i → Most ≤ n → Done (inList l (entering k e (entriesIn l))) l l (Refused Full)
+    is-full e h f =
+        let a : leb Least (length l) ≡ true = le-leb Least (length l) long in
+        let b : some (isKeyed k) (entriesIn l) ≡ false = sym (searched k i s) ∙ le-ltb i n h in
+        let c : ltb (length (entriesIn l)) Most ≡ false = le-ltb (length (entriesIn l)) Most (omega (arith, entries)) in
+        record { answer = rw (a, b, c) refl; list = rw (a, b, c) refl }
+
+    pub is-entered : (e : Entry) (p : ℕ) (u v : List ℤ) → n ≤ i → n < Most → p ≡ staying (precedes e) (entriesFrom n (drop 1 l)) → p ≤ n
+        → u ≡ raised (1 + Width * p) l (Width * (n - p)) → v ≡ put (1 + Width * p) (numbers e) u → Done (inList l (entering k e (entriesIn l))) l (set v 0 (toZ w64 (n + 1))) Made
+    unfolding keeping
+    is-entered e p u v h f q g x y =
+        let a : leb Least (length l) ≡ true = le-leb Least (length l) long in
+        let b : some (isKeyed k) (entriesIn l) ≡ false = sym (searched k i s) ∙ le-ltb i n h in
+        let c : ltb (length (entriesIn l)) Most ≡ true = lt-ltb (length (entriesIn l)) Most (omega (arith, entries)) in
+        let es = entriesFrom n (drop 1 l) in
+        let t : take p es ++ e ∷ drop p es ≡ inserted e (entriesIn l) = ap (λ j. take j es ++ e ∷ drop j es) q ∙ inserted-at e es ∙ ap (inserted e) read in
+        let m : n + 1 ≡ length (take p es ++ e ∷ drop p es) =
+        omega (arith, length-append (take p es) (e ∷ drop p es), length-take-le p es (omega (arith, length-entries n (drop 1 l))), length-drop p es, length-entries n (drop 1 l)) in
+        let z : v ≡ put (1 + Width * p) (numbers e) (raised (1 + Width * p) l (Width * (n - p))) = y ∙ ap (λ w. put (1 + Width * p) (numbers e) w) x in
+        let d : set v 0 (toZ w64 (n + 1)) ≡ keeping (inserted e (entriesIn l)) l =
+        (λ j. set (z j) 0 (whole (n + 1) (omega arith) j))
+        ∙ one-more n p (Width * (n - p)) e l (pos (n + 1)) g refl (omega arith)
+        ∙ ap (λ x. pos x ∷ written (take p es ++ e ∷ drop p es) (drop 1 l)) m
+        ∙ ap (λ x. keeping x l) t in
+        record { answer = rw (a, b, c) refl; list = rw (a, b, c) d }
+
+    pub is-absent : n ≤ i → Done (removing k l) l l (Refused Absent)
+    is-absent h =
+        let a : leb Least (length l) ≡ true = le-leb Least (length l) long in
+        let b : some (isKeyed k) (entriesIn l) ≡ false = sym (searched k i s) ∙ le-ltb i n h in
+        record { answer = rw (a, b) refl; list = rw (a, b) refl }
+
+    pub is-removed : (u : List ℤ) → i < n → n ≤ Most → u ≡ lowered (1 + Width * i) l (Width * (n - 1 - i)) → Done (removing k l) l (set u 0 (toZ w64 (n - 1))) Made
+    unfolding keeping
+    is-removed u h f x =
+        let a : leb Least (length l) ≡ true = le-leb Least (length l) long in
+        let b : some (isKeyed k) (entriesIn l) ≡ true = sym (searched k i s) ∙ lt-ltb i n h in
+        let es = entriesFrom n (drop 1 l) in
+        let t : take i es ++ drop (suc i) es ≡ withdrawn k (entriesIn l) = ap (λ x. take x es ++ drop (suc x) es) s ∙ withdrawn-at k es ∙ ap (withdrawn k) read in
+        let m : n - 1 ≡ length (take i es ++ drop (suc i) es) =
+        omega (arith, length-append (take i es) (drop (suc i) es), length-take-le i es (omega (arith, length-entries n (drop 1 l))), length-drop (suc i) es, length-entries n (drop 1 l)) in
+        let d : set u 0 (toZ w64 (n - 1)) ≡ keeping (withdrawn k (entriesIn l)) l =
+        (λ j. set (x j) 0 (whole (n - 1) (omega arith) j))
+        ∙ one-less n i (Width * (n - 1 - i)) l (pos (n - 1)) h refl (omega arith)
+        ∙ ap (λ x. pos x ∷ written (take i es ++ drop (suc i) es) (drop 1 l)) m
+        ∙ ap (λ x. keeping x l) t in
+        record { answer = rw (a, b) refl; list = rw (a, b) d }
+
+-- ---- how many entries there are, and one by its place
+
+placed-at : (n : ℕ) (l : List ℤ) (a i : ℕ) → i < n → placed i (entriesFrom n (drop a l)) ≡ gives (entryAt l (a + Width * i))
+unfolding placed entriesFrom
+placed-at zero l a i h = absurd (omega arith)
+placed-at (suc n) l a zero h = let e : a ≡ a + Width * 0 = omega arith in ap gives (entry-drop a l ∙ ap (entryAt l) e)
+placed-at (suc n) l a (suc i) h =
+    let e : a + Width + Width * i ≡ a + Width * suc i = omega arith in
+    ap (λ m. placed i (entriesFrom n m)) (drop-drop Width a l) ∙ placed-at n l (a + Width) i (omega arith) ∙ ap (λ k. gives (entryAt l k)) e
+
+placed-past : (n : ℕ) (l : List ℤ) (i : ℕ) → n ≤ i → placed i (entriesFrom n l) ≡ refused Absent
+unfolding placed entriesFrom
+placed-past zero l i h = refl
+placed-past (suc n) l zero h = absurd (omega arith)
+placed-past (suc n) l (suc i) h = placed-past n (drop Width l) i (omega arith)
+
+module _ (l : List ℤ) where
+  pub none-counted : length l < Least → refused Space ≡ countAnswer l
+  unfolding countAnswer
+  none-counted h = let e : leb Least (length l) ≡ false = lt-leb Least (length l) h in rw e refl
+
+  pub is-counted : Least ≤ length l → (n : ℕ) → n ≡ countIn l → gives n ≡ countAnswer l
+  unfolding countAnswer
+  is-counted h n is = let e : leb Least (length l) ≡ true = le-leb Least (length l) h in rw e (ap gives is)
+
+  module _ (i : ℕ) where
+    pub none-placed : length l < Least → refused Space ≡ entryAnswer i l
+    unfolding entryAnswer
+    none-placed h = let e : leb Least (length l) ≡ false = lt-leb Least (length l) h in rw e refl
+
+    module _ (long : Least ≤ length l) (n : ℕ) (is : n ≡ countIn l) where
+      pub is-past : n ≤ i → refused Absent ≡ entryAnswer i l
+      unfolding entryAnswer entriesIn
+      is-past h =
+          let e : leb Least (length l) ≡ true = le-leb Least (length l) long in
+          rw e (sym (placed-past (countIn l) (drop 1 l) i (omega arith)))
+
+      pub is-placed : i < n → gives (entryAt l (1 + Width * i)) ≡ entryAnswer i l
+      unfolding entryAnswer entriesIn
+      is-placed h =
+          let e : leb Least (length l) ≡ true = le-leb Least (length l) long in
+          rw e (sym (placed-at (countIn l) l 1 i (omega arith)))

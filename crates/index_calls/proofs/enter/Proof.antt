@@ -1,0 +1,56 @@
+-- `index_calls::enter` looks for the number, makes the place free, and stores the entry there. Assumes nothing.
+use mathlib.Core.Path.{_∙_}
+use native.Mathlib.Omega.{arith}
+use lib.ListN.{length-set}
+use Rattle.index_calls.proofs.CallLaws.{too-short, is-twice, is-full, is-entered}
+use Rattle.index_calls.proofs.enter.Statement.{statement}
+use Rattle.index_calls.proofs.enter.Tie as tie
+
+twice : tie.Need-returns-2
+twice c =
+    let a = c .before in
+    let h = a .before .before in
+    let e = h .before .before in
+    let v = e .before .args in
+    is-twice (v .index .now) (h .count-in .result) (e .if1 .left) (h .count-in .ensures .0) (v .number) (a .place-of .result) (a .place-of .ensures .0) (v .e) (omega arith)
+
+full : tie.Need-returns-3
+full c =
+    let a = c .before .before in
+    let h = a .before .before in
+    let e = h .before .before in
+    let v = e .before .args in
+    is-full (v .index .now) (h .count-in .result) (e .if1 .left) (h .count-in .ensures .0) (v .number) (a .place-of .result) (a .place-of .ensures .0) (v .e) (omega arith) (omega arith)
+
+entered : tie.Need-returns-4
+entered c =
+    let st = c .before in
+    let r = st .before .before .before in
+    let o = r .before .before in
+    let a = o .before .before in
+    let h = a .before .before in
+    let e = h .before .before in
+    let v = e .before .args in
+    is-entered (v .index .now) (h .count-in .result) (e .if1 .left) (h .count-in .ensures .0) (v .number) (a .place-of .result) (a .place-of .ensures .0) (v .e) (r .open-place .result) _ _
+    (omega arith) (omega arith) (r .open-place .ensures .0 .0) (r .open-place .ensures .0 .1) (r .open-place .ensures .1) (st .store-entry .ensures)
+
+pub enter-spec : {M : Type 1} → statement M
+enter-spec =
+    tie.close
+    (tie.spec
+    (λ c. too-short (c .before .args .index .now) _ (c .if1 .taken))
+    (λ c κs. omega arith)
+    (λ c κs. omega arith)
+    (λ c. omega arith)
+    twice
+    (λ c. omega arith)
+    full
+    (λ c κs. omega arith)
+    (λ c. omega arith)
+    (λ c. omega arith)
+    (λ c κs. omega arith)
+    (λ c. omega arith)
+    (λ c. record { sfits = omega arith })
+    (λ c. omega arith)
+    (λ c. simp length-set (c .before .store-entry .kept .0 ∙ c .before .before .before .before .open-place .kept .0))
+    entered)

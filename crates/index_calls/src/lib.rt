@@ -1,0 +1,116 @@
+// The calls on an index: it is begun, exposures are added and removed, the entries counted, and one read by its place. The rules stand in
+// index/specs/Answers; they say what is done of every list, index or not.
+use answer::ABSENT;
+use answer::FULL;
+use answer::Number;
+use answer::SPACE;
+use answer::TWICE;
+use index::Change;
+use index::Entry;
+use index::EntryOf;
+use index::LEAST;
+use index::MOST;
+use index::WIDTH;
+use limits::DEEPEST;
+use vector::Vec3;
+ghost use mathlib.Core.Path.{_≡_};
+ghost use Rattle.answer.specs.Calls.{numberOf};
+ghost use Rattle.index.specs.Exposures.{exposed};
+ghost use Rattle.index.specs.Entries.{entriesIn, entering};
+ghost use Rattle.index.specs.Answers.{inList, beginAnswer, beginAfter, addAnswer, addAfter, removeAnswer, removeAfter, countAnswer, entryAnswer};
+ghost use Rattle.index.specs.Answers.{changeGiven, entryGiven};
+ghost use Rattle.index_calls.specs.Done.{Done};
+
+// Makes a list an empty index; refusal 10.
+pub fn begin(index: &mut [i64]) -> Change
+    ensures { λ r. ⌜ changeGiven r ≡ beginAnswer (now (index .entry)) ⌝ }
+    ensures { λ r. ⌜ now (index .exit) ≡ beginAfter (now (index .entry)) ⌝ }
+{
+    if index.len() < LEAST {
+        return Change::Refused(SPACE);
+    }
+    index[0] = 0;
+    Change::Made
+}
+
+// One exposure more, by its number and its pointing; refusals 8, 10, 15, 16.
+pub fn add(index: &mut [i64], number: u32, p: Vec3) -> Change
+    ensures { λ r. ⌜ changeGiven r ≡ addAnswer (exposed number p) (now (index .entry)) ⌝ }
+    ensures { λ r. ⌜ now (index .exit) ≡ addAfter (exposed number p) (now (index .entry)) ⌝ }
+{
+    let found = mesh_lookup::lookup(p, DEEPEST);
+    match found {
+        Number::Refused(n) => Change::Refused(n),
+        Number::Gives(id) => enter(
+            index,
+            Entry {
+                id: id as i64,
+                number: number as i64,
+                pointing: p,
+            },
+            number,
+        ),
+    }
+}
+
+// The entry of the exposure with this number, in its place; refusals 10, 15, 16.
+fn enter(index: &mut [i64], e: Entry, number: u32) -> Change
+    ensures { λ r. ⌜ Done (inList (now (index .entry)) (entering number e (entriesIn (now (index .entry))))) (now (index .entry)) (now (index .exit)) r ⌝ }
+{
+    if index.len() < LEAST {
+        return Change::Refused(SPACE);
+    }
+    let n = index_entries::count_in(index);
+    if index_entries::place_of(index, n, number) < n {
+        return Change::Refused(TWICE);
+    }
+    if MOST <= n {
+        return Change::Refused(FULL);
+    }
+    let i = index_entries::open_place(index, n, e);
+    index_entries::store_entry(index, 1 + WIDTH * i, e);
+    index[0] = (n + 1) as i64;
+    Change::Made
+}
+
+// One exposure less, by its number; refusals 10, 17.
+pub fn remove(index: &mut [i64], number: u32) -> Change
+    ensures { λ r. ⌜ changeGiven r ≡ removeAnswer number (now (index .entry)) ⌝ }
+    ensures { λ r. ⌜ now (index .exit) ≡ removeAfter number (now (index .entry)) ⌝ }
+{
+    if index.len() < LEAST {
+        return Change::Refused(SPACE);
+    }
+    let n = index_entries::count_in(index);
+    let i = index_entries::place_of(index, n, number);
+    if n <= i {
+        return Change::Refused(ABSENT);
+    }
+    index_entries::lower(index, 1 + WIDTH * i, WIDTH * (n - 1 - i));
+    index[0] = (n - 1) as i64;
+    Change::Made
+}
+
+// How many entries there are; refusal 10.
+pub fn count(index: &[i64]) -> Number
+    ensures { λ r. ⌜ numberOf r ≡ countAnswer (now (index .entry)) ⌝ }
+{
+    if index.len() < LEAST {
+        return Number::Refused(SPACE);
+    }
+    Number::Gives(index_entries::count_in(index) as u64)
+}
+
+// The entry at a place, counted from 0; refusals 10, 17.
+pub fn entry(index: &[i64], place: u32) -> EntryOf
+    ensures { λ r. ⌜ entryGiven r ≡ entryAnswer place (now (index .entry)) ⌝ }
+{
+    if index.len() < LEAST {
+        return EntryOf::Refused(SPACE);
+    }
+    let i = place as usize;
+    if index_entries::count_in(index) <= i {
+        return EntryOf::Refused(ABSENT);
+    }
+    EntryOf::Gives(index_entries::entry_at(index, 1 + WIDTH * i))
+}

@@ -1,0 +1,190 @@
+/* The C calls on an index, on the stored cases of program archive: each command line of crates/archive/stdin goes through htm.h, is
+ * printed as archive prints it, and compared with its line of crates/archive/stdout. Every call is made with a list that is longer than needed,
+ * one that is shorter by one element and one that is exactly long enough. Then the calls on lists of noise, which no history leaves.
+ *
+ *   index STDIN STDOUT     exit status 1 on any difference */
+#include <inttypes.h>
+#include <stdbool.h>
+#include <stdio.h>
+#include <stdlib.h>
+#include <string.h>
+
+#include "htm.h"
+
+#define BEHIND 16 /* elements of a lent list that no answer reaches */
+#define ALL (HTM_INDEX_LENGTH + BEHIND)
+#define FIVE (5 + BEHIND)
+#define PAINT 0x5555555555555555
+#define LINE (1 << 18)
+#define NOISE 20000
+
+static int64_t kept[ALL], other[ALL];
+static char line[LINE], wanted[LINE], printed[LINE];
+static long line_number, made, refused, listed, differ;
+
+static void must(bool is, const char *what)
+{
+    if (is)
+        return;
+    differ++;
+    printf("line %ld: it is not so that %s\n  %.200s\n", line_number, what, line);
+}
+
+static void print_answer(int64_t answer)
+{
+    if (answer == 0)
+        strcpy(printed, "ok");
+    else
+        sprintf(printed, "refused %" PRId64, -answer);
+}
+
+/* ---- an add or a removal */
+
+struct call {
+    bool adds;
+    uint32_t number;
+    int32_t x, y, z;
+};
+
+static int64_t call(struct call c, int64_t *list, size_t elements)
+{
+    return c.adds ? htm_add(list, elements, c.number, c.x, c.y, c.z) : htm_remove(list, elements, c.number);
+}
+
+static void change(struct call c)
+{
+    static int64_t before[ALL];
+    memcpy(before, kept, sizeof kept);
+    int64_t answer = call(c, kept, ALL);
+    print_answer(answer);
+    must(memcmp(kept + HTM_INDEX_LENGTH, before + HTM_INDEX_LENGTH, BEHIND * sizeof kept[0]) == 0, "what is behind the index stays");
+    must(answer == 0 || memcmp(kept, before, sizeof kept) == 0, "a refusal leaves the index");
+    memcpy(other, before, sizeof other);
+    must(call(c, other, HTM_INDEX_LENGTH) == answer && memcmp(other, kept, sizeof kept) == 0, "a list of the exact length gives the same");
+    memcpy(other, before, sizeof other);
+    int64_t space = call(c, other, HTM_INDEX_LENGTH - 1);
+    must(space == (answer == -8 ? -8 : -10) && memcmp(other, before, sizeof other) == 0, "a list that is short by one is refused and stays");
+    if (answer == 0)
+        made++;
+    else
+        refused++;
+}
+
+/* ---- the entries, one by one */
+
+static bool stays(const int64_t *out, size_t from)
+{
+    for (size_t i = from; i < FIVE; i++)
+        if (out[i] != PAINT)
+            return false;
+    return true;
+}
+
+static void paint(int64_t *out)
+{
+    for (size_t i = 0; i < FIVE; i++)
+        out[i] = PAINT;
+}
+
+static void list(void)
+{
+    int64_t count = htm_index_count(kept, ALL), out[FIVE];
+    size_t n = 0;
+    strcpy(printed, "-");
+    for (uint32_t i = 0; i < count; i++) {
+        paint(out);
+        must(htm_index_entry(kept, ALL, i, out, 4) == -10 && stays(out, 0), "an entry in a list that is short by one is refused");
+        must(htm_index_entry(kept, HTM_INDEX_LENGTH, i, out, 5) == 0 && stays(out, 5), "an entry is five numbers");
+        n += (size_t)sprintf(printed + n, "%s%" PRId64 " %" PRId64 " %" PRId64 " %" PRId64 " %" PRId64, i ? "|" : "", out[0], out[1], out[2], out[3], out[4]);
+    }
+    paint(out);
+    must(htm_index_entry(kept, ALL, (uint32_t)count, out, FIVE) == -17 && stays(out, 0), "there is no entry at the count");
+    must(htm_index_entry(kept, ALL, UINT32_MAX, out, 0) == -17, "there is no entry at the last place");
+    must(htm_index_entry(kept, HTM_INDEX_LENGTH - 1, 0, out, FIVE) == -10 && stays(out, 0), "a list that is short by one has no entry");
+    must(htm_index_count(kept, HTM_INDEX_LENGTH - 1) == -10, "a list that is short by one has no count");
+    listed++;
+}
+
+/* ---- the stored cases */
+
+static bool take(FILE *from, char *to)
+{
+    if (!fgets(to, LINE, from))
+        return false;
+    to[strcspn(to, "\n")] = 0;
+    return true;
+}
+
+static FILE *open(const char *path)
+{
+    FILE *f = fopen(path, "r");
+    if (!f) {
+        fprintf(stderr, "index: cannot read %s\n", path);
+        exit(1);
+    }
+    return f;
+}
+
+static void cases(FILE *lines, FILE *answers)
+{
+    while (take(lines, line)) {
+        line_number++;
+        if (!take(answers, wanted))
+            wanted[0] = 0;
+        if (strcmp(wanted, "usage") == 0)
+            continue;
+        struct call c = {line[0] == 'a', 0, 0, 0, 0};
+        if (strcmp(line, "list") == 0) {
+            list();
+        } else {
+            sscanf(line, c.adds ? "add %" SCNu32 " %" SCNd32 " %" SCNd32 " %" SCNd32 : "remove %" SCNu32, &c.number, &c.x, &c.y, &c.z);
+            change(c);
+        }
+        must(strcmp(printed, wanted) == 0, "the answer is that of archive");
+    }
+    must(!take(answers, wanted), "there are as many answers as lines");
+}
+
+/* ---- lists that no history leaves */
+
+static uint64_t state = 88172645463325252u;
+
+static uint64_t next(void)
+{
+    state ^= state << 13;
+    state ^= state >> 7;
+    state ^= state << 17;
+    return state;
+}
+
+static void noise(void)
+{
+    static const int64_t counts[] = {0, 1, 2047, 2048, 2049, -1, INT64_MAX, INT64_MIN};
+    for (int i = 0; i < ALL; i++)
+        other[i] = next() % 2 ? (int64_t)next() : (int64_t)(next() % 8);
+    other[0] = counts[next() % 8];
+    size_t elements = next() % 4 ? HTM_INDEX_LENGTH : next() % HTM_INDEX_LENGTH;
+    memcpy(kept, other, sizeof kept);
+    struct call c = {next() % 2, (uint32_t)(next() % 8), 0, 0, 1048576};
+    int64_t answer = call(c, other, elements), count = htm_index_count(other, elements);
+    must(answer == 0 || memcmp(kept, other, sizeof kept) == 0, "a refusal leaves a list of noise");
+    must(memcmp(kept + elements, other + elements, (ALL - elements) * sizeof kept[0]) == 0, "what is behind a list of noise stays");
+    must(elements < HTM_INDEX_LENGTH ? answer == -10 && count == -10 : 0 <= count && count <= 2048, "noise has a count, or is too short");
+    must(htm_index_begin(other, elements) == (elements < HTM_INDEX_LENGTH ? -10 : 0), "any list that is long enough begins");
+    must(elements < HTM_INDEX_LENGTH || htm_index_count(other, elements) == 0, "an index begins empty");
+}
+
+int main(int argc, char **argv)
+{
+    if (argc != 3) {
+        fprintf(stderr, "usage: index STDIN STDOUT\n");
+        return 1;
+    }
+    cases(open(argv[1]), open(argv[2]));
+    printf("htm_add, htm_remove %ld made, %ld refused; htm_index_entry %ld lists; %ld differences\n", made, refused, listed, differ);
+    strcpy(line, "noise");
+    for (int i = 0; i < NOISE; i++)
+        noise();
+    printf("%d lists of noise, %ld differences\n", NOISE, differ);
+    return differ || made == 0 || listed == 0;
+}
