@@ -9,6 +9,7 @@
 #include <map>
 #include <random>
 #include <time.h>
+#include <tuple>
 
 using literal::Bytes;
 
@@ -214,53 +215,58 @@ static bool line_row(size_t n, unsigned depth)
     return print(("lookups of lines at depth " + std::to_string(depth)).c_str(), n, t, id == want);
 }
 
-// The same index as C++ keeps it: the entries in a std::map by identifier and number, and the identifiers in a second one by number. It takes the
-// identifiers from our own lookup, so that the row compares the keeping of entries alone.
+// The same index as C++ keeps it: the entries in a std::map by identifier, number and owner, and of each owner the identifiers in another one by number.
+// It takes the identifiers from our own lookup, so that the row compares the keeping of entries alone.
 struct MapIndex {
-    std::map<std::pair<uint64_t, uint32_t>, std::array<int32_t, 3>> entries;
-    std::map<uint32_t, uint64_t> identifiers;
-    int64_t add(uint32_t number, int32_t x, int32_t y, int32_t z)
+    std::map<std::tuple<uint64_t, uint32_t, uint32_t>, std::array<int32_t, 3>> entries;
+    std::map<uint32_t, uint64_t> identifiers[2];
+    int64_t add(uint32_t owner, uint32_t number, int32_t x, int32_t y, int32_t z)
     {
+        if (owner > 1) return -18;
         uint64_t id = lookup(x, y, z, 12);
         if (id == 0) return -8;
-        if (identifiers.count(number)) return -15;
-        if (entries.size() == 2048) return -16;
-        identifiers[number] = id;
-        entries[{id, number}] = {x, y, z};
+        auto &own = identifiers[owner];
+        if (own.count(number)) return -15;
+        if (own.size() == 1024) return -16;
+        own[number] = id;
+        entries[{id, number, owner}] = {x, y, z};
         return 0;
     }
-    int64_t remove(uint32_t number)
+    int64_t remove(uint32_t owner, uint32_t number)
     {
-        auto i = identifiers.find(number);
-        if (i == identifiers.end()) return -17;
-        entries.erase({i->second, number});
-        identifiers.erase(i);
+        if (owner > 1) return -18;
+        auto &own = identifiers[owner];
+        auto i = own.find(number);
+        if (i == own.end()) return -17;
+        entries.erase({i->second, number, owner});
+        own.erase(i);
         return 0;
     }
 };
 
-// A full index, of which in each turn the sixteen oldest exposures are removed and sixteen others added: the time of each kind of call by itself.
+// An index that is full of both owners' exposures, of which in each turn the sixteen oldest are removed and sixteen others added: the time of each kind of
+// call by itself. The owners take turns.
 static bool index_rows(const std::vector<int32_t> &p)
 {
     const size_t turns = 2000, some = 16, length = HTM_INDEX_LENGTH;
     std::vector<int64_t> list(length, 0);
     MapIndex map;
-    auto number = [](size_t i) { return (uint32_t)(i * 2654435761u); };
+    auto owner = [](size_t i) { return (uint32_t)(i % 2); };
+    auto number = [](size_t i) { return (uint32_t)(i / 2 * 2654435761u); };
     auto at = [&](size_t i) { return &p[3 * (i % (p.size() / 3))]; };
+    auto added = [&](size_t i) { return htm_add(list.data(), length, owner(i), number(i), at(i)[0], at(i)[1], at(i)[2]) == 0; };
+    auto mapped = [&](size_t i) { return map.add(owner(i), number(i), at(i)[0], at(i)[1], at(i)[2]) == 0; };
     bool same = true;
     size_t oldest = 0, next = 0;
-    for (; next < 2048; next++) {
-        const int32_t *q = at(next);
-        same &= htm_add(list.data(), length, number(next), q[0], q[1], q[2]) == 0 && map.add(number(next), q[0], q[1], q[2]) == 0;
-    }
+    for (; next < 2048; next++) same &= added(next) && mapped(next);
     Times add, remove;
     for (int round = 0; round < 7; round++) {
         Times a = {0, 0}, r = {0, 0};
         for (size_t k = 0; k < turns; k++, oldest += some, next += some) {
-            r.ours += us([&] { for (size_t i = oldest; i < oldest + some; i++) same &= htm_remove(list.data(), length, number(i)) == 0; });
-            a.ours += us([&] { for (size_t i = next; i < next + some; i++) same &= htm_add(list.data(), length, number(i), at(i)[0], at(i)[1], at(i)[2]) == 0; });
-            r.literal += us([&] { for (size_t i = oldest; i < oldest + some; i++) same &= map.remove(number(i)) == 0; });
-            a.literal += us([&] { for (size_t i = next; i < next + some; i++) same &= map.add(number(i), at(i)[0], at(i)[1], at(i)[2]) == 0; });
+            r.ours += us([&] { for (size_t i = oldest; i < oldest + some; i++) same &= htm_remove(list.data(), length, owner(i), number(i)) == 0; });
+            a.ours += us([&] { for (size_t i = next; i < next + some; i++) same &= added(i); });
+            r.literal += us([&] { for (size_t i = oldest; i < oldest + some; i++) same &= map.remove(owner(i), number(i)) == 0; });
+            a.literal += us([&] { for (size_t i = next; i < next + some; i++) same &= mapped(i); });
         }
         add = {std::min(add.ours, a.ours), std::min(add.literal, a.literal)};
         remove = {std::min(remove.ours, r.ours), std::min(remove.literal, r.literal)};
@@ -268,7 +274,7 @@ static bool index_rows(const std::vector<int32_t> &p)
     same &= list[0] == (int64_t)map.entries.size();
     size_t k = 1;
     for (auto &e : map.entries) {
-        same &= list[k++] == (int64_t)e.first.first && list[k++] == e.first.second;
+        same &= list[k++] == (int64_t)std::get<0>(e.first) && list[k++] == std::get<1>(e.first) && list[k++] == std::get<2>(e.first);
         for (int32_t c : e.second) same &= list[k++] == c;
     }
     same &= print("adds, at 2048 exposures", turns * some, add, same);

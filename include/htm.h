@@ -21,9 +21,10 @@
  *    5 depth   not from 1 to 12                 12 float   a float not finite, or beyond 1 in size
  *    6 budget  over 2048                        13 line    a catalogue line of another shape
  *    7 crowd   over 64 convexes, 100 halfspaces 14 mixed   a record of the other style
- *              in one, 512 in all                15 twice   the number is in the index
- *   16 full    2048 exposures are in the index   17 absent  no such number, or no such place, in the index
- * In the calls on an index 10 says that the list is too short to be one, and comes before 15, 16 and 17.
+ *              in one, 512 in all                15 twice   the number is its owner's
+ *   16 full    1024 exposures are the owner's    17 absent  no such number of its owner's, or no such place
+ *   18 owner   not 0 or 1
+ * In the calls on an index 18 comes before all else. There 10 says that the list is too short to be one, and comes before 15, 16 and 17.
  *
  * Styles: a region file is plain, with a record for each convex and one for each halfspace (kinds 2 and 3), or grouped, with one
  * record for each convex and all its halfspaces (kind 5). Every call that reads a region file takes either style. */
@@ -40,9 +41,9 @@ extern "C" {
 /* What a budget of 0 in a region file counts as. */
 #define HTM_DEFAULT_BUDGET 16
 
-/* The elements of a list that is lent as an index of exposures: their count, and five numbers for each of 2048. A longer list
+/* The elements of a list that is lent as an index of exposures: their count, and six numbers for each of 2048. A longer list
  * serves too; what is behind these elements keeps its value. */
-#define HTM_INDEX_LENGTH 10241
+#define HTM_INDEX_LENGTH 12289
 
 /* The identifier of the trixel of the given depth, 1 to 12, in which the pointing (x, y, z) lies.
  * 0 for a refusal: a depth not from 1 to 12, or a pointing that breaks the rule above. No identifier is 0. */
@@ -114,28 +115,32 @@ int64_t htm_holds(const uint8_t *file, size_t bytes, int32_t x, int32_t y, int32
  * most 8192, or counts fewer than 6. */
 int64_t htm_cover(const uint8_t *file, size_t bytes, uint64_t *out, size_t elements, uint64_t *counts, size_t n);
 
-/* An index of up to 2048 exposures, each a number of 32 bits without a sign and a pointing, in a list of the caller's: index[0] is
- * their count, and then they stand five numbers each, identifier at depth 12, number, x, y, z, ordered by identifier and then by
- * number. A list of zeros is an empty index; htm_index_begin makes any list one. From an empty one on, changed by htm_add and
- * htm_remove only, it has exactly the exposures that were added and not removed since, each once. Write to it by these calls only:
- * on another list a call still ends, and neither reads nor writes outside it, but its answer means nothing.
+/* An index of exposures of two owners, 0 and 1, each up to 1024. An exposure is a number of 32 bits without a sign and a pointing; one
+ * number may be used by both owners. The index is a list of the caller's: index[0] is the count of the exposures, and then they stand
+ * six numbers each, identifier at depth 12, number, owner, x, y, z, ordered by identifier, then by number, then by owner. A list of
+ * zeros is an empty index; htm_index_begin makes any list one. From an empty one on, changed by htm_add and htm_remove only, it has
+ * exactly the exposures that their owners added and did not remove since, each once, and what these two calls answer an owner does
+ * not depend on the other's calls. htm_index_count and htm_index_entry tell of both owners. Write to the list by these calls only:
+ * on another list, such as one of five numbers an exposure, a call still ends, and neither reads nor writes outside it, but its answer
+ * means nothing.
  * Each call gives -10 where elements is under HTM_INDEX_LENGTH. */
 
 /* Makes the list an empty index, whatever it holds: 0, or -10. */
 int64_t htm_index_begin(int64_t *index, size_t elements);
 
-/* One exposure more. 0, or -N for refusal N: 8 where (x, y, z) is no pointing, then 10, then 15 where the number is in the index,
- * then 16 where 2048 exposures are. */
-int64_t htm_add(int64_t *index, size_t elements, uint32_t number, int32_t x, int32_t y, int32_t z);
+/* One exposure more of the owner. 0, or -N for refusal N: 18 where there is no such owner, then 8 where (x, y, z) is no pointing, then
+ * 10, then 15 where the number is one of the owner's, then 16 where 1024 exposures are. */
+int64_t htm_add(int64_t *index, size_t elements, uint32_t owner, uint32_t number, int32_t x, int32_t y, int32_t z);
 
-/* One exposure less. Its place serves again. 0, or -N for refusal N: 10, then 17 where the number is not in the index. */
-int64_t htm_remove(int64_t *index, size_t elements, uint32_t number);
+/* One exposure less of the owner. Its place serves the owner again. 0, or -N for refusal N: 18 where there is no such owner, then 10,
+ * then 17 where the number is not one of the owner's. */
+int64_t htm_remove(int64_t *index, size_t elements, uint32_t owner, uint32_t number);
 
 /* How many exposures are in the index, 0 to 2048; or -10. */
 int64_t htm_index_count(const int64_t *index, size_t elements);
 
-/* The entry at a place, from 0 on: out[0] to out[4] are its identifier, number, x, y and z.
- * 0, or -N for refusal N: 10, then 17 where the place is not below the count, then 10 where out has fewer than 5 elements. */
+/* The entry at a place, from 0 on: out[0] to out[5] are its identifier, number, owner, x, y and z.
+ * 0, or -N for refusal N: 10, then 17 where the place is not below the count, then 10 where out has fewer than 6 elements. */
 int64_t htm_index_entry(const int64_t *index, size_t elements, uint32_t place, int64_t *out, size_t n);
 
 #ifdef __cplusplus

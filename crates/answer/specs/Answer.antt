@@ -1,6 +1,6 @@
 -- Answers. Document 01, 'What is sent back': every call gives its values, or refuses with one number.
 --   Answer A       refused n, or gives a with a of the type A
---   Long .. Absent   the seventeen numbers by their words; from Float on they are of document 02: F-1, F-3, F-7, and three of F-10
+--   Long .. Owner    the eighteen numbers by their words; from Float on they are of document 02: F-1, F-3, F-7, three of F-10, and F-11
 --   check n t a    the refusal n unless the test t passes, else the answer a
 --   then a f       f of what a gives; a refusal stays
 --   with-value     an answer's value changed; a refusal stays
@@ -61,6 +61,9 @@ Full = 16
 
 abbrev pub Absent : ℕ
 Absent = 17
+
+abbrev pub Owner : ℕ
+Owner = 18
 
 module _ {A : Type 0} where
   abbrev pub check : ℕ → Bool → Answer A → Answer A

@@ -33,6 +33,9 @@ pub const TWICE: u32 = 15;
 pub const FULL: u32 = 16;
 
 pub const ABSENT: u32 = 17;
+
+pub const OWNER: u32 = 18;
+
 // An identifier or a length, or the number of the first check that failed.
 pub enum Number {
     Gives(u64),

@@ -1,11 +1,12 @@
-// An index of exposures, kept while the program runs: answers command lines on standard input, one line each on standard output.
+// An index of the exposures of two owners, kept while the program runs: answers command lines on standard input, one line each on standard output.
 //
-//   add NUMBER X Y Z     one exposure more: ok, or refused N
-//   remove NUMBER        one exposure less: ok, or refused N
-//   list                 the entries in their order, IDENTIFIER NUMBER X Y Z each, joined by `|`; `-` where there is none
+//   add OWNER NUMBER X Y Z   one exposure more: ok, or refused N
+//   remove OWNER NUMBER      one exposure less: ok, or refused N
+//   list OWNER               the owner's entries in their order, IDENTIFIER NUMBER OWNER X Y Z each, joined by `|`; `-` where there is none; or refused 18
+//   list                     those of both owners
 //
-// The index begins empty. A line of another shape is answered `usage`. Words are parted by one blank; numbers are decimal, NUMBER of 32 bits without a
-// sign, X Y Z with an optional minus. A line ends with a line feed; the last line may do without. A line of more than 65536 bytes is of another shape.
+// The index begins empty. A line of another shape is answered `usage`. Words are parted by one blank; numbers are decimal, OWNER and NUMBER of 32 bits
+// without a sign, X Y Z with an optional minus. A line ends with a line feed; the last line may do without. A line of more than 65536 bytes is of another shape.
 // Where a read or a write fails, standard error says so and no line more is answered.
 use index::LEAST;
 

@@ -1,11 +1,12 @@
 // Lines of input over one index, each answered as it ends: the commands add, remove and list. After a read that failed the line that has begun is not
 // answered, and after a write that failed nothing more is read.
-use answer::Number;
+use answer::OWNER;
 use check::same;
 use index::Change;
 use index::Entry;
 use index::EntryOf;
 use index::MOST;
+use index::OWNERS;
 use print::Buffer;
 use print::LOST;
 use print::SIZE;
@@ -19,6 +20,12 @@ const BLOCKS: u64 = u64::MAX;
 // Between two bytes of the input: how many bytes of a line are kept, and the place in what is printed.
 struct Place {
     kept: usize,
+    at: usize,
+}
+
+// Between two entries of a list: whether one is printed, and the place in what is printed.
+struct Listed {
+    some: bool,
     at: usize,
 }
 
@@ -117,14 +124,20 @@ fn answer(index: &mut [i64], line: &[u8], out: &mut Buffer, at: usize) -> usize 
         return remove(index, line, next, out, at);
     }
     if same(line, b"list") {
-        return list(index, out, at);
+        return list(index, OWNERS, out, at);
+    }
+    if same(word, b"list") {
+        return list_owner(index, line, next, out, at);
     }
     print::usage(out, at)
 }
 
-// add NUMBER X Y Z
+// add OWNER NUMBER X Y Z
 fn add(index: &mut [i64], line: &[u8], next: usize, out: &mut Buffer, at: usize) -> usize {
-    let NaturalAt::Is(number, point_at) = query_words::natural_at(line, next) else {
+    let NaturalAt::Is(owner, number_at) = query_words::natural_at(line, next) else {
+        return print::usage(out, at);
+    };
+    let NaturalAt::Is(number, point_at) = query_words::natural_at(line, number_at) else {
         return print::usage(out, at);
     };
     let PointAt::Is { x, y, z, next: end } = query_words::point_at(line, point_at) else {
@@ -133,18 +146,21 @@ fn add(index: &mut [i64], line: &[u8], next: usize, out: &mut Buffer, at: usize)
     if !query_words::is_over(line, end) {
         return print::usage(out, at);
     }
-    changed(out, at, htm::add(index, number, x, y, z))
+    changed(out, at, htm::add(index, owner, number, x, y, z))
 }
 
-// remove NUMBER
+// remove OWNER NUMBER
 fn remove(index: &mut [i64], line: &[u8], next: usize, out: &mut Buffer, at: usize) -> usize {
-    let NaturalAt::Is(number, end) = query_words::natural_at(line, next) else {
+    let NaturalAt::Is(owner, number_at) = query_words::natural_at(line, next) else {
+        return print::usage(out, at);
+    };
+    let NaturalAt::Is(number, end) = query_words::natural_at(line, number_at) else {
         return print::usage(out, at);
     };
     if !query_words::is_over(line, end) {
         return print::usage(out, at);
     }
-    changed(out, at, htm::remove(index, number))
+    changed(out, at, htm::remove(index, owner, number))
 }
 
 fn changed(out: &mut Buffer, at: usize, answer: Change) -> usize {
@@ -154,36 +170,66 @@ fn changed(out: &mut Buffer, at: usize, answer: Change) -> usize {
     }
 }
 
-// list
-fn list(index: &[i64], out: &mut Buffer, at: usize) -> usize {
-    let count = match htm::index_count(index) {
-        Number::Gives(n) => n,
-        Number::Refused(_) => 0,
+// list OWNER
+fn list_owner(index: &[i64], line: &[u8], next: usize, out: &mut Buffer, at: usize) -> usize {
+    let NaturalAt::Is(owner, end) = query_words::natural_at(line, next) else {
+        return print::usage(out, at);
     };
-    if count == 0 {
-        return print::text(out, at, b"-\n");
+    if !query_words::is_over(line, end) {
+        return print::usage(out, at);
     }
-    let mut end = at;
-    for place in 0..MOST {
-        let EntryOf::Gives(e) = htm::index_entry(index, place as u32) else {
-            return end;
-        };
-        let then = if place as u64 + 1 < count {
-            b'|'
-        } else {
-            b'\n'
-        };
-        end = entry(out, end, e, then);
+    if OWNERS <= owner {
+        return print::refused(out, at, OWNER);
     }
-    end
+    list(index, owner, out, at)
 }
 
-// An entry, and the byte that parts it from what follows.
-fn entry(out: &mut Buffer, at: usize, e: Entry, then: u8) -> usize {
+// The entries of an owner in their order; those of both for OWNERS, which is no owner.
+fn list(index: &[i64], owner: u32, out: &mut Buffer, at: usize) -> usize {
+    let mut listed = Listed {
+        some: false,
+        at: at,
+    };
+    for place in 0..MOST {
+        let EntryOf::Gives(e) = htm::index_entry(index, place as u32) else {
+            return ended(out, listed);
+        };
+        listed = list_entry(listed, e, owner, out);
+    }
+    ended(out, listed)
+}
+
+// One entry more, where it is one of the owner's.
+fn list_entry(listed: Listed, e: Entry, owner: u32, out: &mut Buffer) -> Listed {
+    if owner < OWNERS && e.owner != owner as i64 {
+        return listed;
+    }
+    let at = if listed.some {
+        print::byte(out, listed.at, b'|')
+    } else {
+        listed.at
+    };
+    Listed {
+        some: true,
+        at: entry(out, at, e),
+    }
+}
+
+fn entry(out: &mut Buffer, at: usize, e: Entry) -> usize {
     let p = e.pointing;
     let end = print::whole(out, at, e.id, b' ');
     let end = print::whole(out, end, e.number, b' ');
+    let end = print::whole(out, end, e.owner, b' ');
     let end = print::whole(out, end, p.x, b' ');
     let end = print::whole(out, end, p.y, b' ');
-    print::whole(out, end, p.z, then)
+    print::integer(out, end, p.z)
+}
+
+// The end of a list: a line feed, after `-` where it has no entry.
+fn ended(out: &mut Buffer, listed: Listed) -> usize {
+    if listed.some {
+        print::byte(out, listed.at, b'\n')
+    } else {
+        print::text(out, listed.at, b"-\n")
+    }
 }

@@ -1,5 +1,5 @@
 -- The calls for a host in C: a number instead of an answer. Document 01, 'What is sent back', 'Regions' and 'The two lists';
--- document 02, F-10.
+-- document 02, F-10 and F-11.
 -- A refusal is minus its number, and comes before any list is written. The lookup and the identifier of a name give 0 instead: `entry`, `orZero` (Answers).
 --   numberForC a         the number that is asked for, or minus the number of the refusal: the lengths of `nameAnswer` (mesh) and `writeAnswer` (region),
 --                        the identifiers of `lookupReport` and `locateLine` (Answers)

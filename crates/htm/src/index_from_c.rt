@@ -5,7 +5,7 @@ use answer::SPACE;
 use index::EntryOf;
 use index::WIDTH;
 ghost use mathlib.Core.Path.{_≡_};
-ghost use Rattle.index.specs.Exposures.{exposure};
+ghost use Rattle.index.specs.Exposures.{key, exposure};
 ghost use Rattle.index.specs.Answers.{beginAnswer, beginAfter, addAnswer, addAfter, removeAnswer, removeAfter, countAnswer};
 ghost use Rattle.htm.specs.CalledFromC.{numberForC, statusOf, entryForC, entryAfterC};
 
@@ -18,25 +18,25 @@ pub extern "C" fn htm_index_begin(index: &mut [i64]) -> i64
     to_c::status(crate::index_begin(index))
 }
 
-// One exposure more: 0, or minus the number of the refusal.
+// One exposure more of an owner: 0, or minus the number of the refusal.
 #[no_mangle]
-pub extern "C" fn htm_add(index: &mut [i64], number: u32, x: i32, y: i32, z: i32) -> i64
-    ensures { λ r. ⌜ r ≡ statusOf (addAnswer (exposure number x y z) (now (index .entry))) ⌝ }
-    ensures { λ r. ⌜ now (index .exit) ≡ addAfter (exposure number x y z) (now (index .entry)) ⌝ }
+pub extern "C" fn htm_add(index: &mut [i64], owner: u32, number: u32, x: i32, y: i32, z: i32) -> i64
+    ensures { λ r. ⌜ r ≡ statusOf (addAnswer (exposure owner number x y z) (now (index .entry))) ⌝ }
+    ensures { λ r. ⌜ now (index .exit) ≡ addAfter (exposure owner number x y z) (now (index .entry)) ⌝ }
 {
-    to_c::status(crate::add(index, number, x, y, z))
+    to_c::status(crate::add(index, owner, number, x, y, z))
 }
 
-// One exposure less: 0, or minus the number of the refusal.
+// One exposure less of an owner: 0, or minus the number of the refusal.
 #[no_mangle]
-pub extern "C" fn htm_remove(index: &mut [i64], number: u32) -> i64
-    ensures { λ r. ⌜ r ≡ statusOf (removeAnswer number (now (index .entry))) ⌝ }
-    ensures { λ r. ⌜ now (index .exit) ≡ removeAfter number (now (index .entry)) ⌝ }
+pub extern "C" fn htm_remove(index: &mut [i64], owner: u32, number: u32) -> i64
+    ensures { λ r. ⌜ r ≡ statusOf (removeAnswer (key owner number) (now (index .entry))) ⌝ }
+    ensures { λ r. ⌜ now (index .exit) ≡ removeAfter (key owner number) (now (index .entry)) ⌝ }
 {
-    to_c::status(crate::remove(index, number))
+    to_c::status(crate::remove(index, owner, number))
 }
 
-// How many entries there are, or minus the number of the refusal.
+// How many entries there are, of both owners, or minus the number of the refusal.
 #[no_mangle]
 pub extern "C" fn htm_index_count(index: &[i64]) -> i64
     ensures { λ r. ⌜ r ≡ numberForC (countAnswer (now (index .entry))) ⌝ }
@@ -44,7 +44,7 @@ pub extern "C" fn htm_index_count(index: &[i64]) -> i64
     to_c::number_or_minus(crate::index_count(index))
 }
 
-// The entry at a place, its five numbers at the beginning of `out`: 0, or minus the number of the refusal, 10 also where `out` has fewer elements.
+// The entry at a place, its six numbers at the beginning of `out`: 0, or minus the number of the refusal, 10 also where `out` has fewer elements.
 #[no_mangle]
 pub extern "C" fn htm_index_entry(index: &[i64], place: u32, out: &mut [i64]) -> i64
     ensures { λ r. ⌜ r ≡ statusOf (entryForC place (now (index .entry)) (now (out .entry))) ⌝ }

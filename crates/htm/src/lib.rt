@@ -25,7 +25,7 @@ ghost use Rattle.mesh.specs.Answers.{cornersGiven, nameAnswer, nameAfter};
 ghost use Rattle.region.specs.Writer.{writeGrouped};
 ghost use Rattle.region.specs.Converting.{toGrouped, toPlain};
 ghost use Rattle.region.specs.Answers.{headerGiven, readAnswer, readAfter, fileAnswer, fileAfter, writeAnswer, writeAfter, heldGiven, pointTest};
-ghost use Rattle.index.specs.Exposures.{exposure};
+ghost use Rattle.index.specs.Exposures.{key, exposure};
 ghost use Rattle.index.specs.Answers.{beginAnswer, beginAfter, addAnswer, addAfter, removeAnswer, removeAfter, countAnswer, entryAnswer};
 ghost use Rattle.index.specs.Answers.{changeGiven, entryGiven};
 ghost use Rattle.htm.specs.Answers as answers;
@@ -184,23 +184,23 @@ pub fn index_begin(index: &mut [i64]) -> Change
     index_calls::begin(index)
 }
 
-// One exposure more in an index, by its number and its pointing; refusals 8, 10, 15, 16.
-pub fn add(index: &mut [i64], number: u32, x: i32, y: i32, z: i32) -> Change
-    ensures { λ r. ⌜ changeGiven r ≡ addAnswer (exposure number x y z) (now (index .entry)) ⌝ }
-    ensures { λ r. ⌜ now (index .exit) ≡ addAfter (exposure number x y z) (now (index .entry)) ⌝ }
+// One exposure more of an owner, 0 or 1, in an index, by its number and its pointing; refusals 18, 8, 10, 15, 16.
+pub fn add(index: &mut [i64], owner: u32, number: u32, x: i32, y: i32, z: i32) -> Change
+    ensures { λ r. ⌜ changeGiven r ≡ addAnswer (exposure owner number x y z) (now (index .entry)) ⌝ }
+    ensures { λ r. ⌜ now (index .exit) ≡ addAfter (exposure owner number x y z) (now (index .entry)) ⌝ }
 {
-    index_calls::add(index, number, pointing(x, y, z))
+    index_calls::add(index, owner, number, pointing(x, y, z))
 }
 
-// One exposure less, by its number; refusals 10, 17.
-pub fn remove(index: &mut [i64], number: u32) -> Change
-    ensures { λ r. ⌜ changeGiven r ≡ removeAnswer number (now (index .entry)) ⌝ }
-    ensures { λ r. ⌜ now (index .exit) ≡ removeAfter number (now (index .entry)) ⌝ }
+// One exposure less of an owner, by its number; refusals 18, 10, 17.
+pub fn remove(index: &mut [i64], owner: u32, number: u32) -> Change
+    ensures { λ r. ⌜ changeGiven r ≡ removeAnswer (key owner number) (now (index .entry)) ⌝ }
+    ensures { λ r. ⌜ now (index .exit) ≡ removeAfter (key owner number) (now (index .entry)) ⌝ }
 {
-    index_calls::remove(index, number)
+    index_calls::remove(index, owner, number)
 }
 
-// How many entries an index has; refusal 10.
+// How many entries an index has, of both owners; refusal 10.
 pub fn index_count(index: &[i64]) -> Number
     ensures { λ r. ⌜ numberOf r ≡ countAnswer (now (index .entry)) ⌝ }
 {

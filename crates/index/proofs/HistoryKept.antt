@@ -1,44 +1,49 @@
 -- A history of calls is kept: each call answers what the rule says of the exposures that are there, and the entries are theirs, each once, ascending.
--- By induction over the calls: the entries and the exposures pass every test equally often, so they have the same numbers and are as many, and the
--- checks of a call agree; an accepted add inserts one entry into its place, an accepted removal takes the one with the number. Assumes nothing.
-use Prim.Native.Nat.{ℕ, suc, _≤_, _<_}
+-- By induction over the calls: the entries and the exposures pass every test equally often, so they have the same keys and of each owner are as many, and the
+-- checks of a call agree; an accepted add inserts one entry into its place, an accepted removal takes the one with the key. Assumes nothing.
+use Prim.Native.Nat.{ℕ, zero, suc, _+_, _≤_, _<_}
 use mathlib.Core.Path.{_≡_, sym, ap, subst, _∙_, refl}
-use mathlib.Core.Bool.{Bool, true, false, cond, not, _&&_, and-true, true≢false, false≢true}
+use mathlib.Core.Bool.{Bool, true, false, cond, not, _&&_, _||_, and-true, and-false, true≢false, false≢true}
 use mathlib.Core.List.{List, [], _∷_, map}
 use native.Mathlib.Omega.{arith}
-use borrow.Author.Tests.{le-leb, lt-ltb, le-ltb, ltb-true, ltb-false, eqb-true, not-true}
-use lib.Dec.{leb, ltb, leb·zero}
+use borrow.Author.Tests.{le-leb, lt-ltb, le-ltb, ltb-true, ltb-false, eqb-true, eqb-false, not-true}
+use lib.Dec.{leb, ltb, eqb, leb·zero}
 use lib.ListN.{length, getD, drop}
-use lib.IntN.{ℤ, pos}
+use lib.IntN.{ℤ, pos, natAbs}
+use lib.Signed.{leZ}
 use Rattle.algebra.specs.Lists.{every, some, tally}
-use Rattle.algebra.proofs.Tests.{and-left, and-right, and-both, split}
-use Rattle.answer.specs.Answer.{Answer, refused, gives, check, Vector, Twice, Full, Absent, Space}
+use Rattle.algebra.proofs.Tests.{and-left, and-right, and-both, or-left, every-every, split}
+use Rattle.answer.specs.Answer.{Answer, refused, gives, check, Vector, Twice, Full, Absent, Space, Owner}
 use Rattle.answer.specs.Lent.{stored}
 use Rattle.vector.specs.Numbers.{eqZ}
 use Rattle.vector.specs.Vectors.{isVector}
 use Rattle.mesh.specs.Lookup.{identifier}
 use Rattle.index.specs.declared.Entry.{Entry}
 use Rattle.index.specs.declared.Change.{Change}
-use Rattle.index.specs.Exposures.{Most, Exposure, isNumber, Key, keyOf, hasKey, Call, adds, removes, without, giving, leaving, answered, contentFrom, contentOf, answersFrom}
-use Rattle.index.specs.Entries.{Least, entryOf, isKeyed, countOf, entriesFrom, entriesIn, keeping, inserted, withdrawn}
+use Rattle.index.specs.Exposures.{Most, Share, isOwner, Exposure, isNumber, Key, key, keyOf, hasOwner, hasKey, hasPlace, Call, adds, removes, without, giving, leaving, answered, contentFrom, contentOf, answersFrom}
+use Rattle.index.specs.Entries.{Least, entryOf, isOwned, isKeyed, countOf, entriesFrom, entriesIn, keeping, inserted, withdrawn, hasRoom}
 use Rattle.index.specs.Answers.{adding, removing, addAnswer, addAfter, removeAnswer, removeAfter, beginAnswer, beginAfter, countAnswer, changeGiven}
 use Rattle.index.specs.Kept.{Holds, isFiled, IsIndex, IsEmpty, callAnswer, callAfter, Runs, numbered, Numbered, ServesAgain, Kept}
 use Rattle.index.proofs.WrittenLaws.{keeping-long, in-keeping, length-in}
-use Rattle.index.proofs.TallyLaws.{some-tally, tally-all, all-pass, both-fewer, inserted-tally, inserted-length, withdrawn-tally, withdrawn-fewer, without-tally, without-length}
+use Rattle.index.proofs.TallyLaws.{some-tally, tally-all, all-pass, parted, either-passes, both-fewer, only-tally, inserted-tally, inserted-length, withdrawn-tally, withdrawn-fewer}
 use Rattle.index.proofs.OrderLaws.{inserted-ascends, withdrawn-ascends, eqZ-eq, eqZ-refl}
 
 -- ---- exposures and their entries
 
 key-of : (k : Key) (x : Exposure) → hasKey k x ≡ true → keyOf x ≡ k
-key-of k x e = eqb-true (x .number) k e
+key-of k x e =
+    let n = eqb-true (x .number) (k .number) (and-left (eqb (x .number) (k .number)) (hasOwner (k .owner) x) e) in
+    let o = eqb-true (x .owner) (k .owner) (and-right (eqb (x .number) (k .number)) (hasOwner (k .owner) x) e) in
+    λ i. key (o i) (n i)
 
--- a number of 32 bits, and a vector
+-- a number of 32 bits, an owner and a vector
 abbrev isExposure : Exposure → Bool
-isExposure x = isNumber (x .number) && isVector (x .pointing)
+isExposure x = isNumber (x .number) && isOwner (x .owner) && isVector (x .pointing)
 
 pub record Files (xs : List Exposure) (es : List Entry) : Type 0 where
   pub holds : Holds xs es
   pub few : length es ≤ Most
+  pub share : (o : ℕ) → tally (hasOwner o) xs ≤ Share
   pub single : (k : Key) → tally (hasKey k) xs ≤ 1
   pub proper : tally (λ x. not (isExposure x)) xs ≡ 0
 
@@ -49,10 +54,10 @@ module _ (xs : List Exposure) (es : List Entry) (h : Files xs es) where
   same-some : (n : Key) → some (isKeyed n) es ≡ some (hasKey n) xs
   same-some n = some-tally (isKeyed n) es ∙ ap (ltb 0) (h .holds .exactly (isKeyed n)) ∙ sym (some-tally (hasKey n) xs)
 
-  -- one exposure more, whose number is not there
-  more : (x : Exposure) → isNumber (x .number) ≡ true → isVector (x .pointing) ≡ true → some (isKeyed (keyOf x)) es ≡ false → length es < Most → Files (x ∷ xs) (inserted (entryOf x) es)
+  -- one exposure more, whose key is not there
+  more : (x : Exposure) → isExposure x ≡ true → some (isKeyed (keyOf x)) es ≡ false → tally (hasOwner (x .owner)) xs < Share → length es < Most → Files (x ∷ xs) (inserted (entryOf x) es)
   unfolding tally
-  more x u v o f =
+  more x u o p f =
       let e = entryOf x in
       let none : tally (hasKey (keyOf x)) xs ≡ 0 = omega (arith, ltb-false 0 (tally (hasKey (keyOf x)) xs) (sym (some-tally (hasKey (keyOf x)) xs) ∙ sym (same-some (keyOf x)) ∙ o)) in
       record {
@@ -61,25 +66,30 @@ module _ (xs : List Exposure) (es : List Entry) (h : Files xs es) where
           exactly = λ g. inserted-tally g e es ∙ ap (λ m. cond (g e) (suc m) m) (h .holds .exactly g);
         };
         few = omega (arith, inserted-length e es);
+        share = λ w.
+            split (hasOwner w x)
+            (λ t. subst (λ b. cond b (suc (tally (hasOwner w) xs)) (tally (hasOwner w) xs) ≤ Share) (sym t) (subst (λ m. tally (hasOwner m) xs < Share) (eqb-true (x .owner) w t) p))
+            (λ t. subst (λ b. cond b (suc (tally (hasOwner w) xs)) (tally (hasOwner w) xs) ≤ Share) (sym t) (h .share w));
         single = λ n.
             split (hasKey n x)
             (λ t. let z : tally (hasKey n) xs ≡ 0 = ap (λ m. tally (hasKey m) xs) (sym (key-of n x t)) ∙ none in
             subst (λ b. cond b (suc (tally (hasKey n) xs)) (tally (hasKey n) xs) ≤ 1) (sym t) (omega arith))
             (λ t. subst (λ b. cond b (suc (tally (hasKey n) xs)) (tally (hasKey n) xs) ≤ 1) (sym t) (h .single n));
-        proper = ap (λ b. cond (not b) (suc (tally (λ y. not (isExposure y)) xs)) (tally (λ y. not (isExposure y)) xs)) (and-both u v) ∙ h .proper;
+        proper = ap (λ b. cond (not b) (suc (tally (λ y. not (isExposure y)) xs)) (tally (λ y. not (isExposure y)) xs)) u ∙ h .proper;
       }
 
-  -- those without a number
+  -- those without a key
   fewer : (n : Key) → Files (without n xs) (withdrawn n es)
   fewer n =
       let one : tally (isKeyed n) es ≤ 1 = omega (arith, h .holds .exactly (isKeyed n), h .single n) in
-      let left : (g : Exposure → Bool) → tally g (without n xs) ≤ tally g xs = λ g. omega (arith, without-tally g n xs, both-fewer g (λ x. not (hasKey n x)) xs) in
+      let left : (g : Exposure → Bool) → tally g (without n xs) ≤ tally g xs = λ g. omega (arith, only-tally g (λ x. not (hasKey n x)) xs, both-fewer g (λ x. not (hasKey n x)) xs) in
       record {
         holds = record {
           ascends = withdrawn-ascends n es (h .holds .ascends);
-          exactly = λ g. withdrawn-tally g n es one ∙ h .holds .exactly (λ e. g e && not (isKeyed n e)) ∙ sym (without-tally (λ x. g (entryOf x)) n xs);
+          exactly = λ g. withdrawn-tally g n es one ∙ h .holds .exactly (λ e. g e && not (isKeyed n e)) ∙ sym (only-tally (λ x. g (entryOf x)) (λ x. not (hasKey n x)) xs);
         };
         few = omega (arith, withdrawn-fewer n es, h .few);
+        share = λ o. omega (arith, left (hasOwner o), h .share o);
         single = λ m. omega (arith, left (hasKey m), h .single m);
         proper = omega (arith, left (λ x. not (isExposure x)), h .proper);
       }
@@ -107,24 +117,88 @@ pub record Stands (xs : List Exposure) (l : List ℤ) : Type 0 where
   pub counted : getD l 0 (pos 0) ≡ pos (length (entriesIn l))
   pub files : Files xs (entriesIn l)
 
+-- ---- an index
+
+two-owners : (o : ℕ) → (eqb o 0 || eqb o 1) ≡ isOwner o
+two-owners o =
+    split (eqb o 0)
+    (λ z. or-left (eqb o 1) z ∙ sym (lt-ltb o 2 (omega (arith, eqb-true o 0 z))))
+    (λ z. ap (λ b. b || eqb o 1) z ∙ by-second z)
+  where
+    by-second : eqb o 0 ≡ false → eqb o 1 ≡ isOwner o
+    by-second z =
+        split (eqb o 1)
+        (λ e. e ∙ sym (lt-ltb o 2 (omega (arith, eqb-true o 1 e))))
+        (λ e. e ∙ sym (le-ltb o 2 (omega (arith, eqb-false o 0 z, eqb-false o 1 e))))
+
+-- of the entry of an exposure, the number, the owner and the vector are what is left to test
+filed : (x : Exposure) → isFiled (entryOf x) ≡ isExposure x
+filed x =
+    let n = isNumber (x .number) in
+    let v = isVector (x .pointing) in
+    (λ i. leb·zero (x .number) i && n && two-owners (x .owner) i && v && eqZ-refl (pos (identifier (x .pointing) 12)) i) ∙ and-true (n && isOwner (x .owner) && v)
+
+is-index : (xs : List Exposure) (l : List ℤ) → Stands xs l → IsIndex l
+is-index xs l s =
+    let f = s .files in
+    record {
+      long = s .long;
+      counted = s .counted;
+      few = f .few;
+      share = λ o. omega (arith, f .holds .exactly (isOwned o), f .share o);
+      ascends = f .holds .ascends;
+      differ = λ n. omega (arith, f .holds .exactly (isKeyed n), f .single n);
+      filed = all-pass isFiled (entriesIn l) (f .holds .exactly (λ e. not (isFiled e)) ∙ (λ i. tally (λ x. not (filed x i)) xs) ∙ f .proper);
+    }
+
+filed-owner : (e : Entry) → isFiled e ≡ true → (isOwned 0 e || isOwned 1 e) ≡ true
+filed-owner e f =
+    let n = leZ (pos 0) (e .number) && isNumber (natAbs (e .number)) in
+    let w = isOwned 0 e || isOwned 1 e in
+    let v = isVector (e .pointing) in
+    and-right n w (and-left (n && w) v (and-left (n && w && v) (eqZ (e .id) (pos (identifier (e .pointing) 12))) f))
+
+-- the entries are those of two owners: where one has a place there is room, since the other has no more than a share
+room-left : (l : List ℤ) (o : ℕ) → IsIndex l → isOwner o ≡ true → hasPlace Share (isOwned o) (entriesIn l) ≡ true → hasRoom (entriesIn l) ≡ true
+room-left l o is w p =
+    let es = entriesIn l in
+    let both = either-passes (isOwned 0) (isOwned 1) es (every-every isFiled (λ e. isOwned 0 e || isOwned 1 e) filed-owner es (is .filed)) in
+    let less : tally (isOwned o) es < Share = ltb-true (tally (isOwned o) es) Share p in
+    lt-ltb (length es) Most (by-owner o (ltb-true o 2 w) less both)
+  where
+    by-owner : (o : ℕ) → o < 2 → tally (isOwned o) (entriesIn l) < Share → length (entriesIn l) ≤ tally (isOwned 0) (entriesIn l) + tally (isOwned 1) (entriesIn l) → length (entriesIn l) < Most
+    by-owner zero w h b = omega (arith, is .share 1)
+    by-owner (suc zero) w h b = omega (arith, is .share 0)
+    by-owner (suc (suc o)) w h b = absurd (omega arith)
+
+-- ---- what a call answers on the entries is what the rule answers
+
 -- the entries after a call, or its refusal
 abbrev calling : Call → List ℤ → Answer (List Entry)
 calling (adds x) l = adding x l
 calling (removes k) l = removing k l
 
-agrees : (c : Call) (xs : List Exposure) (l : List ℤ) → numbered c ≡ true → Stands xs l → Agree (calling c l) (giving Most c xs)
+agrees : (c : Call) (xs : List Exposure) (l : List ℤ) → numbered c ≡ true → Stands xs l → Agree (calling c l) (giving Share c xs)
 agrees (adds x) xs l u s =
     let es = entriesIn l in
+    let f = s .files in
+    let w = isOwner (x .owner) in
     let v = isVector (x .pointing) in
+    agree-check Owner w w _ _ refl (λ o.
     agree-check Vector v v _ _ refl (λ p.
     agree-passed Space (leb Least (length l)) _ _ (le-leb Least (length l) (s .long))
-    (agree-check Twice (not (some (isKeyed (keyOf x)) es)) (not (some (hasKey (keyOf x)) xs)) _ _ (ap not (same-some xs es (s .files) (keyOf x))) (λ q.
-    agree-check Full (ltb (length es) Most) (ltb (length xs) Most) _ _ (ap (λ n. ltb n Most) (as-many xs es (s .files))) (λ r.
-    more xs es (s .files) x u p (not-true (some (isKeyed (keyOf x)) es) q) (ltb-true (length es) Most r)))))
-agrees (removes n) xs l u s =
+    (agree-check Twice (not (some (isKeyed (keyOf x)) es)) (not (some (hasKey (keyOf x)) xs)) _ _ (ap not (same-some xs es f (keyOf x))) (λ q.
+    let same : tally (isOwned (x .owner)) es ≡ tally (hasOwner (x .owner)) xs = f .holds .exactly (isOwned (x .owner)) in
+    agree-check Full (hasPlace Share (isOwned (x .owner)) es) (hasPlace Share (hasOwner (x .owner)) xs) _ _ (ap (λ n. ltb n Share) same) (λ r.
+    let room = room-left l (x .owner) (is-index xs l s) o r in
+    agree-passed Full (hasRoom es) _ _ room
+    (more xs es f x (and-both (and-both u o) p) (not-true (some (isKeyed (keyOf x)) es) q) (omega (arith, same, ltb-true (tally (isOwned (x .owner)) es) Share r)) (ltb-true (length es) Most room)))))))
+agrees (removes k) xs l u s =
     let es = entriesIn l in
+    let w = isOwner (k .owner) in
+    agree-check Owner w w _ _ refl (λ o.
     agree-passed Space (leb Least (length l)) _ _ (le-leb Least (length l) (s .long))
-    (agree-check Absent (some (isKeyed n) es) (some (hasKey n) xs) _ _ (same-some xs es (s .files) n) (λ p. fewer xs es (s .files) n))
+    (agree-check Absent (some (isKeyed k) es) (some (hasKey k) xs) _ _ (same-some xs es (s .files) k) (λ p. fewer xs es (s .files) k)))
 
 -- ---- one call
 
@@ -155,7 +229,7 @@ does-after (removes k) l = refl
 -- ---- all calls
 
 run : (h : List Call) (rs : List Change) (l n : List ℤ) (xs : List Exposure) → Numbered h → Stands xs l → Runs l h rs n
-    → (map changeGiven rs ≡ answersFrom Most xs h) × Stands (contentFrom Most xs h) n
+    → (map changeGiven rs ≡ answersFrom Share xs h) × Stands (contentFrom Share xs h) n
 unfolding answersFrom contentFrom every
 run [] [] l n xs u s e = (refl, subst (Stands xs) (sym e) s)
 run [] (r ∷ rs) l n xs u s e = absurd e
@@ -163,46 +237,36 @@ run (c ∷ h) [] l n xs u s e = absurd e
 run (c ∷ h) (r ∷ rs) l n xs u s e =
     let m = e .0 in
     let a = agrees c xs l (and-left (numbered c) (every numbered h) u) s in
-    let one = one-call xs l m r s (calling c l) (giving Most c xs) a (e .1 .answer ∙ does-answer c l) (e .1 .list ∙ does-after c l) in
-    let rest = run h rs m n (leaving (giving Most c xs) xs) (and-right (numbered c) (every numbered h) u) (one .1) (e .2) in
+    let one = one-call xs l m r s (calling c l) (giving Share c xs) a (e .1 .answer ∙ does-answer c l) (e .1 .list ∙ does-after c l) in
+    let rest = run h rs m n (leaving (giving Share c xs) xs) (and-right (numbered c) (every numbered h) u) (one .1) (e .2) in
     ((λ i. one .0 i ∷ rest .0 i), rest .1)
 
--- ---- an index
+-- ---- a withdrawn place
 
--- of the entry of an exposure, the number and the vector are what is left to test
-filed : (x : Exposure) → isFiled (entryOf x) ≡ isExposure x
-filed x =
-    let n = isNumber (x .number) in
-    let v = isVector (x .pointing) in
-    (λ i. leb·zero (x .number) i && n && v && eqZ-refl (pos (identifier (x .pointing) 12)) i) ∙ and-true (n && v)
+-- the exposure with a key is one of its owner's
+its-owner : (a b : Bool) → a && (b && a) ≡ b && a
+its-owner true b = refl
+its-owner false b = sym (and-false b)
 
-is-index : (xs : List Exposure) (l : List ℤ) → Stands xs l → IsIndex l
-is-index xs l s =
-    let f = s .files in
-    record {
-      long = s .long;
-      counted = s .counted;
-      few = f .few;
-      ascends = f .holds .ascends;
-      differ = λ n. omega (arith, f .holds .exactly (isKeyed n), f .single n);
-      filed = all-pass isFiled (entriesIn l) (f .holds .exactly (λ e. not (isFiled e)) ∙ (λ i. tally (λ x. not (filed x i)) xs) ∙ f .proper);
-    }
-
-serves-again : (xs : List Exposure) → length xs ≤ Most → ServesAgain xs
+serves-again : (xs : List Exposure) → ((o : ℕ) → tally (hasOwner o) xs ≤ Share) → ServesAgain xs
 serves-again xs few = record {
-  full = λ x e v o. let f : ltb (length xs) Most ≡ false = le-ltb (length xs) Most (omega arith) in rw (v, o, f) refl;
-  withdrawn = λ k p. rw p refl;
-  again = λ k x p v o.
+  full = λ x w e v o. let f : hasPlace Share (hasOwner (x .owner)) xs ≡ false = le-ltb (tally (hasOwner (x .owner)) xs) Share (omega arith) in rw (w, v, o, f) refl;
+  withdrawn = λ k w p. rw (w, p) refl;
+  again = λ k x w same p v o.
       let t : 0 < tally (hasKey k) xs = ltb-true 0 (tally (hasKey k) xs) (sym (some-tally (hasKey k) xs) ∙ p) in
-      let f : ltb (length (without k xs)) Most ≡ true = lt-ltb (length (without k xs)) Most (omega (arith, without-length k xs)) in
-      rw (v, o, f) refl;
+      let own : tally (λ y. hasOwner (k .owner) y && hasKey k y) xs ≡ tally (hasKey k) xs = λ i. tally (λ y. its-owner (hasOwner (k .owner) y) (eqb (y .number) (k .number)) i) xs in
+      let less : tally (hasOwner (k .owner)) (without k xs) < Share =
+      omega (arith, only-tally (hasOwner (k .owner)) (λ y. not (hasKey k y)) xs, parted (hasOwner (k .owner)) (hasKey k) xs, few (k .owner)) in
+      let f : hasPlace Share (hasOwner (x .owner)) (without k xs) ≡ true = subst (λ m. hasPlace Share (hasOwner m) (without k xs) ≡ true) same (lt-ltb (tally (hasOwner (k .owner)) (without k xs)) Share less) in
+      let z : isOwner (x .owner) ≡ true = subst (λ m. isOwner m ≡ true) same w in
+      rw (z, v, o, f) refl;
 }
 
 -- ---- an empty one
 
 none-files : Files [] []
 unfolding tally
-none-files = record { holds = record { ascends = tt; exactly = λ g. refl }; few = omega arith; single = λ n. omega arith; proper = refl }
+none-files = record { holds = record { ascends = tt; exactly = λ g. refl }; few = omega arith; share = λ o. omega arith; single = λ n. omega arith; proper = refl }
 
 empty-stands : (l : List ℤ) → Least ≤ length l → getD l 0 (pos 0) ≡ pos 0 → Stands [] l
 unfolding entriesIn entriesFrom
@@ -243,7 +307,7 @@ history-kept = record {
   begun = begins;
   kept = λ l n h rs e u runs.
       let o = run h rs l n [] u (is-empty l e) runs in
-      let xs = contentOf Most h in
-      let few : length xs ≤ Most = omega (arith, as-many xs (entriesIn n) (o .1 .files), o .1 .files .few) in
-      record { answers = o .0; index = is-index xs n (o .1); content = o .1 .files .holds; count = counts xs n (o .1); again = serves-again xs few };
+      let xs = contentOf Share h in
+      record { answers = o .0; index = is-index xs n (o .1); content = o .1 .files .holds; count = counts xs n (o .1); again = serves-again xs (o .1 .files .share) };
+  room = room-left;
 }

@@ -2,4 +2,5 @@ pub mod WrittenLaws
 pub mod TallyLaws
 pub mod OrderLaws
 pub mod HistoryKept
+pub mod OwnersApart
 pub mod Examples

@@ -1,5 +1,5 @@
--- The order of the entries: of two with different numbers, one precedes the other, and it goes on from one to the next. So what precedes an entry of a list
--- that ascends precedes all after it, and the list ascends with an entry inserted, and with one withdrawn. Assumes nothing.
+-- The order of the entries: of two with different keys, one precedes the other, and it goes on from one to the next. So what precedes an entry of a list
+-- that ascends precedes all after it, and the list ascends with an entry inserted, with one withdrawn, and with those only that pass a test. Assumes nothing.
 use mathlib.Core.Path.{_≡_, sym, ap, subst, _∙_, refl}
 use mathlib.Core.Bool.{Bool, true, false, cond, _&&_, _||_, true≢false, false≢true}
 use mathlib.Core.List.{List, [], _∷_}
@@ -11,8 +11,8 @@ use Rattle.algebra.specs.Lists.{every, some}
 use Rattle.algebra.proofs.Tests.{and-left, and-right, and-both, or-cases, or-left, or-right, split}
 use Rattle.vector.specs.Numbers.{eqZ}
 use Rattle.index.specs.declared.Entry.{Entry}
-use Rattle.index.specs.Exposures.{Exposure, Key, keyOf}
-use Rattle.index.specs.Entries.{entryOf, below, precedes, isKeyed, inserted, withdrawn}
+use Rattle.index.specs.Exposures.{Exposure, Key, keyOf, only}
+use Rattle.index.specs.Entries.{entryOf, below, byNumber, precedes, isKeyed, inserted, withdrawn}
 use Rattle.index.specs.Kept.{Ascends}
 
 -- ---- of numbers
@@ -27,8 +27,11 @@ pub eqZ-refl : (a : ℤ) → eqZ a a ≡ true
 eqZ-refl (pos a) = eq-eqb a a refl
 eqZ-refl (negsuc a) = eq-eqb a a refl
 
+eqZ-turned : (a b : ℤ) → eqZ a b ≡ true → eqZ b a ≡ true
+eqZ-turned a b e = subst (λ c. eqZ c a ≡ true) (eqZ-eq a b e) (eqZ-refl a)
+
 eqZ-other : (a b : ℤ) → eqZ a b ≡ false → eqZ b a ≡ false
-eqZ-other a b e = split (eqZ b a) (λ f. absurd (true≢false (sym (subst (λ c. eqZ c b ≡ true) (eqZ-eq b a f) (eqZ-refl b)) ∙ e))) (λ f. f)
+eqZ-other a b e = split (eqZ b a) (λ f. absurd (true≢false (sym (eqZ-turned b a f) ∙ e))) (λ f. f)
 
 ltZ-trans : (a b c : ℤ) → ltZ a b ≡ true → ltZ b c ≡ true → ltZ a c ≡ true
 ltZ-trans (pos a) (pos b) (pos c) e f = lt-ltb a c (omega (arith, ltb-true a b e, ltb-true b c f))
@@ -65,7 +68,7 @@ below-other y z t u other e =
     split (eqZ y z)
     (λ s.
     let rest : t ≡ false = sym (ap (λ v. v && t) s) ∙ or-no-right (ltZ y z) (eqZ y z && t) e in
-    or-right (ltZ z y) (and-both (subst (λ w. eqZ w y ≡ true) (eqZ-eq y z s) (eqZ-refl y)) (other s rest)))
+    or-right (ltZ z y) (and-both (eqZ-turned y z s) (other s rest)))
     (λ s. or-left (eqZ z y && u) (ltZ-other y z s (or-no-left (ltZ y z) (eqZ y z && t) e)))
 
 below-on : (x y z : ℤ) (t u v : Bool) → (t ≡ true → u ≡ true → v ≡ true) → below x y t ≡ true → below y z u ≡ true → below x z v ≡ true
@@ -87,11 +90,15 @@ below-on x y z t u v on e f =
 pub other-way : (x : Exposure) (a : Entry) → isKeyed (keyOf x) a ≡ false → precedes (entryOf x) a ≡ false → precedes a (entryOf x) ≡ true
 other-way x a d e =
     let b = entryOf x in
-    below-other (b .id) (a .id) (ltZ (b .number) (a .number)) (ltZ (a .number) (b .number)) (λ s. ltZ-other (b .number) (a .number) (eqZ-other (a .number) (b .number) d)) e
+    let owners : eqZ (b .number) (a .number) ≡ true → eqZ (b .owner) (a .owner) ≡ false =
+    λ s. eqZ-other (a .owner) (b .owner) (sym (ap (λ t. t && eqZ (a .owner) (b .owner)) (eqZ-turned (b .number) (a .number) s)) ∙ d) in
+    below-other (b .id) (a .id) (byNumber b a) (byNumber a b)
+    (λ i. below-other (b .number) (a .number) (ltZ (b .owner) (a .owner)) (ltZ (a .owner) (b .owner)) (λ s. ltZ-other (b .owner) (a .owner) (owners s))) e
 
 goes-on : (a b c : Entry) → precedes a b ≡ true → precedes b c ≡ true → precedes a c ≡ true
 goes-on a b c e f =
-    below-on (a .id) (b .id) (c .id) (ltZ (a .number) (b .number)) (ltZ (b .number) (c .number)) (ltZ (a .number) (c .number)) (ltZ-trans (a .number) (b .number) (c .number)) e f
+    below-on (a .id) (b .id) (c .id) (byNumber a b) (byNumber b c) (byNumber a c)
+    (below-on (a .number) (b .number) (c .number) (ltZ (a .owner) (b .owner)) (ltZ (b .owner) (c .owner)) (ltZ (a .owner) (c .owner)) (ltZ-trans (a .owner) (b .owner) (c .owner))) e f
 
 -- what precedes the first of entries that ascend precedes all
 precedes-all : (e x : Entry) (es : List Entry) → Ascends (x ∷ es) → precedes e x ≡ true → every (precedes e) (x ∷ es) ≡ true
@@ -158,3 +165,24 @@ withdrawn-ascends n (x ∷ es) a = by-test (isKeyed n x)
     by-test : (t : Bool) → Ascends (cond t es (x ∷ withdrawn n es))
     by-test true = tail-ascends x es a
     by-test false = after-less n x es a
+
+-- ---- those only that pass a test
+
+module _ (f : Entry → Bool) where
+  after-only : (x : Entry) (es : List Entry) → Ascends (x ∷ es) → Ascends (x ∷ only f es)
+  unfolding only
+  after-only x [] a = tt
+  after-only x (y ∷ es) a = by-test (f y) (after-only y es (a .1)) (after-only x es (next-left-out x y es a))
+    where
+      by-test : (t : Bool) → Ascends (y ∷ only f es) → Ascends (x ∷ only f es) → Ascends (x ∷ cond t (y ∷ only f es) (only f es))
+      by-test true r q = (a .0, r)
+      by-test false r q = q
+
+  pub only-ascends : (es : List Entry) → Ascends es → Ascends (only f es)
+  unfolding only
+  only-ascends [] a = tt
+  only-ascends (x ∷ es) a = by-test (f x) (after-only x es a) (only-ascends es (tail-ascends x es a))
+    where
+      by-test : (t : Bool) → Ascends (x ∷ only f es) → Ascends (only f es) → Ascends (cond t (x ∷ only f es) (only f es))
+      by-test true r q = r
+      by-test false r q = q

@@ -1,8 +1,8 @@
--- How many elements pass a test, where one more is inserted, where one is withdrawn, and where all of a kind are left out. By recursion over the list,
+-- How many elements pass a test, where one more is inserted, where one is withdrawn, and among those only that pass another. By recursion over the list,
 -- test by test. Assumes nothing.
 use Prim.Native.Nat.{ℕ, suc, _+_, _≤_}
 use mathlib.Core.Path.{_≡_, sym, ap, _∙_, refl}
-use mathlib.Core.Bool.{Bool, true, false, cond, not, _&&_, _||_}
+use mathlib.Core.Bool.{Bool, true, false, cond, not, _&&_, _||_, false≢true}
 use mathlib.Core.List.{List, [], _∷_}
 use native.Mathlib.Omega.{arith}
 use borrow.Author.Tests.{lt-ltb}
@@ -10,7 +10,7 @@ use lib.Dec.{ltb}
 use lib.ListN.{length}
 use Rattle.algebra.specs.Lists.{every, some, tally}
 use Rattle.index.specs.declared.Entry.{Entry}
-use Rattle.index.specs.Exposures.{Exposure, Key, hasKey, without}
+use Rattle.index.specs.Exposures.{Key, only}
 use Rattle.index.specs.Entries.{precedes, isKeyed, inserted, withdrawn}
 
 -- ---- of any list
@@ -42,14 +42,30 @@ module _ {A : Type 0} where
       by-test true r h = r h
       by-test false r h = absurd (omega arith)
 
-  pub parted : (f : A → Bool) (xs : List A) → tally f xs + tally (λ x. not (f x)) xs ≡ length xs
+  -- those that pass f pass g too, or fail it
+  pub parted : (f g : A → Bool) (xs : List A) → tally f xs ≡ tally (λ x. f x && g x) xs + tally (λ x. f x && not (g x)) xs
   unfolding tally
-  parted f [] = refl
-  parted f (x ∷ xs) = by-test (f x) (parted f xs)
+  parted f g [] = refl
+  parted f g (x ∷ xs) = by-test (f x) (g x) (parted f g xs)
     where
-      by-test : (t : Bool) → tally f xs + tally (λ y. not (f y)) xs ≡ length xs → counting t (tally f xs) + counting (not t) (tally (λ y. not (f y)) xs) ≡ suc (length xs)
-      by-test true e = omega arith
-      by-test false e = omega arith
+      by-test : (t u : Bool) → tally f xs ≡ tally (λ y. f y && g y) xs + tally (λ y. f y && not (g y)) xs
+          → counting t (tally f xs) ≡ counting (t && u) (tally (λ y. f y && g y) xs) + counting (t && not u) (tally (λ y. f y && not (g y)) xs)
+      by-test true true e = omega arith
+      by-test true false e = omega arith
+      by-test false u e = e
+
+  -- where each passes one of two tests
+  pub either-passes : (f g : A → Bool) (xs : List A) → every (λ x. f x || g x) xs ≡ true → length xs ≤ tally f xs + tally g xs
+  unfolding tally every
+  either-passes f g [] h = omega arith
+  either-passes f g (x ∷ xs) h = by-test (f x) (g x) (either-passes f g xs) h
+    where
+      by-test : (t u : Bool) → (every (λ y. f y || g y) xs ≡ true → length xs ≤ tally f xs + tally g xs) → ((t || u) && every (λ y. f y || g y) xs) ≡ true
+          → suc (length xs) ≤ counting t (tally f xs) + counting u (tally g xs)
+      by-test true true r e = omega (arith, r e)
+      by-test true false r e = omega (arith, r e)
+      by-test false true r e = omega (arith, r e)
+      by-test false false r e = absurd (false≢true e)
 
   -- two tests are passed by no more than the first
   pub both-fewer : (f g : A → Bool) (xs : List A) → tally (λ x. f x && g x) xs ≤ tally f xs
@@ -73,6 +89,18 @@ module _ {A : Type 0} where
       by-test t true r e = absurd (omega arith)
       by-test true false r e = ap suc (r e)
       by-test false false r e = r e
+
+  -- those only that pass g
+  pub only-tally : (f g : A → Bool) (xs : List A) → tally f (only g xs) ≡ tally (λ x. f x && g x) xs
+  unfolding tally only
+  only-tally f g [] = refl
+  only-tally f g (x ∷ xs) = by-test (g x) (f x) (only-tally f g xs) refl
+    where
+      by-test : (t u : Bool) → tally f (only g xs) ≡ tally (λ y. f y && g y) xs → f x ≡ u → tally f (cond t (x ∷ only g xs) (only g xs)) ≡ counting (u && t) (tally (λ y. f y && g y) xs)
+      by-test true true r e = ap (λ v. counting v (tally f (only g xs))) e ∙ ap suc r
+      by-test true false r e = ap (λ v. counting v (tally f (only g xs))) e ∙ r
+      by-test false true r e = r
+      by-test false false r e = r
 
 -- ---- of the entries
 
@@ -115,20 +143,3 @@ withdrawn-fewer n (x ∷ es) = by-test (isKeyed n x) (withdrawn-fewer n es)
     by-test : (t : Bool) → length (withdrawn n es) ≤ length es → length (cond t es (x ∷ withdrawn n es)) ≤ suc (length es)
     by-test true h = omega arith
     by-test false h = omega arith
-
--- ---- of the exposures
-
-pub without-tally : (f : Exposure → Bool) (n : Key) (xs : List Exposure) → tally f (without n xs) ≡ tally (λ x. f x && not (hasKey n x)) xs
-unfolding tally without
-without-tally f n [] = refl
-without-tally f n (x ∷ xs) = by-test (hasKey n x) (f x) (without-tally f n xs) refl
-  where
-    by-test : (t u : Bool) → tally f (without n xs) ≡ tally (λ y. f y && not (hasKey n y)) xs → f x ≡ u
-        → tally f (cond t (without n xs) (x ∷ without n xs)) ≡ counting (u && not t) (tally (λ y. f y && not (hasKey n y)) xs)
-    by-test true true r e = r
-    by-test true false r e = r
-    by-test false true r e = ap (λ v. counting v (tally f (without n xs))) e ∙ ap suc r
-    by-test false false r e = ap (λ v. counting v (tally f (without n xs))) e ∙ r
-
-pub without-length : (n : Key) (xs : List Exposure) → length (without n xs) + tally (hasKey n) xs ≡ length xs
-without-length n xs = omega (arith, tally-all (without n xs), without-tally (λ x. true) n xs, parted (hasKey n) xs)

@@ -1,6 +1,6 @@
--- What the calls answer, and what they leave in the lent list. Document 02, F-10. A list of fewer than Least elements is no index, and refused as space, 10;
--- of any other the entries are those that `entriesIn` reads, also where no history leaves it.
---   adding x l, removing k l, beginning l   the entries after the call, or its refusal: 8, 10, 15, 16; 10, 17; 10
+-- What the calls answer, and what they leave in the lent list. Document 02, F-10 and F-11. An owner is checked before all else. A list of fewer than Least
+-- elements is no index, and refused as space, 10; of any other the entries are those that `entriesIn` reads, also where no history leaves it.
+--   adding x l, removing k l, beginning l   the entries after the call, or its refusal: 18, 8, 10, 15, 16; 18, 10, 17; 10
 --   addAnswer, removeAnswer, beginAnswer    what the call answers: that it was done, or its refusal
 --   addAfter, removeAfter, beginAfter       the list afterwards: the entries in the place of the old ones, or all as it was after a refusal
 --   countAnswer l      how many entries there are; refusal 10
@@ -11,13 +11,13 @@ use mathlib.Core.List.{List, []}
 use lib.Dec.{leb}
 use lib.ListN.{length}
 use lib.IntN.{ℤ}
-use Rattle.answer.specs.Answer.{Answer, refused, gives, check, Vector, Space}
+use Rattle.answer.specs.Answer.{Answer, refused, gives, check, Vector, Space, Owner}
 use Rattle.answer.specs.Lent.{stored}
 use Rattle.vector.specs.Vectors.{isVector}
 use Rattle.index.specs.declared.Entry.{Entry}
 use Rattle.index.specs.declared.Change.{Change}
 use Rattle.index.specs.declared.EntryOf.{EntryOf}
-use Rattle.index.specs.Exposures.{Exposure, Key, keyOf, answered}
+use Rattle.index.specs.Exposures.{isOwner, Exposure, Key, keyOf, answered}
 use Rattle.index.specs.Entries.{Least, entryOf, countIn, entriesIn, keeping, entering, withdrawing, placed}
 
 -- what is answered on a list that is long enough
@@ -25,10 +25,10 @@ abbrev pub inList : {A : Type 0} → List ℤ → Answer A → Answer A
 inList l a = check Space (leb Least (length l)) a
 
 abbrev pub adding : Exposure → List ℤ → Answer (List Entry)
-adding x l = check Vector (isVector (x .pointing)) (inList l (entering (keyOf x) (entryOf x) (entriesIn l)))
+adding x l = check Owner (isOwner (x .owner)) (check Vector (isVector (x .pointing)) (inList l (entering (keyOf x) (entryOf x) (entriesIn l))))
 
 abbrev pub removing : Key → List ℤ → Answer (List Entry)
-removing k l = inList l (withdrawing k (entriesIn l))
+removing k l = check Owner (isOwner (k .owner)) (inList l (withdrawing k (entriesIn l)))
 
 abbrev pub beginning : List ℤ → Answer (List Entry)
 beginning l = inList l (gives [])

@@ -1,8 +1,10 @@
--- The entries of an index, and how they stand in a lent list. Document 02, F-10: ordered by depth-12 identifier and then number. In the list, element 0 is
--- the count, and then come the entries, five numbers each: identifier, number, x, y, z. What is said here is said of every list, index or not.
+-- The entries of an index, and how they stand in a lent list. Document 02, F-10: ordered by depth-12 identifier and then number; F-11: entries alike in both
+-- stand with owner 0 first. In the list, element 0 is the count, and then come the entries, six numbers each: identifier, number, owner, x, y, z. What is
+-- said here is said of every list, index or not.
 --   entryOf x         the entry of an exposure
 --   below y z t       y is below z or, where they are equal, t: one part of an order, and what the parts after it say
---   precedes a b      the order of the entries
+--   precedes a b      the order of the entries; byNumber a b: of those with one identifier
+--   isOwned o e       e is an entry of the owner o
 --   isKeyed k e       e is the entry of the exposure with the key k
 --   Width, numbers e  how many numbers an entry has, and which, as they stand in the list
 --   Least             the fewest elements of a list that is lent for an index
@@ -14,11 +16,13 @@
 --   keeping es l      the list l with the entries es in the place of its own
 --   inserted e es     e before those entries at the end that it precedes
 --   withdrawn k es    without the first entry that has the key k
+--   hasRoom es        one entry more has a place in the list, whoever's it is
 --   entering, withdrawing   the entries after an add and after a removal, or the refusal: 15 twice, 16 full; 17 absent
 --   placed i es       the entry at place i, counted from 0, or the refusal 17
 use Prim.Native.Nat.{ℕ, zero, suc, _+_, _*_, min}
 use mathlib.Core.Bool.{Bool, cond, not, _&&_, _||_}
 use mathlib.Core.List.{List, [], _∷_, _++_}
+use lib.Dec.{ltb}
 use lib.ListN.{length, getD, drop}
 use lib.IntN.{ℤ, pos, negsuc}
 use lib.Signed.{ltZ}
@@ -29,38 +33,44 @@ use Rattle.vector.specs.Numbers.{eqZ}
 use Rattle.vector.specs.Vectors.{vec, three}
 use Rattle.mesh.specs.Lookup.{identifier}
 use Rattle.index.specs.declared.Entry.{Entry}
-use Rattle.index.specs.Exposures.{Most, Exposure, Key, hasPlace}
+use Rattle.index.specs.Exposures.{Most, Share, Exposure, Key, hasPlace}
 
-abbrev pub entry : ℤ → ℤ → Vec3 → Entry
-entry id number pointing = record { id = id; number = number; pointing = pointing }
+abbrev pub entry : ℤ → ℤ → ℤ → Vec3 → Entry
+entry id number owner pointing = record { id = id; number = number; owner = owner; pointing = pointing }
 
 abbrev pub entryOf : Exposure → Entry
-entryOf x = entry (pos (identifier (x .pointing) 12)) (pos (x .number)) (x .pointing)
+entryOf x = entry (pos (identifier (x .pointing) 12)) (pos (x .number)) (pos (x .owner)) (x .pointing)
 
 abbrev pub below : ℤ → ℤ → Bool → Bool
 below y z t = ltZ y z || (eqZ y z && t)
 
--- by identifier, then by number
+-- by identifier, then by number, then by owner
+abbrev pub byNumber : Entry → Entry → Bool
+byNumber a b = below (a .number) (b .number) (ltZ (a .owner) (b .owner))
+
 abbrev pub precedes : Entry → Entry → Bool
-precedes a b = below (a .id) (b .id) (ltZ (a .number) (b .number))
+precedes a b = below (a .id) (b .id) (byNumber a b)
+
+abbrev pub isOwned : ℕ → Entry → Bool
+isOwned o e = eqZ (e .owner) (pos o)
 
 abbrev pub isKeyed : Key → Entry → Bool
-isKeyed k e = eqZ (e .number) (pos k)
+isKeyed k e = eqZ (e .number) (pos (k .number)) && isOwned (k .owner) e
 
 -- ---- in a list
 
 abbrev pub Width : ℕ
-Width = 5
+Width = 6
 
 abbrev pub Least : ℕ
 Least = 1 + Width * Most
 
 abbrev pub numbers : Entry → List ℤ
-numbers e = e .id ∷ e .number ∷ three (e .pointing)
+numbers e = e .id ∷ e .number ∷ e .owner ∷ three (e .pointing)
 
 abbrev pub entryAt : List ℤ → ℕ → Entry
 entryAt l k =
-    entry (getD l k (pos 0)) (getD l (k + 1) (pos 0)) (vec (getD l (k + 2) (pos 0)) (getD l (k + 3) (pos 0)) (getD l (k + 4) (pos 0)))
+    entry (getD l k (pos 0)) (getD l (k + 1) (pos 0)) (getD l (k + 2) (pos 0)) (vec (getD l (k + 3) (pos 0)) (getD l (k + 4) (pos 0)) (getD l (k + 5) (pos 0)))
 
 unfoldable pub entriesFrom : ℕ → List ℤ → List Entry
 entriesFrom zero l = []
@@ -93,9 +103,14 @@ unfoldable pub withdrawn : Key → List Entry → List Entry
 withdrawn k [] = []
 withdrawn k (x ∷ es) = cond (isKeyed k x) es (x ∷ withdrawn k es)
 
+-- In an index this is so wherever the entry's owner has a place (`Kept .room`); it is asked for the sake of other lists.
+abbrev pub hasRoom : List Entry → Bool
+hasRoom es = ltb (length es) Most
+
 -- the entry e of the exposure with the key k
 abbrev pub entering : Key → Entry → List Entry → Answer (List Entry)
-entering k e es = check Twice (not (some (isKeyed k) es)) (check Full (hasPlace Most es) (gives (inserted e es)))
+entering k e es =
+    check Twice (not (some (isKeyed k) es)) (check Full (hasPlace Share (isOwned (k .owner)) es) (check Full (hasRoom es) (gives (inserted e es))))
 
 abbrev pub withdrawing : Key → List Entry → Answer (List Entry)
 withdrawing k es = check Absent (some (isKeyed k) es) (gives (withdrawn k es))

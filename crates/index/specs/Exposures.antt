@@ -1,53 +1,76 @@
--- Exposures, and what a history of adds and removes leaves. Document 02, F-10: up to 2048 exposures, each an unsigned 32-bit number and a pointing, added
--- and removed singly; over every list of adds and removes from an empty index, the content is the set that the accepted ones leave.
---   Most              the most exposures that an index holds
---   Exposure          a number and a pointing; exposed n p, exposure n x y z: the one of these
+-- Exposures of two owners, and what a history of adds and removes leaves. Document 02, F-10: up to 2048 exposures, each an unsigned 32-bit number and a
+-- pointing, added and removed singly; over every list of adds and removes from an empty index, the content is the set that the accepted ones leave.
+-- F-11: an owner, 0 or 1, who may have 1024; one number may be used by both.
+--   Most, Share       the most exposures that an index holds, and the most of one owner
+--   isOwner o         0 or 1
+--   Exposure          an owner, a number and a pointing; exposed o n p, exposure o n x y z: the one of these
 --   isNumber n        an unsigned 32-bit number
---   Key, keyOf x      what exposures are told apart by: the number
+--   Key, key o n      what exposures are told apart by: owner and number; keyOf x: the key of x
+--   hasOwner o x      x is an exposure of the owner o
 --   hasKey k x        x is the exposure with the key k
---   hasPlace m xs     one more has a place beside xs, where m is the most
+--   only f xs         the elements of xs that pass the test f, in their order
+--   hasPlace m f xs   one more that passes the test f has a place beside xs, where m is the most of such
 --   Call              one exposure is added, or the one with a key removed; a history is a list of calls
---   giving m c xs     the exposures after the call c, where xs are there and m is the most, or the call's refusal
+--   without k xs      the exposures xs without the one with the key k
+--   giving m c xs     the exposures after the call c, where xs are there and m is the most of one owner, or the call's refusal
 --   contentOf m h     the exposures that the history h leaves, from none
 --   answersOf m h     what its calls answer: that they were done, or the refusal
 use Prim.Native.Nat.{ℕ}
-use mathlib.Core.Bool.{Bool, cond, not}
+use mathlib.Core.Bool.{Bool, cond, not, _&&_}
 use mathlib.Core.List.{List, [], _∷_}
 use lib.Dec.{eqb, ltb}
-use lib.ListN.{length}
 use lib.IntN.{ℤ}
-use Rattle.algebra.specs.Lists.{some}
-use Rattle.answer.specs.Answer.{Answer, refused, gives, check, with-value, Vector, Twice, Full, Absent}
+use Rattle.algebra.specs.Lists.{some, tally}
+use Rattle.answer.specs.Answer.{Answer, refused, gives, check, with-value, Vector, Twice, Full, Absent, Owner}
 use Rattle.vector.specs.declared.Vec3.{Vec3}
 use Rattle.vector.specs.Vectors.{vec, isVector}
 
 abbrev pub Most : ℕ
 Most = 2048
 
+abbrev pub Share : ℕ
+Share = 1024
+
+abbrev pub isOwner : ℕ → Bool
+isOwner o = ltb o 2
+
 pub record Exposure : Type 0 where
+  pub owner : ℕ
   pub number : ℕ
   pub pointing : Vec3
 
-abbrev pub exposed : ℕ → Vec3 → Exposure
-exposed n p = record { number = n; pointing = p }
+abbrev pub exposed : ℕ → ℕ → Vec3 → Exposure
+exposed o n p = record { owner = o; number = n; pointing = p }
 
-abbrev pub exposure : ℕ → ℤ → ℤ → ℤ → Exposure
-exposure n x y z = exposed n (vec x y z)
+abbrev pub exposure : ℕ → ℕ → ℤ → ℤ → ℤ → Exposure
+exposure o n x y z = exposed o n (vec x y z)
 
 abbrev pub isNumber : ℕ → Bool
 isNumber n = ltb n 4294967296
 
-abbrev pub Key : Type 0
-Key = ℕ
+pub record Key : Type 0 where
+  pub owner : ℕ
+  pub number : ℕ
+
+abbrev pub key : ℕ → ℕ → Key
+key o n = record { owner = o; number = n }
 
 abbrev pub keyOf : Exposure → Key
-keyOf x = x .number
+keyOf x = key (x .owner) (x .number)
+
+abbrev pub hasOwner : ℕ → Exposure → Bool
+hasOwner o x = eqb (x .owner) o
 
 abbrev pub hasKey : Key → Exposure → Bool
-hasKey k x = eqb (x .number) k
+hasKey k x = eqb (x .number) (k .number) && hasOwner (k .owner) x
 
-abbrev pub hasPlace : {A : Type 0} → ℕ → List A → Bool
-hasPlace most xs = ltb (length xs) most
+module _ {A : Type 0} where
+  unfoldable pub only : (A → Bool) → List A → List A
+  only f [] = []
+  only f (x ∷ xs) = cond (f x) (x ∷ only f xs) (only f xs)
+
+  abbrev pub hasPlace : ℕ → (A → Bool) → List A → Bool
+  hasPlace most f xs = ltb (tally f xs) most
 
 pub data Call : Type 0 where
   adds : Exposure → Call
@@ -55,14 +78,17 @@ pub data Call : Type 0 where
 
 -- ---- one call, over the exposures that are there, in any order
 
-unfoldable pub without : Key → List Exposure → List Exposure
-without k [] = []
-without k (x ∷ xs) = cond (hasKey k x) (without k xs) (x ∷ without k xs)
+abbrev pub without : Key → List Exposure → List Exposure
+without k xs = only (λ x. not (hasKey k x)) xs
 
 abbrev pub giving : ℕ → Call → List Exposure → Answer (List Exposure)
-giving most (adds x) xs =
-    check Vector (isVector (x .pointing)) (check Twice (not (some (hasKey (keyOf x)) xs)) (check Full (hasPlace most xs) (gives (x ∷ xs))))
-giving most (removes k) xs = check Absent (some (hasKey k) xs) (gives (without k xs))
+giving share (adds x) xs =
+    check Owner (isOwner (x .owner))
+    (check Vector (isVector (x .pointing))
+    (check Twice (not (some (hasKey (keyOf x)) xs))
+    (check Full (hasPlace share (hasOwner (x .owner)) xs)
+    (gives (x ∷ xs)))))
+giving share (removes k) xs = check Owner (isOwner (k .owner)) (check Absent (some (hasKey k) xs) (gives (without k xs)))
 
 -- ---- all calls, one after the other; a refused one changes nothing
 
@@ -74,15 +100,15 @@ abbrev pub answered : {A : Type 0} → Answer A → Answer (Unit {0})
 answered a = with-value (λ _. tt) a
 
 unfoldable pub contentFrom : ℕ → List Exposure → List Call → List Exposure
-contentFrom most xs [] = xs
-contentFrom most xs (c ∷ h) = contentFrom most (leaving (giving most c xs) xs) h
+contentFrom share xs [] = xs
+contentFrom share xs (c ∷ h) = contentFrom share (leaving (giving share c xs) xs) h
 
 unfoldable pub answersFrom : ℕ → List Exposure → List Call → List (Answer (Unit {0}))
-answersFrom most xs [] = []
-answersFrom most xs (c ∷ h) = answered (giving most c xs) ∷ answersFrom most (leaving (giving most c xs) xs) h
+answersFrom share xs [] = []
+answersFrom share xs (c ∷ h) = answered (giving share c xs) ∷ answersFrom share (leaving (giving share c xs) xs) h
 
 abbrev pub contentOf : ℕ → List Call → List Exposure
-contentOf most h = contentFrom most [] h
+contentOf share h = contentFrom share [] h
 
 abbrev pub answersOf : ℕ → List Call → List (Answer (Unit {0}))
-answersOf most h = answersFrom most [] h
+answersOf share h = answersFrom share [] h

@@ -1,18 +1,19 @@
 -- The theorem of the index. Document 02, F-10: over every list of adds and removes from an empty index, the content is the set that the accepted ones leave,
--- and a withdrawn place serves again.
+-- and a withdrawn place serves again; F-11: with two owners, each of whom may have 1024 entries.
 --   Ascends es        each entry precedes the next
 --   Holds xs es       es are the entries of the exposures xs, each once, in ascending order: of es as many pass every test as of xs
---   isFiled e         e is the entry of a number of 32 bits and a vector
+--   isFiled e         e is the entry of a number of 32 bits, an owner and a vector
 --   IsIndex l         the list l is an index; IsEmpty l: one without entries
 --   Does c before after r   the call c, as its contract has it, gave r and left the list `after` of `before`
 --   Runs l h rs n     the calls h one after the other give rs, from the list l on, and leave the list n
 --   Numbered h        the numbers of the exposures that h adds have 32 bits
---   ServesAgain xs    a full index refuses every exposure more; with one withdrawn, full or not, it takes any other
+--   ServesAgain xs    an owner's 1024 are all; with one withdrawn, whether they were 1024 or fewer, any other of the same owner is taken
 --   Leaves h rs n     the answers rs and the list n are what the rule says of the history h
---   Kept              the statement: lists of zeros, and lists that `begin` leaves, are empty indexes, and from one every history leaves what it should
-use Prim.Native.Nat.{_≤_}
+--   Kept              the statement: lists of zeros, and lists that `begin` leaves, are empty indexes; from one every history leaves what it should; and in
+--                     an index there is room wherever an owner has a place
+use Prim.Native.Nat.{ℕ, _≤_}
 use mathlib.Core.Path.{_≡_}
-use mathlib.Core.Bool.{Bool, true, false, _&&_}
+use mathlib.Core.Bool.{Bool, true, false, _&&_, _||_}
 use mathlib.Core.List.{List, [], _∷_, map}
 use lib.ListN.{length, getD}
 use lib.IntN.{ℤ, pos, natAbs}
@@ -24,8 +25,9 @@ use Rattle.vector.specs.Vectors.{isVector}
 use Rattle.mesh.specs.Lookup.{identifier}
 use Rattle.index.specs.declared.Entry.{Entry}
 use Rattle.index.specs.declared.Change.{Change}
-use Rattle.index.specs.Exposures.{Most, Exposure, isNumber, Key, keyOf, hasKey, Call, adds, removes, without, giving, contentOf, answersOf}
-use Rattle.index.specs.Entries.{Least, entryOf, precedes, isKeyed, entriesIn}
+use Rattle.index.specs.Exposures.{Most, Share, isOwner, Exposure, isNumber, Key, keyOf, hasOwner, hasKey, hasPlace}
+use Rattle.index.specs.Exposures.{Call, adds, removes, without, giving, contentOf, answersOf}
+use Rattle.index.specs.Entries.{Least, entryOf, precedes, isOwned, isKeyed, hasRoom, entriesIn}
 use Rattle.index.specs.Answers.{addAnswer, addAfter, removeAnswer, removeAfter, beginAnswer, beginAfter, countAnswer, changeGiven}
 
 -- ---- an index
@@ -40,12 +42,15 @@ pub record Holds (xs : List Exposure) (es : List Entry) : Type 0 where
   pub exactly : (f : Entry → Bool) → tally f es ≡ tally (λ x. f (entryOf x)) xs
 
 abbrev pub isFiled : Entry → Bool
-isFiled e = leZ (pos 0) (e .number) && isNumber (natAbs (e .number)) && isVector (e .pointing) && eqZ (e .id) (pos (identifier (e .pointing) 12))
+isFiled e =
+    leZ (pos 0) (e .number) && isNumber (natAbs (e .number)) && (isOwned 0 e || isOwned 1 e)
+    && isVector (e .pointing) && eqZ (e .id) (pos (identifier (e .pointing) 12))
 
 pub record IsIndex (l : List ℤ) : Type 0 where
   pub long : Least ≤ length l
   pub counted : getD l 0 (pos 0) ≡ pos (length (entriesIn l))
   pub few : length (entriesIn l) ≤ Most
+  pub share : (o : ℕ) → tally (isOwned o) (entriesIn l) ≤ Share
   pub ascends : Ascends (entriesIn l)
   pub differ : (k : Key) → tally (isKeyed k) (entriesIn l) ≤ 1
   pub filed : every isFiled (entriesIn l) ≡ true
@@ -83,19 +88,21 @@ Numbered h = every numbered h ≡ true
 -- ---- the statement
 
 pub record ServesAgain (xs : List Exposure) : Type 0 where
-  pub full : (x : Exposure) → length xs ≡ Most → isVector (x .pointing) ≡ true → some (hasKey (keyOf x)) xs ≡ false → giving Most (adds x) xs ≡ refused Full
-  pub withdrawn : (k : Key) → some (hasKey k) xs ≡ true → giving Most (removes k) xs ≡ gives (without k xs)
-  pub again : (k : Key) (x : Exposure) → some (hasKey k) xs ≡ true → isVector (x .pointing) ≡ true → some (hasKey (keyOf x)) (without k xs) ≡ false
-      → giving Most (adds x) (without k xs) ≡ gives (x ∷ without k xs)
+  pub full : (x : Exposure) → isOwner (x .owner) ≡ true → tally (hasOwner (x .owner)) xs ≡ Share → isVector (x .pointing) ≡ true
+      → some (hasKey (keyOf x)) xs ≡ false → giving Share (adds x) xs ≡ refused Full
+  pub withdrawn : (k : Key) → isOwner (k .owner) ≡ true → some (hasKey k) xs ≡ true → giving Share (removes k) xs ≡ gives (without k xs)
+  pub again : (k : Key) (x : Exposure) → isOwner (k .owner) ≡ true → k .owner ≡ x .owner → some (hasKey k) xs ≡ true → isVector (x .pointing) ≡ true
+      → some (hasKey (keyOf x)) (without k xs) ≡ false → giving Share (adds x) (without k xs) ≡ gives (x ∷ without k xs)
 
 pub record Leaves (h : List Call) (rs : List Change) (n : List ℤ) : Type 0 where
-  pub answers : map changeGiven rs ≡ answersOf Most h
+  pub answers : map changeGiven rs ≡ answersOf Share h
   pub index : IsIndex n
-  pub content : Holds (contentOf Most h) (entriesIn n)
-  pub count : countAnswer n ≡ gives (length (contentOf Most h))
-  pub again : ServesAgain (contentOf Most h)
+  pub content : Holds (contentOf Share h) (entriesIn n)
+  pub count : countAnswer n ≡ gives (length (contentOf Share h))
+  pub again : ServesAgain (contentOf Share h)
 
 pub record Kept : Type 0 where
   pub zeros : (l : List ℤ) → Least ≤ length l → every (eqZ (pos 0)) l ≡ true → IsEmpty l
   pub begun : (l : List ℤ) → Least ≤ length l → (beginAnswer l ≡ gives tt) × IsEmpty (beginAfter l)
   pub kept : (l n : List ℤ) (h : List Call) (rs : List Change) → IsEmpty l → Numbered h → Runs l h rs n → Leaves h rs n
+  pub room : (l : List ℤ) (o : ℕ) → IsIndex l → isOwner o ≡ true → hasPlace Share (isOwned o) (entriesIn l) ≡ true → hasRoom (entriesIn l) ≡ true

@@ -2,3 +2,4 @@ pub mod Exposures
 pub mod Entries
 pub mod Answers
 pub mod Kept
+pub mod Apart

@@ -1,19 +1,26 @@
-// The exposure index: the rules in specs/, the laws in proofs/, and the types that they name. Document 02, F-10.
+// The exposure index: the rules in specs/, the laws in proofs/, and the types that they name. Document 02, F-10 and F-11.
 use vector::Vec3;
 
 // The most entries that an index holds.
 pub const MOST: usize = 2048;
 
+// The most entries of one owner.
+pub const SHARE: usize = 1024;
+
+// How many owners there are: 0 and 1.
+pub const OWNERS: u32 = 2;
+
 // How many numbers an entry has.
-pub const WIDTH: usize = 5;
+pub const WIDTH: usize = 6;
 
 // The fewest elements of a list that is lent for an index: its count, and then the entries.
 pub const LEAST: usize = 1 + WIDTH * MOST;
 
-// An exposure as it stands in the index: its identifier at depth 12, its number and its pointing.
+// An exposure as it stands in the index: its identifier at depth 12, its number, its owner and its pointing.
 pub struct Entry {
     pub id: i64,
     pub number: i64,
+    pub owner: i64,
     pub pointing: Vec3,
 }
 

@@ -1,8 +1,8 @@
--- What the calls find and store is what their answers say: a search that ends before the last entry found the number, and the entry that is stored
+-- What the calls find and store is what their answers say: a search that ends before the last entry found the key, and the entry that is stored
 -- in the place that was made free stands in its order. Assumes nothing.
 use Prim.Native.Nat.{ℕ, zero, suc, _+_, _*_, _-_, _≤_, _<_}
 use mathlib.Core.Path.{_≡_, sym, ap, _∙_, refl}
-use mathlib.Core.Bool.{true, false, not}
+use mathlib.Core.Bool.{Bool, true, false, not}
 use mathlib.Core.List.{List, [], _∷_, _++_}
 use native.Mathlib.Omega.{arith}
 use borrow.Author.Tests.{lt-leb, le-leb, lt-ltb, le-ltb}
@@ -13,14 +13,14 @@ use lib.IntN.{ℤ, pos}
 use mir.Syntax.{w64}
 use mir.Val.{toZ}
 use Rattle.algebra.proofs.Sized.{nat}
-use Rattle.algebra.specs.Lists.{some}
-use Rattle.answer.specs.Answer.{Answer, refused, gives, Space, Twice, Full, Absent}
+use Rattle.algebra.specs.Lists.{some, tally}
+use Rattle.answer.specs.Answer.{Answer, refused, gives, check, Space, Twice, Full, Absent, Owner}
 use Rattle.answer.specs.Lent.{put}
 use Rattle.index.specs.declared.Entry.{Entry}
 use Rattle.index.specs.declared.Change.{Change}
 use Rattle.index.specs.declared.Change.the-variants.{Made, Refused}
-use Rattle.index.specs.Exposures.{Most, Exposure, Key}
-use Rattle.index.specs.Entries.{Width, Least, numbers, entryAt, precedes, isKeyed, countIn, entriesFrom, entriesIn, written, keeping, inserted, withdrawn, entering, placed}
+use Rattle.index.specs.Exposures.{Most, Share, Exposure, Key, hasPlace}
+use Rattle.index.specs.Entries.{Width, Least, numbers, entryAt, precedes, isOwned, isKeyed, countIn, entriesFrom, entriesIn, written, keeping, inserted, withdrawn, hasRoom, entering, withdrawing, placed}
 use Rattle.index.specs.Answers.{inList, beginning, adding, removing, beginAnswer, beginAfter, addAnswer, addAfter, removeAnswer, removeAfter, countAnswer, entryAnswer, changeGiven}
 use Rattle.index.proofs.WrittenLaws.{length-entries}
 use Rattle.index_entries.specs.Steps.{leading, staying, raised, lowered}
@@ -46,6 +46,13 @@ module _ (l m : List ℤ) (r : Change) where
 
 -- ---- what the steps do
 
+-- an owner's check
+pub no-owner : (t : Bool) (a : Answer (List Entry)) (l : List ℤ) → t ≡ false → Done (check Owner t a) l l (Refused Owner)
+no-owner t a l e = record { answer = rw e refl; list = rw e refl }
+
+pub of-owner : {t : Bool} {a : Answer (List Entry)} {l m : List ℤ} {r : Change} → t ≡ true → Done a l m r → Done (check Owner t a) l m r
+of-owner e d = rw e d
+
 pub too-short : (l : List ℤ) (a : Answer (List Entry)) → length l < Least → Done (inList l a) l l (Refused Space)
 too-short l a h = let e : leb Least (length l) ≡ false = lt-leb Least (length l) h in record { answer = rw e refl; list = rw e refl }
 
@@ -67,7 +74,7 @@ module _ (l : List ℤ) (n : ℕ) (long : Least ≤ length l) (is : n ≡ countI
   entries : length (entriesIn l) ≡ n
   entries = ap length (sym read) ∙ length-entries n (drop 1 l)
 
-  -- whether the search for a number ended before the last entry
+  -- whether the search for a key ended before the last entry
   searched : (k : Key) (i : ℕ) → i ≡ leading (λ e. not (isKeyed k e)) (entriesFrom n (drop 1 l)) → ltb i n ≡ some (isKeyed k) (entriesIn l)
   searched k i s =
       let p : i ≡ leading (λ e. not (isKeyed k e)) (entriesIn l) = s ∙ ap (leading (λ e. not (isKeyed k e))) read in
@@ -80,39 +87,56 @@ module _ (l : List ℤ) (n : ℕ) (long : Least ≤ length l) (is : n ≡ countI
         let b : some (isKeyed k) (entriesIn l) ≡ true = sym (searched k i s) ∙ lt-ltb i n h in
         record { answer = rw (a, b) refl; list = rw (a, b) refl }
 
-    pub is-full : (e : Entry) → n ≤ i → Most ≤ n → Done (inList l (entering k e (entriesIn l))) l l (Refused Full)
-    is-full e h f =
-        let a : leb Least (length l) ≡ true = le-leb Least (length l) long in
-        let b : some (isKeyed k) (entriesIn l) ≡ false = sym (searched k i s) ∙ le-ltb i n h in
-        let c : ltb (length (entriesIn l)) Most ≡ false = le-ltb (length (entriesIn l)) Most (omega (arith, entries)) in
-        record { answer = rw (a, b, c) refl; list = rw (a, b, c) refl }
+    -- the search ended without the key, and counted the owner's
+    module _ (e : Entry) (w : ℕ) (past : n ≤ i) (c : w ≡ tally (isOwned (k .owner)) (entriesFrom n (drop 1 l))) where
+      a : leb Least (length l) ≡ true
+      a = le-leb Least (length l) long
 
-    pub is-entered : (e : Entry) (p : ℕ) (u v : List ℤ) → n ≤ i → n < Most → p ≡ staying (precedes e) (entriesFrom n (drop 1 l)) → p ≤ n
-        → u ≡ raised (1 + Width * p) l (Width * (n - p)) → v ≡ put (1 + Width * p) (numbers e) u → Done (inList l (entering k e (entriesIn l))) l (set v 0 (toZ w64 (n + 1))) Made
-    unfolding keeping
-    is-entered e p u v h f q g x y =
-        let a : leb Least (length l) ≡ true = le-leb Least (length l) long in
-        let b : some (isKeyed k) (entriesIn l) ≡ false = sym (searched k i s) ∙ le-ltb i n h in
-        let c : ltb (length (entriesIn l)) Most ≡ true = lt-ltb (length (entriesIn l)) Most (omega (arith, entries)) in
-        let es = entriesFrom n (drop 1 l) in
-        let t : take p es ++ e ∷ drop p es ≡ inserted e (entriesIn l) = ap (λ j. take j es ++ e ∷ drop j es) q ∙ inserted-at e es ∙ ap (inserted e) read in
-        let m : n + 1 ≡ length (take p es ++ e ∷ drop p es) =
-        omega (arith, length-append (take p es) (e ∷ drop p es), length-take-le p es (omega (arith, length-entries n (drop 1 l))), length-drop p es, length-entries n (drop 1 l)) in
-        let z : v ≡ put (1 + Width * p) (numbers e) (raised (1 + Width * p) l (Width * (n - p))) = y ∙ ap (λ w. put (1 + Width * p) (numbers e) w) x in
-        let d : set v 0 (toZ w64 (n + 1)) ≡ keeping (inserted e (entriesIn l)) l =
-        (λ j. set (z j) 0 (whole (n + 1) (omega arith) j))
-        ∙ one-more n p (Width * (n - p)) e l (pos (n + 1)) g refl (omega arith)
-        ∙ ap (λ x. pos x ∷ written (take p es ++ e ∷ drop p es) (drop 1 l)) m
-        ∙ ap (λ x. keeping x l) t in
-        record { answer = rw (a, b, c) refl; list = rw (a, b, c) d }
+      b : some (isKeyed k) (entriesIn l) ≡ false
+      b = sym (searched k i s) ∙ le-ltb i n past
 
-    pub is-absent : n ≤ i → Done (removing k l) l l (Refused Absent)
+      owned : tally (isOwned (k .owner)) (entriesIn l) ≡ w
+      owned = ap (tally (isOwned (k .owner))) (sym read) ∙ sym c
+
+      pub is-full : Share ≤ w → Done (inList l (entering k e (entriesIn l))) l l (Refused Full)
+      is-full f =
+          let g : hasPlace Share (isOwned (k .owner)) (entriesIn l) ≡ false = ap (λ m. ltb m Share) owned ∙ le-ltb w Share f in
+          record { answer = rw (a, b, g) refl; list = rw (a, b, g) refl }
+
+      module _ (f : w < Share) where
+        place : hasPlace Share (isOwned (k .owner)) (entriesIn l) ≡ true
+        place = ap (λ m. ltb m Share) owned ∙ lt-ltb w Share f
+
+        pub no-room : Most ≤ n → Done (inList l (entering k e (entriesIn l))) l l (Refused Full)
+        no-room h =
+            let g : hasRoom (entriesIn l) ≡ false = le-ltb (length (entriesIn l)) Most (omega (arith, entries)) in
+            record { answer = rw (a, b, place, g) refl; list = rw (a, b, place, g) refl }
+
+        pub is-entered : (p : ℕ) (u v : List ℤ) → n < Most → p ≡ staying (precedes e) (entriesFrom n (drop 1 l)) → p ≤ n
+            → u ≡ raised (1 + Width * p) l (Width * (n - p)) → v ≡ put (1 + Width * p) (numbers e) u
+            → Done (inList l (entering k e (entriesIn l))) l (set v 0 (toZ w64 (n + 1))) Made
+        unfolding keeping
+        is-entered p u v h q g x y =
+            let r : hasRoom (entriesIn l) ≡ true = lt-ltb (length (entriesIn l)) Most (omega (arith, entries)) in
+            let es = entriesFrom n (drop 1 l) in
+            let t : take p es ++ e ∷ drop p es ≡ inserted e (entriesIn l) = ap (λ j. take j es ++ e ∷ drop j es) q ∙ inserted-at e es ∙ ap (inserted e) read in
+            let m : n + 1 ≡ length (take p es ++ e ∷ drop p es) =
+            omega (arith, length-append (take p es) (e ∷ drop p es), length-take-le p es (omega (arith, length-entries n (drop 1 l))), length-drop p es, length-entries n (drop 1 l)) in
+            let z : v ≡ put (1 + Width * p) (numbers e) (raised (1 + Width * p) l (Width * (n - p))) = y ∙ ap (λ w. put (1 + Width * p) (numbers e) w) x in
+            let d : set v 0 (toZ w64 (n + 1)) ≡ keeping (inserted e (entriesIn l)) l =
+            (λ j. set (z j) 0 (whole (n + 1) (omega arith) j))
+            ∙ one-more n p (Width * (n - p)) e l (pos (n + 1)) g refl (omega arith)
+            ∙ ap (λ x. pos x ∷ written (take p es ++ e ∷ drop p es) (drop 1 l)) m
+            ∙ ap (λ x. keeping x l) t in
+            record { answer = rw (a, b, place, r) refl; list = rw (a, b, place, r) d }
+
+    pub is-absent : n ≤ i → Done (inList l (withdrawing k (entriesIn l))) l l (Refused Absent)
     is-absent h =
         let a : leb Least (length l) ≡ true = le-leb Least (length l) long in
         let b : some (isKeyed k) (entriesIn l) ≡ false = sym (searched k i s) ∙ le-ltb i n h in
         record { answer = rw (a, b) refl; list = rw (a, b) refl }
 
-    pub is-removed : (u : List ℤ) → i < n → n ≤ Most → u ≡ lowered (1 + Width * i) l (Width * (n - 1 - i)) → Done (removing k l) l (set u 0 (toZ w64 (n - 1))) Made
+    pub is-removed : (u : List ℤ) → i < n → n ≤ Most → u ≡ lowered (1 + Width * i) l (Width * (n - 1 - i)) → Done (inList l (withdrawing k (entriesIn l))) l (set u 0 (toZ w64 (n - 1))) Made
     unfolding keeping
     is-removed u h f x =
         let a : leb Least (length l) ≡ true = le-leb Least (length l) long in

@@ -3,6 +3,7 @@
 use answer::ABSENT;
 use answer::FULL;
 use answer::Number;
+use answer::OWNER;
 use answer::SPACE;
 use answer::TWICE;
 use index::Change;
@@ -10,12 +11,14 @@ use index::Entry;
 use index::EntryOf;
 use index::LEAST;
 use index::MOST;
+use index::OWNERS;
+use index::SHARE;
 use index::WIDTH;
 use limits::DEEPEST;
 use vector::Vec3;
 ghost use mathlib.Core.Path.{_≡_};
 ghost use Rattle.answer.specs.Calls.{numberOf};
-ghost use Rattle.index.specs.Exposures.{exposed};
+ghost use Rattle.index.specs.Exposures.{key, exposed};
 ghost use Rattle.index.specs.Entries.{entriesIn, entering};
 ghost use Rattle.index.specs.Answers.{inList, beginAnswer, beginAfter, addAnswer, addAfter, removeAnswer, removeAfter, countAnswer, entryAnswer};
 ghost use Rattle.index.specs.Answers.{changeGiven, entryGiven};
@@ -33,11 +36,14 @@ pub fn begin(index: &mut [i64]) -> Change
     Change::Made
 }
 
-// One exposure more, by its number and its pointing; refusals 8, 10, 15, 16.
-pub fn add(index: &mut [i64], number: u32, p: Vec3) -> Change
-    ensures { λ r. ⌜ changeGiven r ≡ addAnswer (exposed number p) (now (index .entry)) ⌝ }
-    ensures { λ r. ⌜ now (index .exit) ≡ addAfter (exposed number p) (now (index .entry)) ⌝ }
+// One exposure more of an owner, by its number and its pointing; refusals 18, 8, 10, 15, 16.
+pub fn add(index: &mut [i64], owner: u32, number: u32, p: Vec3) -> Change
+    ensures { λ r. ⌜ changeGiven r ≡ addAnswer (exposed owner number p) (now (index .entry)) ⌝ }
+    ensures { λ r. ⌜ now (index .exit) ≡ addAfter (exposed owner number p) (now (index .entry)) ⌝ }
 {
+    if OWNERS <= owner {
+        return Change::Refused(OWNER);
+    }
     let found = mesh_lookup::lookup(p, DEEPEST);
     match found {
         Number::Refused(n) => Change::Refused(n),
@@ -46,23 +52,29 @@ pub fn add(index: &mut [i64], number: u32, p: Vec3) -> Change
             Entry {
                 id: id as i64,
                 number: number as i64,
+                owner: owner as i64,
                 pointing: p,
             },
+            owner,
             number,
         ),
     }
 }
 
-// The entry of the exposure with this number, in its place; refusals 10, 15, 16.
-fn enter(index: &mut [i64], e: Entry, number: u32) -> Change
-    ensures { λ r. ⌜ Done (inList (now (index .entry)) (entering number e (entriesIn (now (index .entry))))) (now (index .entry)) (now (index .exit)) r ⌝ }
+// The entry of the exposure with this owner and number, in its place; refusals 10, 15, 16. In an index there is room wherever the owner has a place.
+fn enter(index: &mut [i64], e: Entry, owner: u32, number: u32) -> Change
+    ensures { λ r. ⌜ Done (inList (now (index .entry)) (entering (key owner number) e (entriesIn (now (index .entry))))) (now (index .entry)) (now (index .exit)) r ⌝ }
 {
     if index.len() < LEAST {
         return Change::Refused(SPACE);
     }
     let n = index_entries::count_in(index);
-    if index_entries::place_of(index, n, number) < n {
+    let found = index_entries::find(index, n, owner, number);
+    if found.place < n {
         return Change::Refused(TWICE);
+    }
+    if SHARE <= found.owned {
+        return Change::Refused(FULL);
     }
     if MOST <= n {
         return Change::Refused(FULL);
@@ -73,16 +85,19 @@ fn enter(index: &mut [i64], e: Entry, number: u32) -> Change
     Change::Made
 }
 
-// One exposure less, by its number; refusals 10, 17.
-pub fn remove(index: &mut [i64], number: u32) -> Change
-    ensures { λ r. ⌜ changeGiven r ≡ removeAnswer number (now (index .entry)) ⌝ }
-    ensures { λ r. ⌜ now (index .exit) ≡ removeAfter number (now (index .entry)) ⌝ }
+// One exposure less of an owner, by its number; refusals 18, 10, 17.
+pub fn remove(index: &mut [i64], owner: u32, number: u32) -> Change
+    ensures { λ r. ⌜ changeGiven r ≡ removeAnswer (key owner number) (now (index .entry)) ⌝ }
+    ensures { λ r. ⌜ now (index .exit) ≡ removeAfter (key owner number) (now (index .entry)) ⌝ }
 {
+    if OWNERS <= owner {
+        return Change::Refused(OWNER);
+    }
     if index.len() < LEAST {
         return Change::Refused(SPACE);
     }
     let n = index_entries::count_in(index);
-    let i = index_entries::place_of(index, n, number);
+    let i = index_entries::find(index, n, owner, number).place;
     if n <= i {
         return Change::Refused(ABSENT);
     }

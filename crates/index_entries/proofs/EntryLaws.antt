@@ -15,14 +15,15 @@ first (a ∷ []) h = absurd (omega arith)
 first (a ∷ b ∷ []) h = absurd (omega arith)
 first (a ∷ b ∷ x ∷ []) h = absurd (omega arith)
 first (a ∷ b ∷ x ∷ y ∷ []) h = absurd (omega arith)
-first (a ∷ b ∷ x ∷ y ∷ z ∷ l) h = refl
+first (a ∷ b ∷ o ∷ x ∷ y ∷ []) h = absurd (omega arith)
+first (a ∷ b ∷ o ∷ x ∷ y ∷ z ∷ l) h = refl
 
 pub entry-drop : (a : ℕ) (l : List ℤ) → entryAt (drop a l) 0 ≡ entryAt l a
 entry-drop a l =
     let e : a + 0 ≡ a = omega arith in
     let at : (k : ℕ) → getD (drop a l) k (pos 0) ≡ getD l (a + k) (pos 0) = λ k. getD-drop a l k (pos 0) in
     let id = at 0 ∙ ap (λ m. getD l m (pos 0)) e in
-    λ i. entry (id i) (at 1 i) (vec (at 2 i) (at 3 i) (at 4 i))
+    λ i. entry (id i) (at 1 i) (at 2 i) (vec (at 3 i) (at 4 i) (at 5 i))
 
 pub numbers-at : (a : ℕ) (l : List ℤ) → a + Width ≤ length l → numbers (entryAt l a) ≡ take Width (drop a l)
 numbers-at a l h = ap numbers (sym (entry-drop a l)) ∙ sym (first (drop a l) (omega (arith, length-drop a l)))

@@ -1,5 +1,6 @@
 -- A search goes on while a test passes, from the first entry or from the last: where it ends is how many entries at the front pass it, or stand before those
--- at the end that do, by recursion over the entries. There the entry with a number stands, or an entry is inserted. Assumes nothing.
+-- at the end that do, by recursion over the entries. There the entry with a key stands, or an entry is inserted. On the way those that pass another test are
+-- counted, one after the other. Assumes nothing.
 use Prim.Native.Nat.{ℕ, zero, suc, _+_, _*_, _≤_, _<_}
 use mathlib.Core.Path.{_≡_, sym, ap, _∙_, refl}
 use mathlib.Core.Bool.{Bool, true, false, cond, not, _||_}
@@ -10,7 +11,7 @@ use lib.IntN.{ℤ}
 use lib.Seq.{drop-drop}
 use lib.Dec.{ltb, leb·suc-suc}
 use borrow.Author.Tests.{lt-ltb}
-use Rattle.algebra.specs.Lists.{every, some}
+use Rattle.algebra.specs.Lists.{every, some, tally}
 use Rattle.algebra.proofs.Tests.{and-both, and-no-left, and-no-right}
 use Rattle.index.specs.declared.Entry.{Entry}
 use Rattle.index.specs.Exposures.{Key}
@@ -75,6 +76,26 @@ module _ (f : Entry → Bool) where
       (λ j p. ap (λ m. f (entryAt l m)) (next j) ∙ stop (suc j) (omega arith)) in
       ap suc (rest ∙ ap (λ m. staying f (entriesFrom n m)) (sym (drop-drop Width a l)))
       ∙ sym (ap (λ t. cond t 0 (suc (staying f (entriesFrom n (drop Width (drop a l)))))) e)
+
+-- ---- what is counted on the way: one entry more
+
+pub counted-more : (f : Entry → Bool) (i : ℕ) (l : List ℤ) (a : ℕ)
+    → tally f (entriesFrom (suc i) (drop a l)) ≡ cond (f (entryAt l (a + Width * i))) (suc (tally f (entriesFrom i (drop a l)))) (tally f (entriesFrom i (drop a l)))
+unfolding entriesFrom tally
+counted-more f zero l a = let e : a ≡ a + Width * 0 = omega arith in ap (λ x. cond (f x) 1 0) (entry-drop a l ∙ ap (entryAt l) e)
+counted-more f (suc i) l a =
+    let e : a + Width + Width * i ≡ a + Width * suc i = omega arith in
+    let r = drop-drop Width a l in
+    let counting : Bool → ℕ → ℕ = λ t n. cond t (suc n) n in
+    ap (counting (f (entryAt (drop a l) 0)))
+    (ap (λ m. tally f (entriesFrom (suc i) m)) r ∙ counted-more f i l (a + Width) ∙ (λ j. counting (f (entryAt l (e j))) (tally f (entriesFrom i (sym r j)))))
+    ∙ exchanged (f (entryAt (drop a l) 0)) (f (entryAt l (a + Width * suc i))) (tally f (entriesFrom i (drop Width (drop a l))))
+  where
+    exchanged : (t u : Bool) (n : ℕ) → cond t (suc (cond u (suc n) n)) (cond u (suc n) n) ≡ cond u (suc (cond t (suc n) n)) (cond t (suc n) n)
+    exchanged true true n = refl
+    exchanged true false n = refl
+    exchanged false true n = refl
+    exchanged false false n = refl
 
 -- ---- what stands there
 

@@ -81,7 +81,7 @@ module _ (k : ℕ) (l : List ℤ) (m : ℕ) (fits : k + Width + m + Width ≤ le
   entry-read : entryAt (raised (k + Width) l m) k ≡ entryAt l k
   entry-read =
       let at : (j : ℕ) → j < k + Width → getD (raised (k + Width) l m) j (pos 0) ≡ getD l j (pos 0) = raised-read in
-      λ i. entry (at k (omega arith) i) (at (k + 1) (omega arith) i) (vec (at (k + 2) (omega arith) i) (at (k + 3) (omega arith) i) (at (k + 4) (omega arith) i))
+      λ i. entry (at k (omega arith) i) (at (k + 1) (omega arith) i) (at (k + 2) (omega arith) i) (vec (at (k + 3) (omega arith) i) (at (k + 4) (omega arith) i) (at (k + 5) (omega arith) i))
 
   entry-raised : put (k + Width) (numbers (entryAt l k)) (raised (k + Width) l m) ≡ raised k l (Width + m)
   unfolding raised

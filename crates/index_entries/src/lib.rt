@@ -5,30 +5,53 @@ use index::MOST;
 use index::WIDTH;
 ghost use mathlib.Core.Path.{_≡_};
 ghost use Prim.Native.Nat.{_+_, _-_, _*_, _≤_};
-ghost use mathlib.Core.Bool.{not};
+ghost use mathlib.Core.Bool.{cond, not};
 ghost use lib.ListN.{length, drop};
+ghost use Rattle.algebra.specs.Lists.{tally};
 ghost use Rattle.answer.specs.Lent.{put};
-ghost use Rattle.index.specs.Exposures.{Most};
-ghost use Rattle.index.specs.Entries.{Width, numbers, entryAt, countIn, entriesFrom, isKeyed};
+ghost use Rattle.index.specs.Exposures.{Most, key};
+ghost use Rattle.index.specs.Entries.{Width, numbers, entryAt, countIn, entriesFrom, byNumber, isOwned, isKeyed};
 ghost use Rattle.index.specs.Entries as rule;
 ghost use Rattle.index_entries.specs.Steps.{leading, staying, raised, lowered};
 
-// The order of the entries: by identifier, then by number.
+// What a search for a key ends with: the place of the first entry that has it, or how many entries there are; and then, how many of them are the owner's.
+pub struct Found {
+    pub place: usize,
+    pub owned: usize,
+}
+
+// The order of the entries of one identifier: by number, then by owner.
+fn by_number(a: Entry, b: Entry) -> bool
+    ensures { λ t. ⌜ t ≡ byNumber a b ⌝ }
+{
+    let m = a.number;
+    let n = b.number;
+    let o = a.owner;
+    let p = b.owner;
+    m < n || m == n && o < p
+}
+
+// The order of the entries: by identifier first.
 fn precedes(a: Entry, b: Entry) -> bool
     ensures { λ t. ⌜ t ≡ rule.precedes a b ⌝ }
 {
     let i = a.id;
     let j = b.id;
-    let m = a.number;
-    let n = b.number;
-    i < j || i == j && m < n
+    i < j || i == j && by_number(a, b)
 }
 
-// Whether an entry is that of the exposure with this number.
-fn is_keyed(e: Entry, number: u32) -> bool
-    ensures { λ t. ⌜ t ≡ isKeyed number e ⌝ }
+// Whether an entry is one of this owner.
+fn is_owned(e: Entry, owner: u32) -> bool
+    ensures { λ t. ⌜ t ≡ isOwned owner e ⌝ }
 {
-    e.number == number as i64
+    e.owner == owner as i64
+}
+
+// Whether an entry is that of the exposure with this owner and number.
+fn is_keyed(e: Entry, owner: u32, number: u32) -> bool
+    ensures { λ t. ⌜ t ≡ isKeyed (key owner number) e ⌝ }
+{
+    e.number == number as i64 && is_owned(e, owner)
 }
 
 // The entry whose numbers begin at element k.
@@ -39,7 +62,8 @@ pub fn entry_at(index: &[i64], k: usize) -> Entry
     Entry {
         id: index[k],
         number: index[k + 1],
-        pointing: vector_products::vec_in(index, k + 2),
+        owner: index[k + 2],
+        pointing: vector_products::vec_in(index, k + 3),
     }
 }
 
@@ -50,10 +74,12 @@ pub fn store_entry(index: &mut [i64], k: usize, e: Entry)
 {
     let id = e.id;
     let number = e.number;
+    let owner = e.owner;
     let p = e.pointing;
     index[k] = id;
     index[k + 1] = number;
-    vector_products::store(index, k + 2, p);
+    index[k + 2] = owner;
+    vector_products::store(index, k + 3, p);
 }
 
 // How many entries there are: the count that the list says, as far as it is one.
@@ -69,28 +95,57 @@ pub fn count_in(index: &[i64]) -> usize
     if MOST < count { MOST } else { count }
 }
 
-// The place of the first of n entries that has this number; n, where there is none. Two entries a turn: one takes half as long again.
-pub fn place_of(index: &[i64], n: usize, number: u32) -> usize
-    requires { ⌜ (1 + Width * n ≤ length (now index)) × (n ≤ Most) ⌝ }
-    ensures { λ r. ⌜ (r ≡ leading (λ e. not (isKeyed number e)) (entriesFrom n (drop 1 (now (index .entry))))) × (r ≤ n) ⌝ }
+// One more, where the entry is one of this owner.
+fn counted(count: usize, e: Entry, owner: u32) -> usize
+    requires { ⌜ count ≤ Most ⌝ }
+    ensures { λ r. ⌜ (r ≡ cond (isOwned owner e) (count + 1) count) × (r ≤ count + 1) ⌝ }
 {
+    if is_owned(e, owner) { count + 1 } else { count }
+}
+
+// Goes over n entries for the one with this owner and number, and counts the owner's on the way. Two entries a turn: one takes half as long again.
+pub fn find(index: &[i64], n: usize, owner: u32, number: u32) -> Found
+    requires { ⌜ (1 + Width * n ≤ length (now index)) × (n ≤ Most) ⌝ }
+    ensures { λ r. ⌜ (r .place ≡ leading (λ e. not (isKeyed (key owner number) e)) (entriesFrom n (drop 1 (now (index .entry))))) × (r .place ≤ n) ⌝ }
+    ensures { λ r. ⌜ (n ≤ r .place → r .owned ≡ tally (isOwned owner) (entriesFrom n (drop 1 (now (index .entry))))) ⌝ }
+{
+    let mut owned: usize = 0;
     let mut i: usize = 0;
     while i + 1 < n {
-        if is_keyed(entry_at(index, 1 + WIDTH * i), number) {
-            return i;
+        let e = entry_at(index, 1 + WIDTH * i);
+        if is_keyed(e, owner, number) {
+            return Found {
+                place: i,
+                owned: owned,
+            };
         }
-        if is_keyed(entry_at(index, 1 + WIDTH * (i + 1)), number) {
-            return i + 1;
+        let f = entry_at(index, 1 + WIDTH * (i + 1));
+        if is_keyed(f, owner, number) {
+            return Found {
+                place: i + 1,
+                owned: owned,
+            };
         }
+        owned = counted(counted(owned, e, owner), f, owner);
         i += 2;
     }
     if n <= i {
-        return n;
+        return Found {
+            place: n,
+            owned: owned,
+        };
     }
-    if is_keyed(entry_at(index, 1 + WIDTH * i), number) {
-        return i;
+    let e = entry_at(index, 1 + WIDTH * i);
+    if is_keyed(e, owner, number) {
+        return Found {
+            place: i,
+            owned: owned,
+        };
     }
-    n
+    Found {
+        place: n,
+        owned: counted(owned, e, owner),
+    }
 }
 
 // Of n entries, those at the end that e precedes move up by one, the last one first. The result is the place that is free then.

@@ -34,7 +34,7 @@ pub fn text(out: &mut Buffer, at: usize, bytes: &[u8]) -> usize {
     end
 }
 
-// A number, and the byte that parts it from what follows.
+// A number, and the byte that parts it from what follows; `digits` and `integer` without that byte.
 pub fn natural(out: &mut Buffer, at: usize, n: u64, then: u8) -> usize {
     let end = digits(out, at, n);
     byte(out, end, then)
@@ -47,11 +47,16 @@ pub fn digits(out: &mut Buffer, at: usize, n: u64) -> usize {
 }
 
 pub fn whole(out: &mut Buffer, at: usize, n: i64, then: u8) -> usize {
+    let end = integer(out, at, n);
+    byte(out, end, then)
+}
+
+pub fn integer(out: &mut Buffer, at: usize, n: i64) -> usize {
     if n < 0 {
         let end = byte(out, at, b'-');
-        return natural(out, end, size(n), then);
+        return digits(out, end, size(n));
     }
-    natural(out, at, size(n), then)
+    digits(out, at, size(n))
 }
 
 // How far a number is from 0.

@@ -6,10 +6,10 @@ use Rattle.archive_lines.proofs.list.Statement.{statement}
 use Rattle.archive_lines.proofs.list.Tie as tie
 
 abbrev Inv-loop : tie.InvT-loop
-Inv-loop index out₀ at count end₀ place₀ out end place = place ≤ 2048
+Inv-loop index owner out₀ at listed₀ place₀ out listed place = place ≤ 2048
 
 abbrev μ-loop : tie.MeasureT-loop
-μ-loop index out₀ at count end₀ place₀ out end place = 2048 - place
+μ-loop index owner out₀ at listed₀ place₀ out listed place = 2048 - place
 
 pub list-spec : {M : Type 1} → statement M
 list-spec =
@@ -17,21 +17,16 @@ list-spec =
     (tie.spec
     Inv-loop
     μ-loop
+    (λ c. omega arith)
+    (λ c. omega arith)
     (λ c κs. tt)
-    (λ c. search needs)
     (λ c. search needs)
     (λ c. search needs)
     (λ c κs. tt)
     (λ c. tt)
-    (λ c. omega arith)
-    (λ c. search needs)
-    (λ c κs. tt)
-    (λ c. search needs)
-    (λ c. search needs)
-    (λ c. tt)
-    (λ c. omega arith)
     (λ c κs. tt)
     (λ c. omega arith)
     (λ c. omega arith)
     (λ c. omega arith)
+    (λ c κs. tt)
     (λ c. tt))

@@ -19,5 +19,7 @@ add-spec =
     let p = c .before .before in
     let s = p .before .before in
     let v = p .pointing .ensures ∙ (λ i. vec (toZ-ofZ (s .fits .x) i) (toZ-ofZ (s .fits .y) i) (toZ-ofZ (s .fits .z) i)) in
-    let a = c .before .add .ensures in
-    (a .0 ∙ ap (λ q. addAnswer (exposed (s .args .number) q) (now (s .args .index))) v, a .1 ∙ ap (λ q. addAfter (exposed (s .args .number) q) (now (s .args .index))) v)))
+    let a = c .before .add .ensures in (
+      a .0 ∙ ap (λ q. addAnswer (exposed (s .args .owner) (s .args .number) q) (now (s .args .index))) v,
+      a .1 ∙ ap (λ q. addAfter (exposed (s .args .owner) (s .args .number) q) (now (s .args .index))) v,
+    )))

@@ -1,7 +1,8 @@
--- `index_calls::add` looks the identifier up, and enters the entry where it gets one. Assumes nothing.
+-- `index_calls::add` tests the owner, looks the identifier up, and enters the entry where it gets one. Assumes nothing.
 use Prim.Native.Nat.{_≤_, _^_}
 use native.Mathlib.Omega.{arith}
 use mathlib.Core.Path.{_≡_, sym, ap, _∙_}
+use borrow.Author.Tests.{lt-ltb, le-ltb}
 use lib.IntN.{pos}
 use denote.Ref.{now}
 use Rattle.algebra.proofs.Sized.{nat}
@@ -9,46 +10,51 @@ use Rattle.answer.specs.Answer.{gives}
 use Rattle.answer.specs.Calls.{numberOf}
 use Rattle.mesh.specs.Lookup.{lookup}
 use Rattle.mesh.proofs.LookupLaws.{lookup-is, identifier-small}
-use Rattle.index.specs.Exposures.{exposed}
+use Rattle.index.specs.Exposures.{isOwner, exposed}
 use Rattle.index.specs.Entries.{entry}
-use Rattle.index_calls.proofs.CallLaws.{by-add}
+use Rattle.index_calls.proofs.CallLaws.{by-add, no-owner}
 use Rattle.index_calls.proofs.LookupLaws.{not-added, added}
 use Rattle.index_calls.proofs.add.Statement.{statement}
 use Rattle.index_calls.proofs.add.Tie as tie
 
 -- the identifier that was found, by the rule
-given : (c : tie.After-found2) → lookup (c .before .before .before .args .p) 12 ≡ gives (c .found2 .given .0 .0)
+given : (c : tie.After-found2) → lookup (c .before .before .before .before .args .p) 12 ≡ gives (c .found2 .given .0 .0)
 given c = sym (c .before .before .lookup .ensures) ∙ ap numberOf (c .found2 .given .1)
 
 small : (c : tie.After-found2) → c .found2 .given .0 .0 ≤ 2 ^ 26
 small c =
-    let p = c .before .before .before .args .p in
+    let p = c .before .before .before .before .args .p in
     omega (arith, identifier-small p 12 (omega arith), lookup-is p 12 _ (given c) .2)
 
-sent-back : tie.Need-returns
+sent-back : tie.Need-returns-2
 sent-back c =
     let f = c .before in
-    let v = f .before .before .before .args in
-    by-add _ _ _ _ (not-added (exposed (v .number) (v .p)) (now (v .index)) (f .found .given .0 .0) (sym (ap numberOf (f .found .given .1)) ∙ f .before .before .lookup .ensures))
+    let v = f .before .before .before .before .args in
+    by-add _ _ _ _
+    (not-added (exposed (v .owner) (v .number) (v .p)) (now (v .index)) (f .found .given .0 .0) (lt-ltb (v .owner) 2 (omega arith)) (sym (ap numberOf (f .found .given .1)) ∙ f .before .before .lookup .ensures))
 
-entered : tie.Need-returns-2
+entered : tie.Need-returns-3
 entered c =
     let f = c .before .before .before .before in
-    let v = f .before .before .before .args in
+    let v = f .before .before .before .before .args in
     let l = lookup-is (v .p) 12 _ (given f) in
+    let o : v .owner ≤ 2 ^ 32 = omega arith in
     let n : v .number ≤ 2 ^ 32 = omega arith in
     let id = nat (small f) tt .eq ∙ ap pos (sym (l .2)) in
     by-add _ _ _ _
-    (added (exposed (v .number) (v .p)) _ (now (v .index)) (c .before .enter .last .0) (c .before .enter .result) (l .0) (λ j. entry (id j) (nat n tt .eq j) (v .p)) (c .before .enter .ensures))
+    (added (exposed (v .owner) (v .number) (v .p)) _ (now (v .index)) (c .before .enter .last .0) (c .before .enter .result) (lt-ltb (v .owner) 2 (omega arith)) (l .0)
+    (λ j. entry (id j) (nat n tt .eq j) (nat o tt .eq j) (v .p)) (c .before .enter .ensures))
 
 pub add-spec : {M : Type 1} → statement M
 add-spec =
     tie.close
     (tie.spec
+    (λ c. let v = c .before .args in by-add _ _ _ _ (no-owner (isOwner (v .owner)) _ (now (v .index)) (le-ltb (v .owner) 2 (omega arith))))
     (λ c κs. tt)
     (λ c. c .match .keys1)
     (λ c. c .match .keys2)
     (λ c. record { sfits = omega (arith, small (c .before .before)) })
+    (λ c. record { sfits = omega arith })
     (λ c. record { sfits = omega arith })
     (λ c κs. tt)
     sent-back

@@ -1,25 +1,28 @@
--- `index_entries::store_entry` stores the identifier and the number, and the pointing after them. Assumes nothing.
+-- `index_entries::store_entry` stores identifier, number and owner, and the pointing after them. Assumes nothing.
 use Prim.Native.Nat.{_+_}
 use mathlib.Core.Path.{_∙_, refl}
 use mathlib.Core.List.{[], _∷_}
 use native.Mathlib.Omega.{arith}
 use lib.ListN.{length-set, set}
 use Rattle.algebra.proofs.Sized.{stored-same}
-use Rattle.answer.proofs.PutLaws.{set-set-put, put-next}
+use Rattle.answer.proofs.PutLaws.{put-next}
 use Rattle.vector.specs.Vectors.{three}
+use Rattle.vector_products.proofs.StoreLaws.{three-stored}
 use Rattle.index_entries.proofs.store_entry.Statement.{statement}
 use Rattle.index_entries.proofs.store_entry.Tie as tie
 
 returns : tie.Need-returns
 returns c =
     let p = c .before .before .before in
-    let s = p .before .before .before in
+    let s = p .before .before .before .before in
     let v = s .args in
     let k = v .k in
-    let id = stored-same (v .e .id) (p .before .before .struct-told .given .0 .1) in
-    let number = stored-same (v .e .number) (p .before .struct-told2 .given .1 .0 .1) in
-    let two = (λ i. set (set (v .index .now) k (id i)) (k + 1) (number i)) ∙ set-set-put k (v .e .id) (v .e .number) (v .index .now) (omega arith) in
-    put-next k (v .e .id ∷ v .e .number ∷ []) (three (v .e .pointing)) (v .index .now) two (c .before .store .ensures) refl (omega arith)
+    let e = v .e in
+    let id = stored-same (e .id) (p .before .before .before .struct-told .given .0 .1) in
+    let number = stored-same (e .number) (p .before .before .struct-told2 .given .1 .0 .1) in
+    let owner = stored-same (e .owner) (p .before .struct-told3 .given .1 .1 .0 .1) in
+    let first = (λ i. set (set (set (v .index .now) k (id i)) (k + 1) (number i)) (k + 2) (owner i)) ∙ three-stored (v .index .now) k (e .id) (e .number) (e .owner) (omega arith) in
+    put-next k (e .id ∷ e .number ∷ e .owner ∷ []) (three (e .pointing)) (v .index .now) first (c .before .store .ensures) refl (omega arith)
 
 pub store-entry-spec : {M : Type 1} → statement M
 store-entry-spec =
@@ -27,6 +30,9 @@ store-entry-spec =
     (tie.spec
     (λ c. omega arith)
     (λ c. omega arith)
+    (λ c. omega arith)
+    (λ c. omega arith)
+    (λ c. simp length-set (omega arith))
     (λ c. omega arith)
     (λ c. omega arith)
     (λ c. simp length-set (omega arith))
