@@ -36,7 +36,7 @@ def cap(n, d):
 
 
 def turned(halfspace):
-    """The halfspace on the other side of the same plane; no point of the plane is held by either."""
+    """The halfspace on the other side of the same plane; both hold the points of the plane."""
     n, d = halfspace
     return htm.neg(n), -d
 

@@ -34,8 +34,8 @@ static const struct {
         int32_t convex, a, b, c, d;
     } half[7];
 } simple[] = {
-    {"nothing: offset K", {{0, 0, 0, 1, K}}},
-    {"nothing: opposite halfspaces", {{0, 0, 0, 1, 0}, {0, 0, 0, -1, 0}}},
+    {"a point: offset K", {{0, 0, 0, 1, K}}},
+    {"great circle: two halfspaces", {{0, 0, 0, 1, 0}, {0, 0, 0, -1, 0}}},
     {"nothing: two caps that part", {{0, 1, 0, 0, 908093}, {0, 0, 1, 0, 908093}}},
     {"cap, some 5 arc minutes", {{0, 3, -5, 2, 1048575}}},
     {"cap, a quarter degree", {{0, 0, 0, 1, 1048566}}},
@@ -49,9 +49,9 @@ static const struct {
     {"hemisphere, x + y + z over 0", {{0, 1, 1, 1, 0}}},
     {"all but 60 degrees", {{0, 0, 0, 1, -524288}}},
     {"all but 5 degrees", {{0, 0, -1, 0, -1044586}}},
-    {"all but a point: offset -K", {{0, 0, 0, 1, -K}}},
-    {"all: two convexes", {{0, 0, 0, 1, -1}, {1, 0, 0, -1, -1}}},
-    {"all but a plane: two convexes", {{0, 0, 0, 1, 0}, {1, 0, 0, -1, 0}}},
+    {"all: offset -K", {{0, 0, 0, 1, -K}}},
+    {"all: two convexes that overlap", {{0, 0, 0, 1, -1}, {1, 0, 0, -1, -1}}},
+    {"all: convexes that share a plane", {{0, 0, 0, 1, 0}, {1, 0, 0, -1, 0}}},
     {"band of 60 degrees", {{0, 0, 0, 1, -524288}, {0, 0, 0, -1, -524288}}},
     {"ring, 5 to 30 degrees", {{0, 1, 1, 1, 908093}, {0, -1, -1, -1, -1044586}}},
     {"octant", {{0, 1, 0, 0, 0}, {0, 0, 1, 0, 0}, {0, 0, 0, 1, 0}}},
