@@ -1,11 +1,11 @@
 -- Order facts over ℤ, each by a certificate. Assumes nothing.
-use mathlib.Core.Path.{_≡_, refl, sym}
+use mathlib.Core.Path.{refl}
 use mathlib.Core.List.{[], _∷_}
-use lib.IntN.{ℤ, pos, negℤ, _+ℤ_, _*ℤ_}
+use lib.IntN.{ℤ, pos, negℤ, _*ℤ_}
 use lib.Signed.{_≤ℤ_, _<ℤ_}
-use Rattle.algebra.proofs.Ring.{Expr, con, _:+_, _:*_, :neg}
-use Rattle.algebra.proofs.Order.{by-order, ≤ℤ-antisym}
-use Rattle.algebra.proofs.Claim.{_:≤_, _:<_, _:≡_, nat, hyp, _⊕_, _⊗_, prove}
+use Rattle.algebra.proofs.Ring.{Expr, con, _:*_, :neg}
+use Rattle.algebra.proofs.Order.{by-order}
+use Rattle.algebra.proofs.Claim.{_:≤_, _:<_, nat, hyp, _⊕_, _⊗_, prove}
 
 abbrev pub `0 : Expr
 `0 = con (pos 0)
@@ -24,13 +24,7 @@ pub ≤ℤ-by-no : {a b : ℤ} → (b <ℤ a → pos 1 ≤ℤ pos 0) → a ≤�
 pub <ℤ-by-no : {a b : ℤ} → (b ≤ℤ a → pos 1 ≤ℤ pos 0) → a <ℤ b
 <ℤ-by-no {a} {b} f = by-order a b (λ l. l) (λ g. absurd (false-le (f g)))
 
--- ---- sums
-pub ≤ℤ-add : {a b c d : ℤ} → a ≤ℤ b → c ≤ℤ d → (a +ℤ c) ≤ℤ (b +ℤ d)
-≤ℤ-add {a} {b} {c} {d} = prove 4 (λ a b c d. record { given = (a :≤ b) ∷ (c :≤ d) ∷ []; goal = a :+ c :≤ b :+ d; cert = hyp 0 ⊕ hyp 1 }) refl a b c d
-
-pub <ℤ-add : {a b c d : ℤ} → a <ℤ b → c ≤ℤ d → (a +ℤ c) <ℤ (b +ℤ d)
-<ℤ-add {a} {b} {c} {d} = prove 4 (λ a b c d. record { given = (a :< b) ∷ (c :≤ d) ∷ []; goal = a :+ c :< b :+ d; cert = hyp 0 ⊕ hyp 1 }) refl a b c d
-
+-- ---- signs
 pub ≤ℤ-neg : {a b : ℤ} → a ≤ℤ b → negℤ b ≤ℤ negℤ a
 ≤ℤ-neg {a} {b} = prove 2 (λ a b. record { given = (a :≤ b) ∷ []; goal = :neg b :≤ :neg a; cert = hyp 0 }) refl a b
 
@@ -44,9 +38,6 @@ pub <ℤ-turn-back : {a b : ℤ} → negℤ b <ℤ a → negℤ a <ℤ b
 pub <ℤ→≤ℤ : {a b : ℤ} → a <ℤ b → a ≤ℤ b
 <ℤ→≤ℤ {a} {b} = prove 2 (λ a b. record { given = (a :< b) ∷ []; goal = a :≤ b; cert = hyp 0 ⊕ nat 1 }) refl a b
 
-pub ≤ℤ-<ℤ-trans : {a b c : ℤ} → a ≤ℤ b → b <ℤ c → a <ℤ c
-≤ℤ-<ℤ-trans {a} {b} {c} = prove 3 (λ a b c. record { given = (a :≤ b) ∷ (b :< c) ∷ []; goal = a :< c; cert = hyp 0 ⊕ hyp 1 }) refl a b c
-
 -- ---- products
 pub <ℤ-mul : {a b : ℤ} → pos 0 <ℤ a → pos 0 <ℤ b → pos 0 <ℤ (a *ℤ b)
 <ℤ-mul {a} {b} = prove 2 (λ a b. record { given = (`0 :< a) ∷ (`0 :< b) ∷ []; goal = `0 :< a :* b; cert = hyp 0 ⊗ hyp 1 ⊕ hyp 0 ⊕ hyp 1 }) refl a b
@@ -59,9 +50,6 @@ pub ≤ℤ-mul : {a b c d : ℤ} → pos 0 ≤ℤ a → a ≤ℤ b → pos 0 ≤
       cert = hyp 1 ⊗ (hyp 2 ⊕ hyp 3) ⊕ hyp 0 ⊗ hyp 3;
     })
     refl a b c d
-
-pub ≤ℤ-mul-l : {a b c : ℤ} → pos 0 ≤ℤ c → a ≤ℤ b → (c *ℤ a) ≤ℤ (c *ℤ b)
-≤ℤ-mul-l {a} {b} {c} = prove 3 (λ a b c. record { given = (`0 :≤ c) ∷ (a :≤ b) ∷ []; goal = c :* a :≤ c :* b; cert = hyp 0 ⊗ hyp 1 }) refl a b c
 
 -- ---- squares
 pub sq-mono : {a b : ℤ} → pos 0 ≤ℤ a → a ≤ℤ b → (a *ℤ a) ≤ℤ (b *ℤ b)
@@ -77,16 +65,6 @@ sq-≤ℤ {a} {b} h k = ≤ℤ-by-no
     })
     refl a b h k)
 
-pub sq-<ℤ : {a b : ℤ} → pos 0 ≤ℤ b → (a *ℤ a) <ℤ (b *ℤ b) → a <ℤ b
-sq-<ℤ {a} {b} h k = <ℤ-by-no
-    (prove 2
-    (λ a b. record {
-      given = (`0 :≤ b) ∷ (a :* a :< b :* b) ∷ (b :≤ a) ∷ [];
-      goal = `1 :≤ `0;
-      cert = hyp 1 ⊕ hyp 2 ⊗ hyp 2 ⊕ nat 2 ⊗ hyp 0 ⊗ hyp 2;
-    })
-    refl a b h k)
-
 -- ---- a positive factor goes
 pub cancel-≤ℤ : {a b c : ℤ} → pos 0 <ℤ c → (c *ℤ a) ≤ℤ (c *ℤ b) → a ≤ℤ b
 cancel-≤ℤ {a} {b} {c} h k = ≤ℤ-by-no
@@ -95,16 +73,6 @@ cancel-≤ℤ {a} {b} {c} h k = ≤ℤ-by-no
       given = (`0 :< c) ∷ (c :* a :≤ c :* b) ∷ (b :< a) ∷ [];
       goal = `1 :≤ `0;
       cert = hyp 1 ⊕ hyp 0 ⊗ hyp 2 ⊕ hyp 0 ⊕ hyp 2;
-    })
-    refl a b c h k)
-
-pub cancel-<ℤ : {a b c : ℤ} → pos 0 <ℤ c → (c *ℤ a) <ℤ (c *ℤ b) → a <ℤ b
-cancel-<ℤ {a} {b} {c} h k = <ℤ-by-no
-    (prove 3
-    (λ a b c. record {
-      given = (`0 :< c) ∷ (c :* a :< c :* b) ∷ (b :≤ a) ∷ [];
-      goal = `1 :≤ `0;
-      cert = hyp 1 ⊕ hyp 0 ⊗ hyp 2 ⊕ hyp 2;
     })
     refl a b c h k)
 
@@ -117,17 +85,6 @@ cancel-nn {a} {c} h k = ≤ℤ-by-no
       cert = hyp 1 ⊕ hyp 0 ⊗ hyp 2 ⊕ hyp 0 ⊕ hyp 2;
     })
     refl a c h k)
-
-pub cancel-≡ : {a b c : ℤ} → pos 0 <ℤ c → c *ℤ a ≡ c *ℤ b → a ≡ b
-cancel-≡ {a} {b} {c} h e = ≤ℤ-antisym
-    (≤ℤ-by-no
-    (prove 3
-    (λ a b c. record { given = (`0 :< c) ∷ (c :* a :≡ c :* b) ∷ (b :< a) ∷ []; goal = `1 :≤ `0; cert = hyp 1 ⊕ hyp 0 ⊗ hyp 2 ⊕ hyp 0 ⊕ hyp 2 })
-    refl a b c h e))
-    (≤ℤ-by-no
-    (prove 3
-    (λ a b c. record { given = (`0 :< c) ∷ (c :* b :≡ c :* a) ∷ (a :< b) ∷ []; goal = `1 :≤ `0; cert = hyp 1 ⊕ hyp 0 ⊗ hyp 2 ⊕ hyp 0 ⊕ hyp 2 })
-    refl a b c h (sym e)))
 
 -- s is positive and s² ≤ n m: m is positive
 pub factor-positive : (s n m : ℤ) → pos 0 <ℤ s → (s *ℤ s) ≤ℤ (n *ℤ m) → pos 0 ≤ℤ n → pos 0 <ℤ m

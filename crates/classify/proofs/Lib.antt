@@ -1,5 +1,4 @@
 pub mod ClassLaws
-pub mod ELaws
 pub mod Edges
 pub mod NeverBoth
 pub mod RaysFirst

@@ -4,13 +4,16 @@
 --   allPass f g t, onePasses f g t   all rays of t do; at least one does
 use Prim.Native.Nat.{ℕ, _*_, _+_, _/_}
 use native.Mathlib.Omega.{arith}
-use mathlib.Core.Path.{_≡_}
+use mathlib.Core.Path.{_≡_, refl}
 use mathlib.Core.Bool.{true, false, _&&_, Bool, _||_}
+use mathlib.Core.List.{[], _∷_}
 use lib.Dec.{le→leb, leb}
-use lib.IntN.{ℤ, pos, natAbs}
+use lib.IntN.{ℤ, pos, natAbs, _*ℤ_}
 use lib.Signed.{_≤ℤ_, leZ-yes}
+use Rattle.algebra.proofs.Ring.{_:*_}
+use Rattle.algebra.proofs.Claim.{_:≤_, nat, hyp, _⊕_, _⊗_, prove}
 use Rattle.algebra.proofs.Order.{nn-pos}
-use Rattle.algebra.proofs.Inequalities.{<ℤ→≤ℤ, factor-positive}
+use Rattle.algebra.proofs.Inequalities.{`0, <ℤ→≤ℤ, factor-positive}
 use Rattle.algebra.proofs.Vec.{cauchy-schwarz, dot-nn}
 use Rattle.algebra.proofs.Cone.{Far}
 use Rattle.algebra.proofs.Plane.{edge-front, turned-volume}
@@ -22,7 +25,6 @@ use Rattle.mesh.specs.declared.Trixel.{Trixel}
 use Rattle.mesh.proofs.Path.{Inside}
 use Rattle.region.specs.declared.Halfspace.{Halfspace}
 use Rattle.classify.specs.Shape.{square, positive, ray0, ray1, ray2, volume, eOf, fOf, DOf, GOf, ahead, reachesRay, reaches, apart, apartBy}
-use Rattle.classify.proofs.ELaws.{smaller}
 use Rattle.classify.proofs.WithinApart.{not-apart}
 
 unfoldable pub passes : Vec3 → ℤ → Vec3 → Bool
@@ -36,6 +38,15 @@ onePasses f g t = passes f g (ray0 t) || (passes f g (ray1 t) || passes f g (ray
 
 pub D-below-G : (e : ℕ) → DOf (pos e) ≤ℤ GOf (pos e)
 D-below-G e = leZ-yes (le→leb (e * 1048576 / 1048578) (e * 1048576 / 1048574 + 1) (omega arith))
+
+smaller : (a b r s : ℤ) → pos 0 ≤ℤ a → a ≤ℤ b → pos 0 ≤ℤ r → (b *ℤ b *ℤ r) ≤ℤ s → (a *ℤ a *ℤ r) ≤ℤ s
+smaller = prove 4
+    (λ a b r s. record {
+      given = (`0 :≤ a) ∷ (a :≤ b) ∷ (`0 :≤ r) ∷ (b :* b :* r :≤ s) ∷ [];
+      goal = a :* a :* r :≤ s;
+      cert = hyp 3 ⊕ hyp 2 ⊗ hyp 1 ⊗ (hyp 1 ⊕ nat 2 ⊗ hyp 0);
+    })
+    refl
 
 -- a ray that passes, as the algebra has it
 pub passes-far : (f : Vec3) (g : ℤ) (r : Vec3) → passes f g r ≡ true → Far (v3 f) (v3 r) g

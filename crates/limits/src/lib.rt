@@ -45,7 +45,7 @@ pub fn is_budget(b: u32) -> bool
     b <= LARGEST_BUDGET
 }
 
-// The budget that is counted with: 0 means 64.
+// The budget that is counted with: 0 means DEFAULT_BUDGET.
 pub fn budget_of(written: u32) -> usize
     ensures { λ r. ⌜ (r ≡ budgetOf written) × (r < 2 ^ 32) ⌝ }
 {

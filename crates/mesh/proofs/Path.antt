@@ -1,11 +1,10 @@
 -- The path of a point: the three normals of every trixel that the descent of p passes are not negative at p.
 -- A root's normals are its corners, and the signs of p choose the root; a child's are the normal whose test chose it and two of its parent's,
 -- or, of the child in the middle, the three whose tests all failed, turned round. Assumes nothing.
-use Prim.Native.Nat.{ℕ, zero, suc, _+_, _-_, _*_, _/_, _%_, _<_}
-use native.Mathlib.Nat.{add-zero}
+use Prim.Native.Nat.{ℕ, suc, _+_, _*_, _/_, _%_, _<_}
 use native.Mathlib.Omega.{arith}
 use lib.Dec.{lit<}
-use mathlib.Core.Path.{_≡_, refl, sym, subst, subst₂}
+use mathlib.Core.Path.{_≡_, refl}
 use mathlib.Core.Bool.{Bool, true, false, cond}
 use mathlib.Core.List.{[], _∷_}
 use lib.IntN.{pos, negsuc}
@@ -20,7 +19,7 @@ use Rattle.mesh.specs.declared.Trixel.{Trixel}
 use Rattle.mesh.specs.declared.Cut.{Cut}
 use Rattle.mesh.specs.Trixels.{a0, a1, a2, a3, a4, a5, cut, childOf, child, rootTrixel}
 use Rattle.mesh.specs.Identifiers.{trixel}
-use Rattle.mesh.specs.Lookup.{notNegative, northRoot, southRoot, rootNumber, digit, descend, identifier}
+use Rattle.mesh.specs.Lookup.{notNegative, northRoot, southRoot, rootNumber, digit}
 
 -- p is on the inner side of all three edges
 pub record Inside (p : Vec3) (t : Trixel) : Type 0 where
@@ -120,26 +119,3 @@ child-trixel m i k h =
     let a : (4 * i + k) % 4 ≡ k = omega arith in
     let b : (4 * i + k) / 4 ≡ i = omega arith in
     λ j. child (a j) (trixel m (b j))
-
-root-trixel : (r : ℕ) → trixel 0 (8 + r) ≡ rootTrixel r
-unfolding trixel
-root-trixel r = let e : 8 + r - 8 ≡ r = omega arith in λ j. rootTrixel (e j)
-
-descend-inside : (p : Vec3) (n m i : ℕ) → Inside p (trixel m i) → Inside p (trixel (m + n) (descend p n (trixel m i) i))
-unfolding descend
-descend-inside p zero m i h = subst (λ x. Inside p (trixel x i)) (sym (add-zero m)) h
-descend-inside p (suc n) m i h =
-    let k = digit p (trixel m i) in
-    let e : trixel (suc m) (4 * i + k) ≡ child k (trixel m i) = child-trixel m i k (digit-small p (trixel m i)) in
-    let c : Inside p (trixel (suc m) (4 * i + k)) = subst (λ t. Inside p t) (sym e) (child-inside p (trixel m i) h) in
-    let s : suc m + n ≡ m + suc n = omega arith in
-    subst₂ (λ x t. Inside p (trixel x (descend p n t (4 * i + k)))) s e (descend-inside p n (suc m) (4 * i + k) c)
-
-pub identifier-inside : (p : Vec3) (d : ℕ) → Inside p (trixel (d - 1) (identifier p d))
-unfolding identifier
-identifier-inside p d =
-    let r = rootNumber p in
-    let e : trixel 0 (8 + r) ≡ rootTrixel r = root-trixel r in
-    let c : Inside p (trixel 0 (8 + r)) = subst (λ t. Inside p t) (sym e) (root-inside p) in
-    let z : 0 + (d - 1) ≡ d - 1 = omega arith in
-    subst₂ (λ x t. Inside p (trixel x (descend p (d - 1) t (8 + r)))) z e (descend-inside p (d - 1) 0 (8 + r) c)

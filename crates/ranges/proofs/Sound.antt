@@ -1,8 +1,8 @@
 -- What the two lists are good for. Of accepted ranges that ascend: both lists ascend with a number between neighbours, and have
--- at most as many ranges as the budget says; the outer list holds every number of an accepted range, each in one range only; and the
--- inner list holds only such numbers. Assumes nothing.
+-- at most as many ranges as the budget says; the outer list holds every number of an accepted range, and the inner list holds only such
+-- numbers. Assumes nothing.
 use Prim.Native.Nat.{ℕ, zero, suc, _+_, _≤_, _<_}
-use mathlib.Core.Path.{_≡_, refl, ap}
+use mathlib.Core.Path.{_≡_}
 use mathlib.Core.List.{List, [], _∷_, map}
 use native.Mathlib.Omega.{arith}
 use lib.Dec.{leb}
@@ -64,25 +64,6 @@ module _ (k : ℕ) where
   unfolding From
   lower f g [] h p = tt
   lower f g (a ∷ xs) h p = (omega arith, p .1, p .2)
-
-  -- ---- a number lies in one range only
-
-  above : (f : ℕ) (xs : List Range) (i n : ℕ) → From k f xs → In xs i n → f ≤ n
-  unfolding From In
-  above f [] i n p h = absurd h
-  above f (a ∷ xs) zero n p h = omega arith
-  above f (a ∷ xs) (suc i) n p h = let g = above (a .high + k + 1) xs i n (p .2) h in omega arith
-
-  one-from : (f : ℕ) (xs : List Range) (i j n : ℕ) → From k f xs → In xs i n → In xs j n → i ≡ j
-  unfolding From In
-  one-from f [] i j n p h g = absurd h
-  one-from f (a ∷ xs) zero zero n p h g = refl
-  one-from f (a ∷ xs) zero (suc j) n p h g = absurd (let l = above (a .high + k + 1) xs j n (p .2) g in omega arith)
-  one-from f (a ∷ xs) (suc i) zero n p h g = absurd (let l = above (a .high + k + 1) xs i n (p .2) h in omega arith)
-  one-from f (a ∷ xs) (suc i) (suc j) n p h g = ap suc (one-from (a .high + k + 1) xs i j n (p .2) h g)
-
-  pub one-only : (xs : List Range) (i j n : ℕ) → SpacedBy k xs → In xs i n → In xs j n → i ≡ j
-  one-only xs i j n p h g = one-from 0 xs i j n (from-start xs p) h g
 
 -- ---- each rule keeps the ranges apart
 

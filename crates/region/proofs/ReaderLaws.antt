@@ -16,7 +16,7 @@ use Rattle.vector.specs.Numbers.{isDepth}
 use Rattle.region.specs.declared.Halfspace.{Halfspace}
 use Rattle.region.specs.Regions.{Convex, Region}
 use Rattle.region.specs.Budgets.{isBudget}
-use Rattle.region.specs.Building.{mostInConvex, mostInAll, total, withConvex, begun, filled, fewConvexes, add}
+use Rattle.region.specs.Building.{mostInAll, total, withConvex, begun, filled, fewConvexes, add}
 use Rattle.region.specs.Bytes.{word}
 use Rattle.region.specs.declared.Record.{Record}
 use Rattle.region.specs.Records.{kind, size, allowed, is, firstOf, known, Styles, fits, stylesAfter}
@@ -52,13 +52,6 @@ begins rest r e =
       its-size = eqb-true (lengthOf rest) (size r) (and-right (allowed r) long (and-right same u i));
       is-allowed = and-left (allowed r) long (and-right same u i);
     }
-
--- a group has 1 to 100 halfspaces
-pub group-few : (rest : List ℕ) (n : ℕ) → Begins rest (Record.Group n) → (1 ≤ n) × (n ≤ mostInConvex)
-group-few rest n b =
-    let some = leb 1 n in
-    let few = leb n mostInConvex in
-    (leb-true 1 n (and-left some few (b .is-allowed)), leb-true n mostInConvex (and-right some few (b .is-allowed)))
 
 -- ---- the header
 
