@@ -1,5 +1,6 @@
 #!/usr/bin/env bash
-# The programs cover, query, catalogue and archive where standard input or output fails, is closed, is interrupted or moves a few bytes only.
+# The programs cover, query, catalogue and archive where standard input or output fails, is closed, is interrupted or moves a few bytes only; and
+# catalogue where its argument is wrong.
 # `rt check cover query catalogue archive` builds them; the case of interrupted calls needs cc, and programs that this machine runs itself.
 set -u
 cd "$(dirname "$0")/.."
@@ -41,6 +42,17 @@ for p in cover query catalogue archive; do
         cmp "$work/out" crates/$p/stdout || failed=1
     fi
 done
+
+# Without a DEPTH, with one that is no number from 1 to 12, or with a word after it, `catalogue` prints how it is called and reads nothing.
+for args in '' x '12 12' 4294967296 0 13 -1 12x; do
+    target/bin/catalogue $args < / 2> "$work/err" > "$work/out"
+    if [ "$(cat "$work/out")" != 'usage: catalogue DEPTH < LINES' ] || [ -s "$work/err" ]; then
+        echo "catalogue $args: no usage line"
+        failed=1
+    fi
+done
+target/bin/catalogue '' < / 2> "$work/err" > "$work/out"
+[ "$(cat "$work/out")" = 'usage: catalogue DEPTH < LINES' ] || { echo 'catalogue: no usage line for an empty word'; failed=1; }
 
 # A file that may not grow past 8 blocks of 1024 bytes takes a part of a write, and then nothing.
 (trap '' XFSZ; ulimit -f 8; target/bin/query < crates/query/stdin 2> "$work/err" > "$work/out")

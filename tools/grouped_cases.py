@@ -45,6 +45,7 @@ def faults(i):
     yield from (pack('<HH', n, 5) + bytes(n - 4) for n in (20, 36, 1604))                                                # 8, and 4 at the head
     if i == 0:
         yield from (group(FIRST), group(*BAD[:1]))                                                                       # 4
+        yield from (header(0), header(13), header(9, 2049), header(0, 2049))                                             # 5, 5, 6, 5
         return
     yield from (CONVEX, halfspace(), halfspace((0, 0, 0)), CONVEX + halfspace())                                         # 14, in the first place 4
     yield from (header(), header(0, 2049), b'', END, END + END)                                                          # 4
@@ -55,6 +56,15 @@ def faults(i):
 
 def with_fault(records, place, record):
     return b''.join(records[:place] + [record] + records[place + 1:])
+
+
+def refused():
+    """A grouped file for each of the refusals 3 to 9."""
+    yield with_fault(GOOD, 1, pack('<HH', 4, 5))
+    yield with_fault(GOOD, 1, END)
+    yield from (with_fault(GOOD, 0, header(13)), with_fault(GOOD, 0, header(9, 2049)))
+    yield grouped(spread(64, 64) + [[FIRST]])
+    yield from (with_fault(GOOD, 2, group(FIRST, BAD[0])), with_fault(GOOD, 2, group(FIRST, BAD[2])))
 
 
 # ---- lines
@@ -80,6 +90,8 @@ def damaged_groups():
         yield from (rows_line(with_fault(GOOD, i, r)) for r in faults(i))
     for cut in (0, 3, 4, 7, 8, len(good) - 1, len(good)):
         yield from both_ways(good[:cut])
+    for file in refused():
+        yield from both_ways(file)
 
 
 def mixed():

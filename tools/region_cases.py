@@ -175,8 +175,14 @@ def points(draws, direction):
         yield from (holds_line(file, direction()) for _ in range(3))
 
 
+SLANTED = (((-611568, 832792, 178755), (-726097, 431045, -621688), 659846),     # n·p - d·K is 0
+           ((-344619, -302421, -943022), (776911, 700356, 73637), -523550),     # 1
+           ((-367595, 417673, 888782), (29899, -929454, 484493), 29955))        # -1
+
+
 def planes():
-    """Points exactly on planes and one unit to either side: one halfspace, its opposite, both as two convexes and as one; d = K and d = -K."""
+    """Points exactly on planes and one unit to either side: one halfspace, its opposite, both as two convexes and as one; d = K and d = -K. And directions
+    in general position, where n·p is d·K or one unit beside it, with a second halfspace in the convex that holds the point or refuses it."""
     for axis in range(3):
         for z in (-K, 1 - K, -741455, -1, 0, 1, 300000, 741455, K - 1, K):
             for sign in (1, -1):
@@ -193,6 +199,11 @@ def planes():
         h, o = ((x, y, 0), 0), ((-x, -y, 0), 0)
         for p in ((-y, x, 0), (y, -x, 0), (0, 0, K), (0, 0, -K), (x, y, 0)):
             yield from (holds_line(file_of(r), p) for r in ([[h]], [[o]], [[h], [o]], [[h, o]]))
+    for n, p, offset in SLANTED:
+        for d in (offset - 1, offset, offset + 1):
+            h, o = (n, d), (tuple(-c for c in n), -d)
+            beside, behind = (p, 0), (tuple(-c for c in p), 0)
+            yield from (holds_line(file_of(r), p) for r in ([[h]], [[o]], [[h], [o]], [[h, o]], [[h, beside]], [[h, behind]], [[o, behind]], [[behind, h]]))
 
 
 def region_shapes():

@@ -1,7 +1,9 @@
-// Lines of a catalogue, each looked up as it ends. A line that lies in one block of the input is answered where it lies; of one that does not, the bytes
-// are kept until it ends. After a read that failed the line that has begun is not answered, and after a write that failed nothing more is read.
+// Lines of a catalogue, each looked up as it ends, and the argument of the program. A line that lies in one block of the input is answered where it lies;
+// of one that does not, the bytes are kept until it ends. After a read that failed the line that has begun is not answered, and after a write that failed
+// nothing more is read.
 use print::Buffer;
 use print::LOST;
+use query_words::NaturalAt;
 use streams::Input;
 
 // A loop must end, and no run reads so many blocks.
@@ -10,10 +12,38 @@ const BLOCKS: u64 = u64::MAX;
 // So many bytes of a line are kept: more than the longest line has, so that what is kept of a longer one is too long too.
 pub const KEPT: usize = 64;
 
+// What the program is asked for: a depth, or nothing that it can do.
+pub enum Asked {
+    Depth(u32),
+    Not,
+}
+
 // Between two parts of the input: how many bytes of a line are kept, and the place in what is printed.
 struct Place {
     kept: usize,
     at: usize,
+}
+
+// The depth in the first argument: a number from 1 to 12, alone in its word. The program's name is counted with the arguments, and no other may follow.
+pub fn depth_in(word: &[u8], arguments: usize) -> Asked {
+    let NaturalAt::Is(depth, end) = query_words::natural_at(word, 0) else {
+        return Asked::Not;
+    };
+    if !query_words::is_over(word, end) {
+        return Asked::Not;
+    }
+    if arguments != 2 {
+        return Asked::Not;
+    }
+    if !limits::is_depth(depth) {
+        return Asked::Not;
+    }
+    Asked::Depth(depth)
+}
+
+// How the program is called.
+pub fn usage(out: &mut Buffer, at: usize) -> usize {
+    print::text(out, at, b"usage: catalogue DEPTH < LINES\n")
 }
 
 // Answers the lines of the input. The result is how many bytes `line` holds of a last one that has no line feed and is to be answered.
