@@ -1,11 +1,14 @@
--- Both forms of a region say the same, and a cover goes by what a file says. Assumes nothing.
+-- Both forms of a region say the same, and cover and point test go by what a file says. Assumes nothing.
 use Prim.Native.Nat.{ℕ, _*_}
 use mathlib.Core.Path.{_≡_, ap, subst}
 use mathlib.Core.List.{List}
-use Rattle.answer.specs.Answer.{Answer, then, with-value}
+use Rattle.answer.specs.Answer.{Answer, gives, check, then, with-value, Vector}
 use Rattle.answer.specs.Lent.{put, stored, room}
+use Rattle.vector.specs.Vectors.{isVector}
+use Rattle.region.specs.Regions.{holds}
 use Rattle.region.specs.Budgets.{budgetOf}
 use Rattle.region.specs.Reader.{File, read}
+use Rattle.region.specs.Answers.{pointTest}
 use Rattle.region.specs.Converting.{convert}
 use Rattle.region.proofs.ConvertLaws.{converted}
 use Rattle.region.proofs.CallsBack.{file-given}
@@ -18,7 +21,7 @@ pub same-cover : SameCover
 same-cover s f h e = ap (with-value cover) (converted s f h e .1)
 
 alike : (f h : List ℕ) → read h ≡ read f → Alike h f
-unfolding coverAnswer coverAfter coverForC coverAfterC countsAfterC
+unfolding coverAnswer coverAfter coverForC coverAfterC countsAfterC pointTest
 alike f h e =
     let into : List ℕ → Answer File → Answer File = λ out a. then a (λ x. room (4 * budgetOf (x .budget)) out x) in
     let both : List ℕ → List ℕ → Answer File → Answer File = λ out counts a. inBoth counted (into out a) counts in (
@@ -28,6 +31,7 @@ alike f h e =
         ap (λ a. stored bothLists (both out counts a) out) e,
         ap (λ a. stored (λ c before. put 0 (countsList c) before) (with-value (λ x. countsOf (cover x)) (both out counts a)) counts) e,
       )),
+      (λ p. ap (λ a. then a (λ x. check Vector (isVector p) (gives (holds (x .region) p)))) e),
     )
 
 pub same-cover-of-answers : SameCoverOfAnswers
