@@ -19,10 +19,17 @@ ghost use Rattle.classify_places.specs.Near.{Placed, placeIn};
 ghost use Rattle.classify_region.specs.PreparedLists.{countIn, Ready, Classed};
 ghost use Rattle.classify_near.specs.Narrow.{Narrowed, BesideIn, ByOpen, openCount, SomeConvex, OpenedConvex, keptCount, keptList, SomeNarrowing, NarrowsOn};
 
-// Open halfspaces beside a place: the numbers of at most 32, with the place behind them, and the ends of their convexes, with the count behind them.
-pub type OpenHalves = [i64; 229];
+// Open halfspaces beside a place, at most 32: seven numbers each, with the place behind them, five numbers; and the ends of their convexes, with the count
+// behind them.
+const OPEN: usize = 32;
 
-pub type OpenEnds = [u64; 33];
+pub const OPEN_HALVES: usize = 7 * OPEN + 5;
+
+pub const OPEN_ENDS: usize = OPEN + 1;
+
+pub type OpenHalves = [i64; OPEN_HALVES];
+
+pub type OpenEnds = [u64; OPEN_ENDS];
 
 // What was found of a convex: it is outside, or so many halfspaces are stored now, or there are too many.
 pub enum Opened {

@@ -1,5 +1,7 @@
 // The cover of rows: the eight roots one after the other, the end of the inner list, the counts. The rule is `listed` and `cutting` of
 // cutting/specs/Cover.
+use classify_near::OPEN_ENDS;
+use classify_near::OPEN_HALVES;
 use classify_near::OpenEnds;
 use classify_near::OpenHalves;
 use classify_region::Ends;
@@ -7,6 +9,7 @@ use classify_region::Halves;
 use cutting::Counts;
 use cutting_tally::TallyNumbers;
 use cutting_walk::Level;
+use cutting_walk::TRIXEL;
 use cutting_walk::TrixelNumbers;
 use limits::CONVEXES;
 use limits::HALFSPACES;
@@ -65,7 +68,7 @@ fn visit_each_root(
 {
     let left = depth - 1;
     let span = power(left);
-    let mut trixel = [0i64; 21];
+    let mut trixel = [0i64; TRIXEL];
     let mut k: u64 = 0;
     while k < 8 {
         keep_root(&mut trixel, k);
@@ -84,8 +87,8 @@ fn visit_roots(depth: u32, xs: &Halves, ends: &Ends, out: &mut [u64], s: &mut Ta
     requires { ⌜ RootNeeds depth (now xs) (now ends) (tallyIn (now s)) (now out) ⌝ }
     ensures { λ _. ⌜ RootsGive depth (now (xs .entry)) (now (ends .entry)) (tallyIn (now (s .entry))) (now (out .entry)) (tallyIn (now (s .exit))) (now (out .exit)) ⌝ }
 {
-    let ys = [0i64; 229];
-    let marks = [0u64; 33];
+    let ys = [0i64; OPEN_HALVES];
+    let marks = [0u64; OPEN_ENDS];
     visit_each_root(depth, xs, ends, &ys, &marks, out, s);
 }
 

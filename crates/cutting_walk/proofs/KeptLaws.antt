@@ -6,7 +6,6 @@ use mathlib.Core.List.{List}
 use lib.ListN.{length}
 use lib.IntN.{ℤ}
 use Rattle.vector.specs.declared.Vec3.{Vec3}
-use Rattle.vector_products.specs.Stored.{vecIn}
 use Rattle.mesh.specs.declared.Trixel.{Trixel}
 use Rattle.mesh.specs.declared.Cut.{Cut}
 use Rattle.mesh.specs.Trixels.{cut, child0, child1, child2, child3, child}
@@ -17,21 +16,21 @@ use Rattle.classify_measures.specs.Measures.{RaysOf}
 use Rattle.classify_halfspace.specs.Halfspaces.{NormalsIn}
 use Rattle.classify_region.specs.PreparedLists.{countIn, Classed}
 use Rattle.cutting_walk.specs.declared.Judged.{Judged}
-use Rattle.cutting_walk.specs.Kept.{trixelIn, KeptTrixel, OtherRays, JudgedOf, CutParts, ChildKept}
+use Rattle.cutting_walk.specs.Kept.{trixelIn, firstRayIn, KeptTrixel, OtherRays, JudgedOf, CutParts, ChildKept}
 
 -- the trixel t that was read from a list
 module _ {ks : List ℤ} {t : Trixel} (e : t ≡ trixelIn ks) where
   pub kept-small : KeptTrixel ks → SmallTrixel t
   kept-small k = subst SmallTrixel (sym e) (k .small)
 
-  pub first-kept : {r : Vec3} → KeptTrixel ks → r ≡ vecIn ks 18 → r ≡ ray0 t
+  pub first-kept : {r : Vec3} → KeptTrixel ks → r ≡ firstRayIn ks → r ≡ ray0 t
   first-kept k q = q ∙ k .ray ∙ ap ray0 (sym e)
 
   pub normals-kept : KeptTrixel ks → 18 ≤ length ks → NormalsIn t ks
   normals-kept k l = subst (λ t. NormalsIn t ks) (sym e) (record { room = l; p0 = refl; p1 = refl; p2 = refl; small = k .small })
 
   -- what its children are made of
-  pub parts-kept : {c : Cut} {r : Vec3} {j : Judged} → KeptTrixel ks → OtherRays (trixelIn ks) j → (c ≡ cut t) × SmallCut c → r ≡ vecIn ks 18 → CutParts t c r j
+  pub parts-kept : {c : Cut} {r : Vec3} {j : Judged} → KeptTrixel ks → OtherRays (trixelIn ks) j → (c ≡ cut t) × SmallCut c → r ≡ firstRayIn ks → CutParts t c r j
   parts-kept k o c q = record {
     small = kept-small k;
     cut = c .0;
@@ -49,7 +48,7 @@ judged-kept e {xs} {es} j h a b c = record {
 }
 
 -- a trixel k that was kept with its first ray r
-pub trixel-kept : {cs : List ℤ} {k : Trixel} {r : Vec3} → SmallTrixel k → r ≡ ray0 k → (trixelIn cs ≡ k) × (vecIn cs 18 ≡ r) → KeptTrixel cs
+pub trixel-kept : {cs : List ℤ} {k : Trixel} {r : Vec3} → SmallTrixel k → r ≡ ray0 k → (trixelIn cs ≡ k) × (firstRayIn cs ≡ r) → KeptTrixel cs
 trixel-kept h w q = record { small = subst SmallTrixel (sym (q .0)) h; ray = q .1 ∙ w ∙ ap ray0 (sym (q .0)) }
 
 -- ---- a child that was kept
@@ -70,7 +69,7 @@ fourth-child : (t : Trixel) → child3 t (cut t) ≡ child 3 t
 unfolding child
 fourth-child t = refl
 
-module _ {k : ℕ} {t : Trixel} {c : Cut} {r : Vec3} {j : Judged} (p : CutParts t c r j) {q : Trixel} {v : Vec3} {xs : List ℤ} (h : (trixelIn xs ≡ q) × (vecIn xs 18 ≡ v)) where
+module _ {k : ℕ} {t : Trixel} {c : Cut} {r : Vec3} {j : Judged} (p : CutParts t c r j) {q : Trixel} {v : Vec3} {xs : List ℤ} (h : (trixelIn xs ≡ q) × (firstRayIn xs ≡ v)) where
   any-child : (n : ℕ) → k ≡ n → q ≡ child n t → SmallTrixel q → v ≡ ray0 q → ChildKept k t xs
   any-child n e d s w = record { kept = trixel-kept s w h; trixel = h .0 ∙ d ∙ ap (λ n. child n t) (sym e) }
 

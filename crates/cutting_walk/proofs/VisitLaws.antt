@@ -13,7 +13,6 @@ use Rattle.algebra.proofs.Ring.{con, _:+_, _:*_}
 use Rattle.algebra.proofs.Claim.{_:≡_, ring}
 use Rattle.algebra.proofs.Inequalities.{`1}
 use Rattle.vector.specs.declared.Vec3.{Vec3}
-use Rattle.vector_products.specs.Stored.{vecIn}
 use Rattle.mesh.specs.declared.Trixel.{Trixel}
 use Rattle.mesh.specs.declared.Cut.{Cut}
 use Rattle.mesh.specs.Trixels.{rootTrixel, cut, child}
@@ -30,7 +29,7 @@ use Rattle.cutting.specs.Cover.{descendants, leftOut, takenFull, takenPartial, 
 use Rattle.cutting_tally.specs.Tally.{Tally, nothing, noTally, Walked, Adds, Room, Countable, SmallRange, Contained, Taken, oneMore}
 use Rattle.cutting_walk.specs.declared.Level.{Level}
 use Rattle.cutting_walk.specs.declared.Judged.{Judged}
-use Rattle.cutting_walk.specs.Kept.{trixelIn, KeptTrixel, JudgedOf, ChildKept}
+use Rattle.cutting_walk.specs.Kept.{trixelIn, firstRayIn, KeptTrixel, JudgedOf, ChildKept}
 use Rattle.cutting_walk.specs.Walk.{foundIn, foundBelow, childLevel, firstFound, LevelFits, ChildrenFit, Needs, CutNeeds, Gives, Done, Settled, Dividing, RootNeeds, RootsGive, Finishes, Covers}
 use Rattle.cutting.proofs.CuttingLaws.{full-stretch, power, found-outside, found-full, found-last, found-cut}
 use Rattle.cutting.proofs.ContentsLaws.{outer-counted}
@@ -192,7 +191,7 @@ cut-needs {l = l} {s₁ = s₁} k h e n =
 -- ---- its four children
 
 module _ {ks : List ℤ} {j : Judged} {l : Level} {xs : List ℤ} {es : List ℕ} {ys : List ℤ} {ms : List ℕ} {s₀ : Tally} {out₀ : List ℕ} {t : Trixel} {c : Cut} {r : Vec3} where
-  pub dividing-start : CutNeeds ks j l xs es s₀ out₀ → BesideIn xs es ys ms → t ≡ trixelIn ks → (c ≡ cut t) × SmallCut c → r ≡ vecIn ks 18
+  pub dividing-start : CutNeeds ks j l xs es s₀ out₀ → BesideIn xs es ys ms → t ≡ trixelIn ks → (c ≡ cut t) × SmallCut c → r ≡ firstRayIn ks
       → Dividing ks j l xs es ys ms s₀ out₀ t c r 0 s₀ out₀
   unfolding firstFound
   dividing-start n b e h q = record {

@@ -1,5 +1,6 @@
 -- Trixels as lists of numbers, as the cutting lends them to the next level, and what goes from a trixel to its children.
 --   trixelIn xs        the trixel of eighteen numbers: its corners, then its normals
+--   firstRayIn xs      the first ray behind it
 --   withCorners t xs, withNormals t xs   the list with the corners of t, with its normals
 --   KeptTrixel xs      the list has a small trixel, and behind it the first ray of it
 --   OtherRays t j      j has the second and the third ray of t
@@ -25,6 +26,9 @@ use Rattle.cutting_walk.specs.declared.Judged.{Judged}
 abbrev pub trixelIn : List ℤ → Trixel
 trixelIn xs = record { v0 = vecIn xs 0; v1 = vecIn xs 3; v2 = vecIn xs 6; p0 = vecIn xs 9; p1 = vecIn xs 12; p2 = vecIn xs 15 }
 
+abbrev pub firstRayIn : List ℤ → Vec3
+firstRayIn xs = vecIn xs 18
+
 abbrev pub withCorners : Trixel → List ℤ → List ℤ
 withCorners t xs = put 6 (three (t .v2)) (put 3 (three (t .v1)) (put 0 (three (t .v0)) xs))
 
@@ -33,7 +37,7 @@ withNormals t xs = put 15 (three (t .p2)) (put 12 (three (t .p1)) (put 9 (three 
 
 pub record KeptTrixel (xs : List ℤ) : Type 0 where
   pub small : SmallTrixel (trixelIn xs)
-  pub ray : vecIn xs 18 ≡ ray0 (trixelIn xs)
+  pub ray : firstRayIn xs ≡ ray0 (trixelIn xs)
 
 pub record OtherRays (t : Trixel) (j : Judged) : Type 0 where
   pub second : j .second ≡ ray1 t

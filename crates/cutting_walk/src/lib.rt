@@ -1,6 +1,8 @@
 // The recursion over trixels: one trixel is classified and accepted, left out or cut into its children. The rule is `visit` of cutting/specs/Cover; what is
 // found stands in specs/Walk, a trixel as numbers in specs/Kept.
 use classify::Class;
+use classify_near::OPEN_ENDS;
+use classify_near::OPEN_HALVES;
 use classify_near::OpenEnds;
 use classify_near::OpenHalves;
 use classify_region::Ends;
@@ -11,15 +13,16 @@ use mesh::Trixel;
 use vector::Vec3;
 ghost use mathlib.Core.Path.{_≡_};
 ghost use Prim.Native.Nat.{_-_, _<_};
-ghost use Rattle.vector_products.specs.Stored.{vecIn};
 ghost use Rattle.classify_region.specs.PreparedLists.{countIn, Ready};
 ghost use Rattle.classify_near.specs.Narrow.{BesideIn};
 ghost use Rattle.cutting_tally.specs.Tally.{tallyIn, Room};
-ghost use Rattle.cutting_walk.specs.Kept.{trixelIn, withCorners, withNormals, KeptTrixel, JudgedOf, CutParts, ChildKept};
+ghost use Rattle.cutting_walk.specs.Kept.{trixelIn, firstRayIn, withCorners, withNormals, KeptTrixel, JudgedOf, CutParts, ChildKept};
 ghost use Rattle.cutting_walk.specs.Walk.{foundIn, foundBelow, childLevel, LevelFits, Divisible, Needs, CutNeeds, Gives, Settled};
 
-// A trixel as numbers: its corners, its normals and its first ray.
-pub type TrixelNumbers = [i64; 21];
+// So many numbers are a trixel: its corners, its normals and its first ray, three each.
+pub const TRIXEL: usize = 21;
+
+pub type TrixelNumbers = [i64; TRIXEL];
 
 // Where a trixel stands in the cutting: its identifier, how many levels it is above the depth, and how many descendants it has there.
 pub struct Level {
@@ -49,6 +52,13 @@ pub fn trixel_in(xs: &TrixelNumbers) -> Trixel
     }
 }
 
+// The first ray of the trixel of a list.
+fn first_ray_in(xs: &TrixelNumbers) -> Vec3
+    ensures { λ r. ⌜ r ≡ firstRayIn (now (xs .entry)) ⌝ }
+{
+    vector_products::vec_in(xs, 18)
+}
+
 // Keeps the corners of t.
 fn keep_corners(xs: &mut TrixelNumbers, t: Trixel)
     ensures { λ _. ⌜ now (xs .exit) ≡ withCorners t (now (xs .entry)) ⌝ }
@@ -75,7 +85,7 @@ fn keep_normals(xs: &mut TrixelNumbers, t: Trixel)
 
 // Keeps the trixel t and its first ray r.
 pub fn keep(xs: &mut TrixelNumbers, t: Trixel, r: Vec3)
-    ensures { λ _. ⌜ (trixelIn (now (xs .exit)) ≡ t) × (vecIn (now (xs .exit)) 18 ≡ r) ⌝ }
+    ensures { λ _. ⌜ (trixelIn (now (xs .exit)) ≡ t) × (firstRayIn (now (xs .exit)) ≡ r) ⌝ }
 {
     vector_products::store(xs, 18, r);
     keep_corners(xs, t);
@@ -96,7 +106,7 @@ fn judge(
     ensures { λ j. ⌜ JudgedOf (trixelIn (now (trixel .entry))) (now (xs .entry)) (now (ends .entry)) j ⌝ }
 {
     let t = trixel_in(trixel);
-    let s = classify_measures::measured(t, vector_products::vec_in(trixel, 18));
+    let s = classify_measures::measured(t, first_ray_in(trixel));
     let class = classify_near::class_near(t, s, trixel, xs, ends, ys, marks);
     let y1 = s.r1;
     let y2 = s.r2;
@@ -122,7 +132,7 @@ fn narrow(
     ensures { λ _. ⌜ BesideIn (now (xs .entry)) (now (ends .entry)) (now (ys .exit)) (now (marks .exit)) ⌝ }
 {
     let t = trixel_in(trixel);
-    let s = classify_measures::measured(t, vector_products::vec_in(trixel, 18));
+    let s = classify_measures::measured(t, first_ray_in(trixel));
     classify_near::narrowed(t, s, xs, ends, ys, marks);
 }
 
@@ -230,8 +240,8 @@ fn open_children(
     requires { ⌜ CutNeeds (now trixel) j level (now xs) (now ends) (tallyIn (now s)) (now out) ⌝ }
     ensures { λ _. ⌜ Gives (now (xs .entry)) (now (ends .entry)) 4 (level .left - 1) (foundBelow level (trixelIn (now (trixel .entry)))) (tallyIn (now (s .entry))) (now (out .entry)) (tallyIn (now (s .exit))) (now (out .exit)) ⌝ }
 {
-    let mut ys = [0i64; 229];
-    let mut marks = [0u64; 33];
+    let mut ys = [0i64; OPEN_HALVES];
+    let mut marks = [0u64; OPEN_ENDS];
     narrow(trixel, xs, ends, &mut ys, &mut marks);
     children(trixel, j, level, xs, ends, &ys, &marks, out, s);
 }
@@ -254,8 +264,8 @@ fn children(
 {
     let t = trixel_in(trixel);
     let c = mesh_trixels::cut(t);
-    let r = vector_products::vec_in(trixel, 18);
-    let mut sub = [0i64; 21];
+    let r = first_ray_in(trixel);
+    let mut sub = [0i64; TRIXEL];
     let mut k: u64 = 0;
     while k < 4 {
         keep_child(&mut sub, k, t, c, r, j);

@@ -19,13 +19,13 @@ use Rattle.cutting_walk.proofs.visit.Kinds as visit-kinds
 use Rattle.cutting_walk.proofs.+children+open_children+visit.Lts-visit as visit-lts
 use Rattle.classify_near.proofs.wanted.Reads as wanted-reads
 use Rattle.cutting_walk.proofs.child_level.Reads as child-level-reads
+use Rattle.cutting_walk.proofs.first_ray_in.Reads as first-ray-in-reads
 use Rattle.cutting_walk.proofs.judge.Reads as judge-reads
 use Rattle.cutting_walk.proofs.keep_child.Reads as keep-child-reads
 use Rattle.cutting_walk.proofs.narrow.Reads as narrow-reads
 use Rattle.cutting_walk.proofs.settle.Reads as settle-reads
 use Rattle.cutting_walk.proofs.trixel_in.Reads as trixel-in-reads
 use Rattle.mesh_trixels.proofs.cut.Reads as cut-reads
-use Rattle.vector_products.proofs.vec_in.Reads as vec-in-reads
 use Rattle.cutting_tally.specs.Tally.{tallyIn}
 use Rattle.cutting_walk.specs.Walk.{Dividing}
 use Rattle.cutting_walk.proofs.KeptLaws.{kept-small}
@@ -81,8 +81,8 @@ pub +children+open-children+visit-spec : {M : Type 1} → statement M
       trixel-in-reads.Learnt,
       cut-reads.Asked,
       cut-reads.Learnt,
-      vec-in-reads.Asked,
-      vec-in-reads.Learnt,
+      first-ray-in-reads.Asked,
+      first-ray-in-reads.Learnt,
       keep-child-reads.Asked,
       keep-child-reads.Learnt,
       child-level-reads.Asked,
@@ -96,8 +96,8 @@ pub +children+open-children+visit-spec : {M : Type 1} → statement M
     children-μ-loop
     (λ c κs. tt)
     (λ c κs. kept-small (c .trixel-in .ensures) (c .before .before .pre .1 .0 .trixel))
-    (λ c κs. search needs)
-    (λ c. let s = c .before .before .before .before .before in (refl, omega (arith, s .pre .0), dividing-start (s .pre .1 .0) (s .pre .1 .1) (c .before .before .before .trixel-in .ensures) (c .before .before .cut .ensures) (c .vec-in .ensures)))
+    (λ c κs. tt)
+    (λ c. let s = c .before .before .before .before in (refl, omega (arith, s .pre .0), dividing-start (s .pre .1 .0) (s .pre .1 .1) (c .before .before .trixel-in .ensures) (c .before .cut .ensures) (c .first-ray-in .ensures)))
     (λ c κs. (c .before .before .loop .inv .2 .parts, omega (arith, c .before .loop-test .taken)))
     (λ c κs. (c .before .before .before .before .loop .inv .2 .needs .divisible, omega (arith, c .before .before .before .loop-test .taken)))
     (λ c κs.

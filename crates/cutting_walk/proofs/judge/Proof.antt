@@ -10,10 +10,10 @@ judge-spec =
     tie.close
     (tie.spec
     (λ c κs. tt)
-    (λ c κs. search needs)
-    (λ c κs. let e = c .before .before .trixel-in .ensures in let k = c .before .before .before .pre .0 in (kept-small e k, first-kept e k (c .vec-in .ensures)))
+    (λ c κs. tt)
+    (λ c κs. let e = c .before .trixel-in .ensures in let k = c .before .before .pre .0 in (kept-small e k, first-kept e k (c .first-ray-in .ensures)))
     (λ c κs.
-    let e = c .before .before .before .before in
+    let e = c .before .before .before in
     let s = e .before in
     ((c .before .measured .ensures, normals-kept (e .trixel-in .ensures) (s .pre .0) (search needs)), (s .pre .1 .0, s .pre .1 .1)))
-    (λ c. judged-kept (c .before .before .before .before .before .before .before .before .before .trixel-in .ensures) _ (c .before .before .before .before .before .before .measured .ensures) refl refl (c .before .before .before .before .class-near .ensures)))
+    (λ c. judged-kept (c .before .before .before .before .before .before .before .before .trixel-in .ensures) _ (c .before .before .before .before .before .before .measured .ensures) refl refl (c .before .before .before .before .class-near .ensures)))

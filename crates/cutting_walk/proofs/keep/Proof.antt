@@ -8,9 +8,8 @@ use Rattle.algebra.proofs.Cells.{all-cells}
 use Rattle.vector.specs.declared.Vec3.{Vec3}
 use Rattle.answer.specs.Lent.{put}
 use Rattle.vector.specs.Vectors.{three}
-use Rattle.vector_products.specs.Stored.{vecIn}
 use Rattle.mesh.specs.declared.Trixel.{Trixel}
-use Rattle.cutting_walk.specs.Kept.{trixelIn, withCorners, withNormals}
+use Rattle.cutting_walk.specs.Kept.{trixelIn, firstRayIn, withCorners, withNormals}
 use Rattle.cutting_walk.proofs.keep.Statement.{statement}
 use Rattle.cutting_walk.proofs.keep.Tie as tie
 
@@ -19,7 +18,7 @@ abbrev filled : Trixel → Vec3 → List ℤ → List ℤ
 filled t r xs = withNormals t (withCorners t (put 18 (three r) xs))
 
 abbrev Holds : Trixel → Vec3 → List ℤ → Type 0
-Holds t r xs = (trixelIn xs ≡ t) × (vecIn xs 18 ≡ r)
+Holds t r xs = (trixelIn xs ≡ t) × (firstRayIn xs ≡ r)
 
 holds : (t : Trixel) (r : Vec3) (xs : List ℤ) → length xs ≡ 21 → Holds t r (filled t r xs)
 holds t r xs long = all-cells 21 (λ xs. Holds t r (filled t r xs)) (λ a b c d e f g h i j k l m n o p q r s t u. (refl, refl)) xs long

@@ -9,7 +9,7 @@ narrow-spec =
     tie.close
     (tie.spec
     (λ c κs. tt)
-    (λ c κs. search needs)
-    (λ c κs. let e = c .before .before .trixel-in .ensures in let k = c .before .before .before .pre .0 in (kept-small e k, first-kept e k (c .vec-in .ensures)))
-    (λ c κs. let s = c .before .before .before .before .before .before in ((kept-small (c .before .before .before .before .before .trixel-in .ensures) (s .pre .0), c .before .before .measured .ensures), s .pre .1))
+    (λ c κs. tt)
+    (λ c κs. let e = c .before .trixel-in .ensures in let k = c .before .before .pre .0 in (kept-small e k, first-kept e k (c .first-ray-in .ensures)))
+    (λ c κs. let s = c .before .before .before .before .before in ((kept-small (c .before .before .before .before .trixel-in .ensures) (s .pre .0), c .before .before .measured .ensures), s .pre .1))
     (λ c. search needs))
