@@ -9,7 +9,6 @@ use index::MOST;
 use index::OWNERS;
 use print::Buffer;
 use print::LOST;
-use print::SIZE;
 use query_words::NaturalAt;
 use query_words::PointAt;
 use streams::Input;
@@ -81,18 +80,9 @@ fn answer_byte(
         };
     }
     Place {
-        kept: keep(line, place.kept, b),
+        kept: query_words::keep(line, place.kept, b),
         at: place.at,
     }
-}
-
-// One byte more of a line. A line that is too long counts as one byte more than `line` can hold.
-fn keep(line: &mut Buffer, n: usize, b: u8) -> usize {
-    if n < SIZE {
-        line[n] = b;
-        return n + 1;
-    }
-    SIZE + 1
 }
 
 pub fn answer_line(

@@ -3,7 +3,6 @@
 use check::same;
 use print::Buffer;
 use print::LOST;
-use print::SIZE;
 use region::Style;
 use streams::Input;
 
@@ -56,18 +55,9 @@ fn answer_byte(b: u8, line: &mut Buffer, place: Place, out: &mut Buffer) -> Plac
         };
     }
     Place {
-        kept: keep(line, place.kept, b),
+        kept: query_words::keep(line, place.kept, b),
         at: place.at,
     }
-}
-
-// One byte more of a line. A line that is too long counts as one byte more than `line` can hold.
-fn keep(line: &mut Buffer, n: usize, b: u8) -> usize {
-    if n < SIZE {
-        line[n] = b;
-        return n + 1;
-    }
-    SIZE + 1
 }
 
 pub fn answer_line(line: &Buffer, n: usize, out: &mut Buffer, at: usize) -> usize {

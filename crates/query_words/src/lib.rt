@@ -1,4 +1,4 @@
-// The words of a command line: numbers, pointings, files and floats in hexadecimal digits, lists of numbers.
+// A command line as it is kept, and its words: numbers, pointings, files and floats in hexadecimal digits, lists of numbers.
 use check::same;
 ghost use mathlib.Core.Path.{_≡_};
 ghost use mathlib.Core.List.{[], _∷_};
@@ -37,6 +37,15 @@ pub enum Natural {
 pub enum Whole {
     Is(i32),
     Not,
+}
+
+// One byte more of a line of which n are kept. A line that is too long counts as one byte more than `line` can hold.
+pub fn keep(line: &mut [u8], n: usize, b: u8) -> usize {
+    if n < line.len() {
+        line[n] = b;
+        return n + 1;
+    }
+    line.len() + 1
 }
 
 // The word that begins at `at`.
