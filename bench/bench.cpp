@@ -1,8 +1,9 @@
-// One table: the proved library through its C calls, and the literal implementation beside it. For each row how many trixels were classified (or
+// A table: the proved library through its C calls, and the literal implementation beside it. For each row how many trixels were classified (or
 // pointings looked up), microseconds for all of them and nanoseconds for each, of both, and our time over the literal one. Covers are of depth 12 where
 // none is named. Of both the best of seven rounds (of one for the worst cases), one after the other, in processor time; reading the file is part of a
 // cover. Both lists, counts, seen and the elements that must stay are compared, and the identifiers of the pointings, and the entries of an index with
-// those of a std::map: a difference ends with 1.
+// those of a std::map: a difference ends with 1. A second table has the frames of a region from an index: the call beside the cover alone, and the walk,
+// which is what the call takes beyond it.
 #include "literal.hpp"
 #include "../include/htm.h"
 #include <array>
@@ -281,6 +282,102 @@ static bool index_rows(const std::vector<int32_t> &p)
     return print("removals, at 2048 exposures", turns * some, remove, same);
 }
 
+// ---- frames
+
+// So many pointings up to so many degrees away from the middle of the caps.
+static std::vector<int32_t> points_around(size_t n, double degrees)
+{
+    std::mt19937_64 random(20261117);
+    std::uniform_real_distribution<double> part(0, 1);
+    Point u = unit(cross(MIDDLE, {0.1, 0.9, 0.3})), w = cross(MIDDLE, u);
+    std::vector<int32_t> p;
+    while (p.size() < 3 * n) {
+        double away = degrees * part(random) * PI / 180, turn = 2 * PI * part(random), c = cos(away), a = sin(away) * cos(turn), b = sin(away) * sin(turn);
+        int32_t x = lround((c * MIDDLE.x + a * u.x + b * w.x) * K), y = lround((c * MIDDLE.y + a * u.y + b * w.y) * K), z = lround((c * MIDDLE.z + a * u.z + b * w.z) * K);
+        if (literal::is_vector(x, y, z)) { p.push_back(x); p.push_back(y); p.push_back(z); }
+    }
+    return p;
+}
+
+// An index, and its entries in order.
+struct Filed {
+    std::vector<int64_t> list = std::vector<int64_t>(HTM_INDEX_LENGTH, 0);
+    std::vector<literal::Entry> entries;
+    bool same = true;
+    void add(uint32_t owner, const std::vector<int32_t> &p)
+    {
+        for (size_t i = 0; i < p.size(); i += 3) {
+            uint32_t number = (uint32_t)(entries.size() * 2654435761u);
+            uint64_t id = 0;
+            same &= literal::lookup(p[i], p[i + 1], p[i + 2], 12, id) == 0 && htm_add(list.data(), list.size(), owner, number, p[i], p[i + 1], p[i + 2]) == 0;
+            entries.push_back({id, number, owner, {p[i], p[i + 1], p[i + 2]}});
+        }
+        std::sort(entries.begin(), entries.end());
+    }
+};
+
+// The frames of owner 0: the cover alone, the call, and what it takes beyond the cover, the best of some rounds each.
+static bool frames_row(const std::string &name, const Bytes &file, const Filed &filed, int times, int rounds)
+{
+    literal::Region region;
+    if (literal::read_file(file, region)) { printf("%-34s is no region file\n", name.c_str()); return false; }
+    literal::Cover lists = literal::cover_region(region);
+    literal::Frames want;
+    std::vector<uint64_t> ranges(4 * literal::eff_budget(region.budget), UNTOUCHED), covered = ranges;
+    std::vector<uint32_t> numbers(1024, (uint32_t)UNTOUCHED), all = numbers;
+    uint64_t counts[2] = {0, 0}, six[6];
+    int64_t answer = 0;
+    auto make_cover = [&] { answer |= htm_cover(file.data(), file.size(), covered.data(), covered.size(), six, 6); };
+    auto find = [&] { answer |= htm_frames(filed.list.data(), filed.list.size(), 0, file.data(), file.size(), ranges.data(), ranges.size(), numbers.data(), numbers.size(), counts, 2); };
+    double cover = 1e18, frames = 1e18, walk = 1e18;
+    for (int round = 0; round < rounds; round++) {
+        cover = std::min(cover, us([&] { for (int k = 0; k < times; k++) make_cover(); }) / times);
+        frames = std::min(frames, us([&] { for (int k = 0; k < times; k++) find(); }) / times);
+        walk = std::min(walk, us([&] { for (int k = 0; k < times; k++) want = literal::frames(region, lists, filed.entries, 0); }) / times);
+    }
+    std::copy(want.numbers.begin(), want.numbers.end(), all.begin());
+    bool same = filed.same && answer == 0 && ranges == covered && counts[0] == want.numbers.size() && counts[1] == want.tests && numbers == all;
+    size_t held = 0;
+    for (const literal::Entry &e : filed.entries) held += e.owner == 0 && literal::region_holds(region, e.p);
+    same &= held == want.numbers.size();
+    printf("%-34s %9zu %6zu %9.2f %9.2f %8.2f %12.2f%s\n", name.c_str(), (size_t)counts[0], (size_t)counts[1], cover, frames, frames - cover, walk,
+           same ? "" : "  DIFFERS");
+    return same;
+}
+
+// 1024 entries of owner 0, half of them anywhere and half up to twice as far from the middle as the cap goes.
+static bool frames_rows()
+{
+    std::vector<int32_t> points = some_points(1536);
+    printf("%-34s %9s %6s %9s %9s %8s %12s\n", "frames of 1024 entries", "delivered", "tests", "cover us", "frames us", "walk us", "literal walk");
+    std::vector<int32_t> anywhere(points.begin(), points.begin() + 3 * 512), others(points.begin() + 3 * 512, points.begin() + 3 * 1536);
+    bool same = true;
+    for (int degrees : {1, 5, 30}) {
+        Filed filed;
+        filed.add(0, anywhere);
+        filed.add(0, points_around(512, 2 * degrees));
+        std::string name = "cap of " + std::to_string(degrees) + " degrees";
+        int rounds = degrees == 30 ? 300 : 1000;
+        same &= frames_row(name + ", budget 64", cap(degrees, 64), filed, 1, rounds);
+        same &= frames_row(name + ", budget 2048", cap(degrees, 2048), filed, 1, rounds);
+        if (degrees != 5) continue;
+        filed.add(1, others);
+        same &= frames_row("  beside 1024 of the other owner", cap(degrees, 64), filed, 1, rounds);
+        same &= frames_row("  100 halfspaces in one convex", one_polygon(degrees, 100, 64), filed, 1, 100);
+    }
+    // The walk by itself: regions whose cover takes next to nothing.
+    Filed filed;
+    filed.add(0, anywhere);
+    filed.add(0, points_around(512, 60));
+    Bytes all, plane;
+    begin(all, 12, 64); convex(all); halfspace(all, {0, 0, 1}, -1); convex(all); halfspace(all, {0, 0, -1}, -1); end(all);
+    begin(plane, 1, 64); convex(plane); halfspace(plane, {0, 0, 1}, 0); halfspace(plane, {0, 0, -1}, 0); end(plane);
+    same &= frames_row("everything", all, filed, 100, 50);
+    return frames_row("a plane at depth 1", plane, filed, 100, 50) && same;
+}
+
+// ---- covers
+
 // A small cover is made several times a round, a large one in fewer rounds.
 static bool cover_row(const std::string &name, const Bytes &file, int times = 1, int rounds = 7)
 {
@@ -339,13 +436,17 @@ static bool worst_rows()
     return cover_row("512 hemispheres, nearly equal", hemispheres(512, 64), 1, 1) && same;
 }
 
-// With an argument the covers of few trixels only.
-int main(int argc, char **)
+// With the argument frames the second table only, with another one the covers of few trixels only.
+int main(int argc, char **argv)
 {
-    printf("%-34s %8s %9s %8s %10s %8s %6s\n", "covers, and lookups", "trixels", "ours us", "ns each", "literal us", "ns each", "ratio");
-    bool all = argc < 2, same = !all || large_rows();
-    same &= small_rows();
-    if (all) same &= worst_rows();
+    bool all = argc < 2, frames = !all && strcmp(argv[1], "frames") == 0, same = true;
+    if (!frames) {
+        printf("%-34s %8s %9s %8s %10s %8s %6s\n", "covers, and lookups", "trixels", "ours us", "ns each", "literal us", "ns each", "ratio");
+        same = !all || large_rows();
+        same &= small_rows();
+        if (all) same &= worst_rows();
+    }
+    if (all || frames) same &= frames_rows();
     printf("%s\n", same ? "all answers of both are equal" : "NOT EQUAL");
     return !same;
 }

@@ -495,6 +495,31 @@ static inline Cover cover_region(const Region&reg){
     if(b.size()<=3000) o.inner=reduce_inner_naive(b,B); else o.inner=reduce_inner_set(b,B);
     return o;
 }
+
+// ---------------------------------------------------------------- the frames of a region: document 02, F-12
+struct Entry { u64 id; uint32_t number,owner; Vec p; };              // in the order of an index: identifier, number, owner
+static inline bool operator<(const Entry&a,const Entry&b){
+    if(a.id!=b.id) return a.id<b.id;
+    if(a.number!=b.number) return a.number<b.number;
+    return a.owner<b.owner;
+}
+struct Frames { std::vector<uint32_t> numbers; u64 tests=0; };
+// one owner's entries and the two lists side by side
+static inline Frames frames(const Region&reg,const Cover&c,const std::vector<Entry>&entries,uint32_t owner){
+    Frames f;
+    size_t o=0,i=0;
+    for(const Entry&e:entries){
+        if(e.owner!=owner) continue;
+        u64 id=e.id>>(2*(12-reg.depth));
+        while(o<c.outer.size()&&c.outer[o].second<id) o++;
+        while(i<c.inner.size()&&c.inner[i].second<id) i++;
+        if(i<c.inner.size()&&c.inner[i].first<=id){f.numbers.push_back(e.number);continue;}
+        if(o==c.outer.size()||c.outer[o].first>id) continue;
+        f.tests++;
+        if(region_holds(reg,e.p)) f.numbers.push_back(e.number);
+    }
+    return f;
+}
 static inline std::string cover_text(const Bytes&f,char sep){
     Region g; int e=read_file(f,g);
     if(e) return "refused "+std::to_string(e);

@@ -24,7 +24,8 @@
  *              in one, 512 in all                15 twice   the number is its owner's
  *   16 full    1024 exposures are the owner's    17 absent  no such number of its owner's, or no such place
  *   18 owner   not 0 or 1
- * In the calls on an index 18 comes before all else. There 10 says that the list is too short to be one, and comes before 15, 16 and 17.
+ * In the calls on an index 18 comes before all else. There 10 says that the list is too short to be one, and comes before 15, 16 and 17;
+ * of htm_frames it says that any of its lists is too short, and comes last.
  *
  * Styles: a region file is plain, with a record for each convex and one for each halfspace (kinds 2 and 3), or grouped, with one
  * record for each convex and all its halfspaces (kind 5). Every call that reads a region file takes either style. */
@@ -120,9 +121,9 @@ int64_t htm_cover(const uint8_t *file, size_t bytes, uint64_t *out, size_t eleme
  * six numbers each, identifier at depth 12, number, owner, x, y, z, ordered by identifier, then by number, then by owner. A list of
  * zeros is an empty index; htm_index_begin makes any list one. From an empty one on, changed by htm_add and htm_remove only, it has
  * exactly the exposures that their owners added and did not remove since, each once, and what these two calls answer an owner does
- * not depend on the other's calls. htm_index_count and htm_index_entry tell of both owners. Write to the list by these calls only:
- * on another list, such as one of five numbers an exposure, a call still ends, and neither reads nor writes outside it, but its answer
- * means nothing.
+ * not depend on the other's calls. htm_index_count and htm_index_entry tell of both owners, htm_frames of one. Write to the list by
+ * these calls only: on another list, such as one of five numbers an exposure, a call still ends, and neither reads nor writes outside
+ * it, but its answer means nothing.
  * Each call gives -10 where elements is under HTM_INDEX_LENGTH. */
 
 /* Makes the list an empty index, whatever it holds: 0, or -10. */
@@ -142,6 +143,17 @@ int64_t htm_index_count(const int64_t *index, size_t elements);
 /* The entry at a place, from 0 on: out[0] to out[5] are its identifier, number, owner, x, y and z.
  * 0, or -N for refusal N: 10, then 17 where the place is not below the count, then 10 where out has fewer than 6 elements. */
 int64_t htm_index_entry(const int64_t *index, size_t elements, uint32_t place, int64_t *out, size_t n);
+
+/* The owner's exposures that the region of a region file of so many bytes holds: their numbers from numbers[0] on, in the order of the
+ * index. ranges is left as htm_cover leaves it. With its identifier shortened to the file's depth, an exposure in an inner range is
+ * delivered unchecked, one in an outer range only is put to the point test, and any other is skipped.
+ * counts[0] is how many numbers there are, at most 1024, and counts[1] how many tests were made: as many as the owner's exposures in
+ * outer ranges and in no inner one. The elements of numbers behind them keep their values, and so do the elements of counts from 2 on.
+ * 0, or -N for refusal N: 18 where there is no such owner; then that of the file's first failed check, 1 to 9 or 14; then -10 where
+ * ranges has fewer than 4 * budget elements, at most 8192, numbers fewer than 1024, index fewer than HTM_INDEX_LENGTH, or counts fewer
+ * than 2. */
+int64_t htm_frames(const int64_t *index, size_t elements, uint32_t owner, const uint8_t *file, size_t bytes, uint64_t *ranges, size_t n,
+                   uint32_t *numbers, size_t m, uint64_t *counts, size_t k);
 
 #ifdef __cplusplus
 }

@@ -1,5 +1,5 @@
 #!/usr/bin/env python3
-"""Makes the stored cases of the programs query and catalogue: stdin and stdout in crates/query and crates/catalogue.
+"""Makes the stored cases of the programs query, catalogue and archive: stdin and stdout in crates/query, crates/catalogue and crates/archive.
 
 Each run writes the same bytes. The answers come from the model, tools/htm.py; how a line is read is written here again, apart from the
 program (its head, crates/query/src/main.rt, has the grammar in words)."""
@@ -464,7 +464,7 @@ def main():
 def archive():
     """The run of the program archive, from draws of its own."""
     draws = Draws(20250306)
-    lines = list(index_cases.lines(draws, lambda: direction(draws)))
+    lines = list(index_cases.lines(draws, lambda: direction(draws), into_rule))
     assert not any(b'\n' in l for l in lines)
     (ARCHIVE / 'stdin').write_bytes(b'\n'.join(lines))
     (ARCHIVE / 'stdout').write_text(''.join(a + '\n' for a in index_cases.answers(lines, number)))

@@ -1,6 +1,13 @@
 """Cases of the exposure index: the run of the program archive, command lines of two owners over one index that begins empty. Used by cases.py."""
+from math import isqrt
+from struct import pack
+
 import htm
+import region_cases as regions
+from cover_cases import AXES, DEGREE, K3, NORTH, SOUTH, Sky, cap, turned
+from grouped_cases import grouped
 from htm import K, Refused
+from region_cases import file_of
 
 SHARE = 1024                                        # the most of one owner
 LAST = 2**32 - 1                                    # the greatest number
@@ -14,6 +21,8 @@ BAD = (K, K, K)                                     # no vector
 def command(index, words, number):
     """The answer of a line by its words; `number` reads a word, or gives None."""
     name, *rest = words
+    if name == b'frames':
+        return frames_answer(index, number(rest[0], False, 0, LAST), regions.bytes_of(rest[1])) if len(rest) == 2 else 'usage'
     naturals = 1 if name == b'list' else 2
     numbers = [number(w, False, 0, LAST) for w in rest[:naturals]] + [number(w, True, -2**31, 2**31 - 1) for w in rest[naturals:]]
     if None in numbers or (name, len(numbers)) not in ((b'add', 5), (b'remove', 2), (b'list', 1), (b'list', 0)):
@@ -25,6 +34,13 @@ def command(index, words, number):
     else:
         index.remove(*numbers)
     return 'ok'
+
+
+def frames_answer(index, owner, file):
+    if owner is None or file is None:
+        return 'usage'
+    numbers, tests = index.frames(owner, file)
+    return ' '.join(map(str, (len(numbers), tests, *numbers)))
 
 
 def answers(lines, number):
@@ -188,7 +204,211 @@ def apart(draws, point, calls, numbers):
             yield from (b'list %d' % owner, *emptied(numbers))
 
 
-def lines(draws, direction):
+# ---- the frames of a region
+
+EVERYTHING, NOTHING = [[(NORTH, -K)], [(SOUTH, -K)]], [[(NORTH, DEGREE[60]), (SOUTH, DEGREE[60])]]
+FIRST, PAST = 2 * 4**12, 4 * 4**12                  # the first identifier of depth 12, and the one behind the last
+
+
+def frames(owner, file):
+    return b'frames %d %s' % (owner, file.hex().encode() or b'-')
+
+
+def of_both(region, depth, budget):
+    """The frames of a region, asked by both owners; the one's file is plain, the other's grouped."""
+    files = file_of(region, depth, budget), grouped(region, depth, budget)
+    return [frames(o, files[(o + depth) % 2]) for o in (0, 1)]
+
+
+def filed(owner, points):
+    """The lines that file pointings, and those that withdraw them. The numbers are in another order than the identifiers, and those of both owners."""
+    numbers = [4001 * (k + 1) % 9973 for k in range(len(points))]
+    return [add(owner, n, p) for n, p in zip(numbers, points)], [remove(owner, n) for n in numbers]
+
+
+def among(owners, lines):
+    """Lines while each of some owners has pointings filed."""
+    calls = [filed(o, points) for o, points in owners.items()]
+    for adds, _ in calls:
+        yield from adds
+    yield from lines
+    for _, removes in calls:
+        yield from removes
+
+
+def middle(sky, i):
+    """A pointing with the identifier i of depth 12."""
+    p = sky.middle(i)
+    assert htm.lookup(p, 12) == i
+    return p
+
+
+def on_border(sky, n, d):
+    """A pointing about where the halfspace ends: n turned away from itself, in some direction."""
+    u = htm.unit(htm.cross(n, sky.direction()))
+    return sky.near(tuple((d * a + isqrt(K * K - d * d) * b) // K for a, b in zip(n, u)), sky.draws.pick((1, 30, 3000)))
+
+
+def near_border(sky, region):
+    return on_border(sky, *sky.draws.pick(sky.draws.pick(region)))
+
+
+def few_frames(sky):
+    """An empty index; one entry of either owner; one of both with the same number; the least and the greatest numbers with one identifier: everything, nothing
+    and a hemisphere."""
+    asked = [l for depth in (1, 2, 12) for region in (EVERYTHING, NOTHING) for l in of_both(region, depth, 5)] + of_both(cap(NORTH, 0), 2, 5)
+    yield from asked
+    for o in (0, 1):
+        yield from among({o: [NORTH]}, asked)
+        yield from among({o: [SOUTH]}, asked)
+    yield from among({0: [NORTH], 1: [SOUTH]}, asked)
+    yield from among({0: [AXES[0]], 1: [AXES[0]]}, asked)
+    ends = [(o, n) for n in (LAST, 2**31, 0, 1, 2**31 - 1) for o in (0, 1) if o == 0 or n % 2]
+    yield from (*(add(*e, NORTH) for e in ends), *asked, *(remove(*e) for e in ends))
+
+
+def whole_and_empty(sky):
+    """Everything and nothing at every depth, and one halfspace of offset −K, among entries of both owners."""
+    owners = {o: [sky.direction() for _ in range(9)] + AXES[o::2] for o in (0, 1)}
+    yield from among(owners, [l for depth in range(1, 13) for region in (EVERYTHING, NOTHING, cap(sky.draws.pick(AXES), -K))
+                              for l in of_both(region, depth, sky.draws.pick((0, 1, 7)))])
+
+
+def ends(ranges, depth):
+    """The first and the last identifier of depth 12 in each range of a depth, the one before and the one behind."""
+    wide = 4**(12 - depth)
+    for low, high in ranges:
+        yield from (i for i in (low * wide - 1, low * wide, (high + 1) * wide - 1, (high + 1) * wide) if FIRST <= i < PAST)
+
+
+def range_ends(sky):
+    """Entries at the ends of the ranges of both lists, beside them and in the middle between them, which a small budget swallows; the same numbers of the
+    other owner at every third."""
+    for depth in range(1, 13):
+        n = sky.direction() if depth > 2 else sky.near((K3, K3, K3), 9999)       # a root full, and a gap, at depth 1 too
+        region = cap(n, max(DEGREE[60], K - 100 * K // 4**depth)) if depth % 3 else [sky.polygon(n, 4, 6000 // 2**depth + 1)]
+        _, accepted, full, *_ = htm.cover(file_of(region, depth, 2048))
+        _, joined, *_ = htm.cover(file_of(region, depth, 1))
+        wide = 4**(12 - depth)
+        gaps = [(a[1] + b[0]) * wide // 2 for a, b in zip(accepted, accepted[1:])]
+        ids = sorted({*ends(accepted, depth), *ends(full, depth), *gaps})
+        ids = [i for k, i in enumerate(ids) if k % (1 + len(ids) // 60) == 0]
+        assert any(htm.in_some(i // wide, joined) and not htm.in_some(i // wide, accepted) for i in ids)
+        points = [middle(sky, i) for i in ids]
+        yield from among({depth % 2: points, 1 - depth % 2: points[::3]}, [l for budget in (2048, 3, 1, 0) for l in of_both(region, depth, budget)])
+
+
+def one_shortened(sky):
+    """Entries with one identifier at the file's depth, that of a small cap, and the next ones before and behind them."""
+    for depth in range(1, 12):
+        i = sky.trixel(depth)
+        wide = 4**(12 - depth)
+        ids = {*ends([(i, i)], depth), *(i * wide + sky.draws.below(wide) for _ in range(5))}
+        points = [middle(sky, k) for k in sorted(ids)]
+        n = sky.middle(i)
+        yield from among({0: points, 1: points[:2]}, [l for d in (K - K // 4**depth, K - K // 8 // 4**depth) for deep in (depth, depth + 1)
+                                                      for l in of_both(cap(n, d), deep, 8)])
+
+
+def on_planes(sky):
+    """Entries on a plane and one unit to either side of it: the halfspace, its opposite, both as two convexes and as one."""
+    for axis, z, depth in ((0, 0, 3), (1, 741455, 4), (2, 300000, 5), (1, -741455, 3), (2, K - 1, 11), (0, K - 40, 9), (2, -K, 12), (0, K, 12)):
+        n = tuple(K if k == axis else 0 for k in range(3))
+        points = []
+        for c in (z - 1, z, z + 1):
+            if abs(c) <= K:
+                a = isqrt(K * K - c * c)
+                b = isqrt(a * a // 2)
+                points += [tuple(c if k == axis else (x, y)[(k - axis) % 3 - 1] for k in range(3)) for x, y in ((a, 0), (0, -a), (-a, 0), (b, b), (-b, b))]
+        points = [p for p in dict.fromkeys(points) if htm.is_vector(p)]
+        h = n, z
+        yield from among({0: points, 1: points[1::2]}, [l for region in ([[h]], [[turned(h)]], [[h], [turned(h)]], [[h, turned(h)]]) for l in of_both(region, depth, 6)])
+
+
+def refusal_of(file):
+    try:
+        htm.read(file)
+    except Refused as r:
+        return r.n
+
+
+def refused_files():
+    """A file for each refusal of a file, of either style."""
+    good = b''.join(regions.GOOD)
+    mixed = b''.join(regions.GOOD[:-1]) + grouped([[(NORTH, 0)]])[8:]
+    files = {1: [bytes(10509)], 2: [b'', good[:-1], good[:3]], 3: [regions.with_fault(1, pack('<HH', 4, 9)), grouped([[(NORTH, 0)] * 101])],
+             4: [regions.with_fault(1, regions.header()), good + b'\0'], 5: [file_of(EVERYTHING, 0), grouped(EVERYTHING, 13)],
+             6: [file_of(EVERYTHING, 12, 2049), grouped(EVERYTHING, 1, 65535)], 7: [file_of(regions.spread(101, 1)), grouped(regions.spread(65, 65))],
+             8: [file_of(cap((0, 0, K + 1), 0)), grouped([[(NORTH, 0), ((0, 0, 0), K + 1)]])], 9: [file_of(cap(NORTH, K + 1)), grouped(cap(NORTH, -K - 1))], 14: [mixed]}
+    for refusal, some in files.items():
+        for file in some:
+            assert refusal_of(file) == refusal
+            yield file
+
+
+def refused_frames(sky):
+    """Every refusal of a file; another owner before all of them; the index stays. Then the longest file, which is taken."""
+    owners = {o: [sky.direction() for _ in range(5)] for o in (0, 1)}
+    asked = [frames(o, file) for file in refused_files() for o in (0, 1, 2)]
+    asked += [frames(o, file_of(EVERYTHING, 3)) for o in (2, 3, 255, 256, 2**31, LAST)]
+    yield from among(owners, [b'list', *asked, b'list', frames(0, file_of([[(NORTH, 0)] * 8] * 64, 3)), frames(1, file_of(EVERYTHING, 12))])
+
+
+def frames_shapes():
+    """Lines of another shape, and digits and numbers in an unusual dress."""
+    good = file_of(cap(NORTH, 0), 2, 5).hex().encode()
+    shapes = [b'frames', b'frames ', b'frames 0', b'frames 0 ', b'frames ' + good, b'frames 0 0', b'frames 0 0g', b'frames 0 --', b'frames 0 -0', b'frames 0 0x00', b'frames 0 - -',
+              b'frames  0 ' + good, b'frames 0  ' + good, b' frames 0 ' + good, b'frames 0 ' + good + b' ', b'frames 0 ' + good + b'0', b'frames 0 ' + good + b' 0',
+              b'frames 0 0 ' + good, b'Frames 0 ' + good, b'frame 0 ' + good, b'frames0 ' + good, b'frames 0 ' + good + b'\r', b'frames 0\t' + good]
+    shapes += [b'frames %s %s' % (w, good) for w in (b'-0', b'-1', b'+0', b'4294967296', b'x', b'0.0', b'', b'9' * 40)]
+    odd = [b'frames 000 ' + good, b'frames 1 ' + good.upper(), b'frames 0000000000000000000001 ' + good, b'frames 0 -', b'frames 2 -']
+    long = [b'frames 0 ' + b'0' * (LINE - 10)]
+    yield from among({0: [NORTH, AXES[0]], 1: [SOUTH, AXES[0]]}, shapes + odd + long)
+
+
+def full_frames(sky):
+    """1024 entries of one owner and none of the other, then of both: about the borders of some regions, and anywhere. Then one is withdrawn, and filed again."""
+    n = sky.direction()
+    m = sky.near(n, 300000)
+    square = sky.polygon(n, 4, 300)
+    some = [(cap(n, DEGREE[30]), 6), ([square], 7), ([square + [turned((n, DEGREE[5]))]], 8), (cap(n, DEGREE[1]), 12), ([[(n, DEGREE[30])], [(m, DEGREE[30])]], 5),
+            (cap(n, -DEGREE[60]), 4), ([[(n, DEGREE[5])], [(htm.neg(n), DEGREE[5])]], 7)]
+    border = [near_border(sky, sky.draws.pick(some)[0]) for _ in range(SHARE)]
+    anywhere = [sky.direction() for _ in range(SHARE)]
+    asked = [l for region, depth in some for budget in (64, 1) for l in of_both(region, depth, budget)]
+    all_or_none = of_both(EVERYTHING, 12, 1) + of_both(NOTHING, 1, 0) + of_both([[(NORTH, 0), (SOUTH, 0)]], 1, 1)
+    both = [*asked, *all_or_none, remove(1, 4001), *asked[1:4], add(1, 4001, border[0]), asked[1]]
+    yield from among({1: border}, [*asked[:4], *all_or_none, *among({0: anywhere}, both)])
+
+
+def some_region(sky, depth):
+    """One to three convexes of one to three halfspaces; at a large depth small caps beside each other, so that the cover is small."""
+    n = sky.direction()
+
+    def halfspace():
+        if depth < 7:
+            return sky.direction(), sky.draws.between(-K, K) // sky.draws.pick((1, 2, 9))
+        return sky.near(n, 40 * K // 2**depth), K - sky.draws.between(2, 400 * K // 4**depth)
+    return [[halfspace() for _ in range(1 + sky.draws.below(3))] for _ in range(1 + sky.draws.below(3))]
+
+
+def some_frames(sky):
+    """Random regions, and entries about their borders and anywhere."""
+    for k in range(45):
+        depth = 1 + k % 12
+        region = some_region(sky, depth)
+        owners = {o: [near_border(sky, region) for _ in range(8)] + [sky.direction() for _ in range(2)] for o in (0, 1)}
+        yield from among(owners, [l for budget in (sky.draws.pick((0, 64, 2048)), sky.draws.pick((1, 2, 4))) for l in of_both(region, depth, budget)])
+
+
+def region_lines(sky):
+    for group in (few_frames, whole_and_empty, range_ends, one_shortened, on_planes, refused_frames, full_frames, some_frames):
+        yield from group(sky)
+        yield b'list'
+    yield from (*frames_shapes(), b'list')
+
+
+def lines(draws, direction, into_rule):
     yield from a_day()
     yield from no_owner()
     yield from equal_identifiers()
@@ -198,4 +418,5 @@ def lines(draws, direction):
     yield from history(draws, lambda: draws.pick(few), 10000, 8, 5, 25)
     yield from history(draws, direction, 8000, 1300, 9, 2000)
     yield from apart(draws, lambda: draws.pick(few), 600, 10)
+    yield from region_lines(Sky(draws, direction, into_rule))
     yield from (add(1, LAST, POLES[0]), b'list')    # the last line, which ends without a line feed

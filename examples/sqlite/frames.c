@@ -65,7 +65,7 @@ static sqlite3 *open_table(const char *path, int flags)
     return db;
 }
 
-static void close_table(sqlite3 *db)
+void close_table(sqlite3 *db)
 {
     done(db, sqlite3_close(db));
 }
@@ -109,6 +109,17 @@ static void create(const char *path, int64_t count)
     end_filing(db, insert);
     close_table(db);
     printf("%" PRId64 " frames filed\n", count);
+}
+
+sqlite3 *table_of(const struct frame *frames, size_t count)
+{
+    sqlite3 *db = open_table(":memory:", SQLITE_OPEN_READWRITE | SQLITE_OPEN_CREATE);
+    run(db, schema);
+    sqlite3_stmt *insert = begin_filing(db);
+    for (size_t i = 0; i < count; i++)
+        file_frame(db, insert, frames[i]);
+    end_filing(db, insert);
+    return db;
 }
 
 /* So many whole numbers, parted by commas; the line ends after them. */

@@ -31,6 +31,10 @@ void search(sqlite3 *db, const struct region *r, const struct cover *c, struct t
 /* All frames of the table, in memory of the caller. */
 struct frame *all_frames(sqlite3 *db, size_t *count);
 
+/* A table in memory with some frames. */
+sqlite3 *table_of(const struct frame *frames, size_t count);
+void close_table(sqlite3 *db);
+
 /* Says what is wrong and exits with 1. */
 _Noreturn void die(const char *format, ...);
 
@@ -39,7 +43,7 @@ int64_t draw(int64_t low, int64_t high);
 struct pointing toward(int64_t a, int64_t b, int64_t c); /* K times a direction; a short one would be coarse */
 struct pointing next_pointing(void);
 
-/* test.c: 0 where every region's delivered frames are those of a test of every frame. */
+/* test.c: 0 where every region's delivered frames are those of a test of every frame, and on some of the frames those of htm_frames. */
 int test(sqlite3 *db);
 
 #endif

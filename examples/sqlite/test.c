@@ -1,6 +1,7 @@
 /* The frames that searches deliver, beside a test of every frame: regions of many kinds, at every depth, within many budgets. The
  * rows of a region are compared with every frame in plain C, n.p >= d*K, and with htm_holds on a sample and on every frame that
- * lies on a plane. */
+ * lies on a plane. Some of the frames are filed once more, in a table of their own and in an index: of these the searches are
+ * compared with htm_frames. */
 #include "frames.h"
 
 #include <inttypes.h>
@@ -11,6 +12,8 @@
 
 #define MOST_NUMBER 1000000
 #define SETTINGS 6 /* depths and budgets that each region is tried with */
+#define SHARE 1024 /* the most frames of one owner in an index */
+#define OURS 1     /* the owner of the frames in the index; owner 0 has others with the same numbers */
 
 struct shape {
     char name[40];
@@ -23,6 +26,12 @@ static size_t frame_count;
 static uint8_t *wanted;    /* of each frame: whether the region at hand holds it */
 static uint8_t *delivered; /* of each number: how often the search delivered it */
 static int64_t regions, differing, on_planes, sampled;
+
+/* Some of the frames, in a table and in an index. */
+static sqlite3 *small_table;
+static int64_t small_index[HTM_INDEX_LENGTH];
+static size_t small_count;
+static int64_t small_delivered, small_tests;
 
 /* ---- the regions */
 
@@ -203,6 +212,60 @@ static bool as_wanted(const struct cover *c)
     return same && sure == c->inner;
 }
 
+/* ---- the comparison with htm_frames */
+
+static void file_some(void)
+{
+    static struct frame some[SHARE];
+    small_count = frame_count < SHARE ? frame_count : SHARE;
+    for (size_t i = 0; i < small_count; i++) {
+        const struct frame *f = &frames[i * frame_count / small_count];
+        struct pointing other = frames[(i * frame_count / small_count + 1) % frame_count].p;
+        uint32_t number = (uint32_t)f->number;
+        some[i] = *f;
+        if (htm_add(small_index, HTM_INDEX_LENGTH, OURS, number, f->p.x, f->p.y, f->p.z) < 0 ||
+            htm_add(small_index, HTM_INDEX_LENGTH, 1 - OURS, number, other.x, other.y, other.z) < 0)
+            die("frame %" PRId64 " is refused by the index", f->number);
+    }
+    small_table = table_of(some, small_count);
+}
+
+struct listed {
+    int64_t numbers[SHARE];
+    size_t count;
+};
+
+static void enlist(void *to, int64_t number)
+{
+    struct listed *l = to;
+    if (l->count < SHARE)
+        l->numbers[l->count] = number;
+    l->count++;
+}
+
+/* The search of the small table and htm_frames deliver the same numbers in the same order, and make as many tests. */
+static bool as_by_frames(const struct region *r, const struct cover *c)
+{
+    static uint64_t ranges[4 * 2048];
+    static uint32_t numbers[SHARE];
+    static struct listed l;
+    uint64_t counts[2];
+    struct tally t;
+    l.count = 0;
+    search(small_table, r, c, &t, enlist, &l);
+    int64_t answer = htm_frames(small_index, HTM_INDEX_LENGTH, OURS, r->file, r->bytes, ranges, 4 * 2048, numbers, SHARE, counts, 2);
+    if (answer < 0)
+        die("htm_frames refuses what the writer wrote with %" PRId64, -answer);
+    bool same = counts[0] == l.count && counts[1] == (uint64_t)(t.held + t.discarded);
+    for (size_t i = 0; same && i < l.count; i++)
+        same = numbers[i] == l.numbers[i];
+    small_delivered += (int64_t)counts[0];
+    small_tests += (int64_t)counts[1];
+    return same;
+}
+
+/* ---- each region at some settings */
+
 static void try_setting(sqlite3 *db, const struct shape *s, uint32_t depth, uint32_t budget)
 {
     static struct region r;
@@ -215,7 +278,7 @@ static void try_setting(sqlite3 *db, const struct shape *s, uint32_t depth, uint
         die("%s: the cover refuses what the writer wrote", s->name);
     search(db, &r, &c, &t, note, NULL);
     double took = now() - began;
-    bool same = as_wanted(&c);
+    bool same = as_wanted(&c) && as_by_frames(&r, &c);
     printf("%-32s %5u %6u %5" PRIu64 " %5" PRIu64 " %7zu %9" PRId64 " %7" PRId64 " %7" PRId64 " %9" PRId64 " %7.1f%s\n", s->name, depth,
            budget, c.outer, c.inner, frame_count, t.unchecked, t.held + t.discarded, t.held, t.discarded, took, same ? "" : " DIFFERS");
     regions++;
@@ -244,13 +307,15 @@ int test(sqlite3 *db)
     for (size_t i = 0; i < frame_count; i++)
         if (frames[i].number < 0 || MOST_NUMBER < frames[i].number)
             die("the test takes frame numbers from 0 to %d", MOST_NUMBER);
+    file_some();
     printf("%-32s depth budget outer inner  frames unchecked  tested    held discarded      ms\n", "region");
     double began = now();
     for (size_t i = 0; i < SIMPLE + 2 + GENERATED; i++)
         try_shape(db, i);
-    printf("%" PRId64 " searches in %.1f s, %" PRId64 " differing from a test of all %zu frames; %" PRId64
-           " frames lay on a plane; htm_holds compared %" PRId64 " times\n",
-           regions, (now() - began) / 1e3, differing, frame_count, on_planes, sampled);
+    printf("%" PRId64 " searches in %.1f s, %" PRId64 " differing from a test of all %zu frames, or from htm_frames on an index of %zu, %" PRId64
+           " delivered and %" PRId64 " tested there; %" PRId64 " frames lay on a plane; htm_holds compared %" PRId64 " times\n",
+           regions, (now() - began) / 1e3, differing, frame_count, small_count, small_delivered, small_tests, on_planes, sampled);
+    close_table(small_table);
     free(frames);
     free(wanted);
     free(delivered);

@@ -1,6 +1,7 @@
 /* The C calls on an index, on the stored cases of program archive: each command line of crates/archive/stdin goes through htm.h, is
  * printed as archive prints it, and compared with its line of crates/archive/stdout. Every call is made with a list that is longer than needed,
  * one that is shorter by one element and one that is exactly long enough. Then the calls on lists of noise, which no history leaves.
+ * What htm_frames leaves in its range list is compared with htm_cover.
  *
  *   index STDIN STDOUT     exit status 1 on any difference */
 #include <inttypes.h>
@@ -15,12 +16,14 @@
 #define ALL (HTM_INDEX_LENGTH + BEHIND)
 #define SIX (6 + BEHIND)
 #define PAINT 0x5555555555555555
+#define RANGES 8192  /* enough for every region file */
+#define NUMBERS 1024 /* the most entries of one owner */
 #define LINE (1 << 18)
 #define NOISE 20000
 
 static int64_t kept[ALL], other[ALL];
 static char line[LINE], wanted[LINE], printed[LINE];
-static long line_number, made, refused, listed, differ;
+static long line_number, made, refused, listed, found, tests, not_found, differ;
 
 static void must(bool is, const char *what)
 {
@@ -109,6 +112,112 @@ static void list(const char *owner)
     listed++;
 }
 
+/* ---- the frames of a region */
+
+struct lists {
+    uint64_t ranges[RANGES + BEHIND], counts[2 + BEHIND];
+    uint32_t numbers[NUMBERS + BEHIND];
+};
+
+struct lengths {
+    size_t index, ranges, numbers, counts;
+};
+
+struct region {
+    uint8_t bytes[LINE / 2];
+    size_t count;
+};
+
+static const struct lengths longer = {ALL, RANGES + BEHIND, NUMBERS + BEHIND, 2 + BEHIND};
+static struct lists given, again, painted;
+
+static int64_t frames_of(uint32_t owner, const struct region *r, struct lengths n, struct lists *to)
+{
+    memset(to, PAINT & 0xff, sizeof *to);
+    return htm_frames(kept, n.index, owner, r->bytes, r->count, to->ranges, n.ranges, to->numbers, n.numbers, to->counts, n.counts);
+}
+
+/* What a call gave in the longer lists: the ranges are those of the cover, and every element behind the numbers and the counts stays. */
+static void must_be_frames(const struct region *r)
+{
+    static struct lists all;
+    uint64_t counts[6];
+    memset(&all, PAINT & 0xff, sizeof all);
+    must(htm_cover(r->bytes, r->count, all.ranges, longer.ranges, counts, 6) == 0, "a file with frames has a cover");
+    must(given.counts[0] <= NUMBERS && given.counts[1] <= NUMBERS, "no more are delivered or tested than an owner has");
+    memcpy(all.counts, given.counts, 2 * sizeof all.counts[0]);
+    memcpy(all.numbers, given.numbers, (size_t)(given.counts[0] % (NUMBERS + 1)) * sizeof all.numbers[0]);
+    must(memcmp(&given, &all, sizeof all) == 0, "the ranges are those of the cover, and other elements stay");
+}
+
+static bool is_left(uint32_t owner, const struct region *r, struct lengths n, int64_t refusal)
+{
+    return frames_of(owner, r, n, &again) == refusal && memcmp(&again, &painted, sizeof again) == 0;
+}
+
+/* The call with lists of exact lengths, and with each of them short by one; so many ranges are needed. */
+static void must_need(uint32_t owner, const struct region *r, size_t ranges, int64_t answer)
+{
+    struct lengths exact = {HTM_INDEX_LENGTH, ranges, NUMBERS, 2}, n = exact;
+    must(frames_of(owner, r, exact, &again) == answer && memcmp(&again, &given, sizeof given) == 0, "lists of the exact lengths give the same");
+    int64_t refusal = answer ? answer : -10;
+    n.index--;
+    must(is_left(owner, r, n, refusal), "an index that is short by one is refused, and all stays");
+    n = exact;
+    n.ranges--;
+    must(is_left(owner, r, n, refusal), "a range list that is short by one is refused, and all stays");
+    n = exact;
+    n.numbers--;
+    must(is_left(owner, r, n, refusal), "a list of numbers that is short by one is refused, and all stays");
+    n = exact;
+    n.counts--;
+    must(is_left(owner, r, n, refusal), "a list of counts that is short by one is refused, and all stays");
+    must(is_left(owner, r, (struct lengths){0, 0, 0, 0}, refusal), "lists of no elements are refused, and all stays");
+}
+
+/* The elements of a range list that the file needs; what a budget of 0 needs where the file is refused. */
+static size_t ranges_for(const struct region *r)
+{
+    static int32_t rows[2560];
+    uint64_t header[3] = {0, 0, 0};
+    htm_read(r->bytes, r->count, rows, 2560, header, 3);
+    return 4 * (header[2] ? header[2] : HTM_DEFAULT_BUDGET);
+}
+
+/* The bytes of a word in hexadecimal digits; `-` has none. */
+static void bytes_of(const char *word, struct region *r)
+{
+    unsigned byte;
+    r->count = 0;
+    for (; *word != '-' && sscanf(word, "%2x", &byte) == 1; word += 2)
+        r->bytes[r->count++] = (uint8_t)byte;
+}
+
+static void frames(void)
+{
+    static struct region r;
+    uint32_t owner = 0;
+    int at = 0;
+    sscanf(line, "frames %" SCNu32 " %n", &owner, &at);
+    bytes_of(line + at, &r);
+    memcpy(other, kept, sizeof kept);
+    int64_t answer = frames_of(owner, &r, longer, &given);
+    if (answer == 0) {
+        must_be_frames(&r);
+        size_t n = (size_t)sprintf(printed, "%" PRIu64 " %" PRIu64, given.counts[0], given.counts[1]);
+        for (size_t i = 0; i < given.counts[0] && i < NUMBERS; i++)
+            n += (size_t)sprintf(printed + n, " %" PRIu32, given.numbers[i]);
+        found++;
+        tests += (long)given.counts[1];
+    } else {
+        must(memcmp(&given, &painted, sizeof given) == 0, "a refusal leaves every element");
+        print_answer(answer);
+        not_found++;
+    }
+    must_need(owner, &r, ranges_for(&r), answer);
+    must(memcmp(other, kept, sizeof kept) == 0, "the index stays");
+}
+
 /* ---- the stored cases */
 
 static bool take(FILE *from, char *to)
@@ -142,6 +251,8 @@ static void cases(FILE *lines, FILE *answers)
             if (strcmp(wanted, "refused 18") == 0)
                 continue; /* a word of archive's own */
             list(line[4] ? line + 5 : "");
+        } else if (strncmp(line, "frames", 6) == 0) {
+            frames();
         } else {
             sscanf(line, c.adds ? "add %" SCNu32 " %" SCNu32 " %" SCNd32 " %" SCNd32 " %" SCNd32 : "remove %" SCNu32 " %" SCNu32, &c.owner, &c.number, &c.x, &c.y, &c.z);
             change(c);
@@ -163,14 +274,43 @@ static uint64_t next(void)
     return state;
 }
 
-static void noise(void)
+/* Everything, a hemisphere, and a plane, of which all is to be tested. */
+static void make_regions(struct region *some)
+{
+    const int32_t K = 1048576, rows[3][10] = {{0, 0, 0, K, -K, 1, 0, 0, -K, -K}, {0, 0, 0, K, 0}, {0, 0, 0, K, 0, 0, 0, 0, -K, 0}};
+    const uint32_t depth[3] = {12, 2, 1};
+    for (int i = 0; i < 3; i++)
+        some[i].count = (size_t)htm_write(depth[i], 5, rows[i], i == 1 ? 5 : 10, some[i].bytes, sizeof some[i].bytes);
+}
+
+/* A list may have more entries of one owner than an index has. */
+static void frames_in_noise(const struct region *some, size_t elements, uint32_t owner)
+{
+    const struct region *r = &some[next() % 3];
+    struct lengths n = longer;
+    n.index = elements;
+    int64_t answer = frames_of(owner, r, n, &given);
+    must(answer == (owner < 2 ? elements < HTM_INDEX_LENGTH ? -10 : 0 : -18), "noise has frames, or is too short");
+    if (answer == 0)
+        must_be_frames(r);
+    else
+        must(memcmp(&given, &painted, sizeof given) == 0, "a refusal of noise leaves every element");
+    must(memcmp(other, kept, sizeof kept) == 0, "noise stays");
+}
+
+static void noise(const struct region *some)
 {
     static const int64_t counts[] = {0, 1, 2047, 2048, 2049, -1, INT64_MAX, INT64_MIN};
     for (int i = 0; i < ALL; i++)
         other[i] = next() % 2 ? (int64_t)next() : (int64_t)(next() % 8);
+    for (int i = 0; line_number % 4 == 0 && i < 2048; i++) { /* one in four has identifiers, all of one owner */
+        other[6 * i + 1] = (int64_t)(33554432 + next() % 33554432);
+        other[6 * i + 3] = 0;
+    }
     other[0] = counts[next() % 8];
     size_t elements = next() % 4 ? HTM_INDEX_LENGTH : next() % HTM_INDEX_LENGTH;
     memcpy(kept, other, sizeof kept);
+    frames_in_noise(some, elements, (uint32_t)(next() % 3));
     struct call c = {next() % 2, (uint32_t)(next() % 3), (uint32_t)(next() % 8), 0, 0, 1048576};
     int64_t answer = call(c, other, elements), count = htm_index_count(other, elements);
     must(answer == 0 || memcmp(kept, other, sizeof kept) == 0, "a refusal leaves a list of noise");
@@ -187,11 +327,15 @@ int main(int argc, char **argv)
         fprintf(stderr, "usage: index STDIN STDOUT\n");
         return 1;
     }
+    static struct region some[3];
+    memset(&painted, PAINT & 0xff, sizeof painted);
     cases(open(argv[1]), open(argv[2]));
     printf("htm_add, htm_remove %ld made, %ld refused; htm_index_entry %ld lists; %ld differences\n", made, refused, listed, differ);
+    printf("htm_frames %ld with %ld tests, %ld refused\n", found, tests, not_found);
     strcpy(line, "noise");
-    for (int i = 0; i < NOISE; i++)
-        noise();
+    make_regions(some);
+    for (line_number = 0; line_number < NOISE; line_number++)
+        noise(some);
     printf("%d lists of noise, %ld differences\n", NOISE, differ);
-    return differ || made == 0 || listed == 0;
+    return differ || made == 0 || listed == 0 || found == 0 || tests == 0;
 }

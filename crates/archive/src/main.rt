@@ -4,6 +4,8 @@
 //   remove OWNER NUMBER      one exposure less: ok, or refused N
 //   list OWNER               the owner's entries in their order, IDENTIFIER NUMBER OWNER X Y Z each, joined by `|`; `-` where there is none; or refused 18
 //   list                     those of both owners
+//   frames OWNER HEX         the owner's entries that a region holds: DELIVERED TESTS N1 N2 .., their count, how many of its entries were put to the point
+//                            test, and their numbers in the order of the entries; or refused N. HEX is a region file in hexadecimal digits, `-` an empty one
 //
 // The index begins empty. A line of another shape is answered `usage`. Words are parted by one blank; numbers are decimal, OWNER and NUMBER of 32 bits
 // without a sign, X Y Z with an optional minus. A line ends with a line feed; the last line may do without. A line of more than 65536 bytes is of another shape.

@@ -20,7 +20,7 @@ use Rattle.vector.proofs.VectorLaws.{Long}
 use Rattle.mesh.specs.declared.Trixel.{Trixel}
 use Rattle.mesh.specs.Trixels.{child, rootTrixel}
 use Rattle.mesh.specs.Lookup.{rootNumber, digit, descend, identifier}
-use Rattle.mesh.proofs.LookupLaws.{four-high, root-small, descend-high}
+use Rattle.mesh.proofs.LookupLaws.{four-low, four-high, root-small, descend-low, descend-high}
 use Rattle.mesh.proofs.Path.{Inside, root-inside, child-inside, digit-small}
 use Rattle.region.specs.Regions.{Region, holds}
 use Rattle.region.proofs.ReaderLaws.{read-depth}
@@ -54,9 +54,6 @@ full-stretch i q = ap natAbs (ring 2 (λ i q. (i :+ `1) :* q :≡ i :* q :+ q) r
 pub power : (n : ℕ) → 1 ≤ 4 ^ n
 power n = one-le-pow n 4 (lit< tt)
 
-four-low : (i n : ℕ) → i * 4 ^ suc n ≡ 4 * i * 4 ^ n
-four-low i n = ap (λ x. i * x) (pow-suc 4 n) ∙ ap natAbs (ring 2 (λ i q. i :* (q :* con (pos 4)) :≡ con (pos 4) :* i :* q) refl (pos i) (pos (4 ^ n)))
-
 one-range : (n i : ℕ) → Between (i * 4 ^ n) ((i + 1) * 4 ^ n) (descendants n i ∷ [])
 one-range n i =
     let e = full-stretch i (4 ^ n) in
@@ -73,16 +70,6 @@ in-range n i j l h = (0, (l, omega arith))
 nowhere : {X : Type 0} (j : ℕ) → Has [] j → X
 unfolding In
 nowhere j h = absurd (h .1)
-
--- ---- the descent
-
-descend-low : (p : Vec3) (n : ℕ) (t : Trixel) (i : ℕ) → i * 4 ^ n ≤ descend p n t i
-unfolding descend
-descend-low p zero t i = omega arith
-descend-low p (suc n) t i =
-    let e = four-low i n in
-    let m : 4 * i * 4 ^ n ≤ (4 * i + digit p t) * 4 ^ n = mul-le-mul-right (4 ^ n) (omega arith) in
-    omega (arith, descend-low p n (child (digit p t) t) (4 * i + digit p t))
 
 -- ---- what a visit finds, by the class
 

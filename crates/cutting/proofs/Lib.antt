@@ -1,3 +1,4 @@
 pub mod ContentsLaws
 pub mod CuttingLaws
 pub mod Examples
+pub mod ListedLaws

@@ -30,7 +30,7 @@ ghost use Rattle.cutting_walk.specs.Kept.{trixelIn, KeptTrixel};
 ghost use Rattle.mesh.specs.Trixels.{rootTrixel};
 
 // 4 to the power n.
-fn power(n: u32) -> u64
+pub fn power(n: u32) -> u64
     requires { ⌜ n ≤ 11 ⌝ }
     ensures { λ p. ⌜ p ≡ 4 ^ n ⌝ }
 {

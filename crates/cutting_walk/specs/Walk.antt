@@ -152,6 +152,7 @@ Covers xs es b depth before c after =
 pub record RowsOf (g : Region) (n : ℕ) (rs : List ℤ) : Type 0 where
   pub count : n ≡ total g
   pub most : n ≤ 512
+  pub some : 0 < length g
   pub few : length g ≤ 64
   pub good : good g ≡ true
   pub filled : Filled g

@@ -1,18 +1,16 @@
 -- The promise of the answers: demand 3 said of what the lookup, the point test and the cover answer, and of the lists that stand in the lent list
--- after the cover. The outer list is not over-written by the inner one, since it has at most the budget of ranges. Assumes nothing.
-use Prim.Native.Nat.{ℕ, _+_, _-_, _*_, _≤_}
-use native.Mathlib.Omega.{arith}
-use mathlib.Core.Path.{_≡_, refl, sym, ap, _∙_, subst, subst₂, subst₃}
+-- after the cover. Assumes nothing.
+use Prim.Native.Nat.{ℕ, _*_, _≤_}
+use mathlib.Core.Path.{_≡_, sym, ap, _∙_, subst, subst₂, subst₃}
 use mathlib.Core.Bool.{Bool, true}
-use mathlib.Core.List.{List, [], _∷_, _++_, append-assoc}
+use mathlib.Core.List.{List}
 use lib.Dec.{leb}
-use lib.ListN.{length, take, drop, length-append, length-drop}
-use lib.Seq.{take-append-add, drop-at, length-take-le}
+use lib.ListN.{length}
 use borrow.Author.Tests.{leb-true}
 use Rattle.answer.specs.declared.Number.{Number}
 use Rattle.answer.specs.Calls.{numberOf}
 use Rattle.answer.specs.Answer.{gives, check, Vector, Space}
-use Rattle.answer.specs.Lent.{put, room, stored}
+use Rattle.answer.specs.Lent.{room, stored}
 use Rattle.answer.proofs.AnswerLaws.{check-passed, check-gives, refused-gives, same-value, then-gives, value-gives}
 use Rattle.vector.specs.declared.Vec3.{Vec3}
 use Rattle.vector.specs.Vectors.{isVector}
@@ -20,57 +18,12 @@ use Rattle.region.specs.Regions.{holds}
 use Rattle.region.specs.Budgets.{budgetOf}
 use Rattle.region.specs.Reader.{File, read, Accepted}
 use Rattle.region.specs.Answers.{pointTest}
-use Rattle.ranges.specs.Ranges.{Range, pairs, rangesIn}
 use Rattle.cutting.specs.Cover.{cover, countsOf}
 use Rattle.cutting.specs.declared.Counts.{Counts}
+use Rattle.cutting.proofs.ListedLaws.{outer-back, inner-back}
 use Rattle.htm.specs.Answers.{coverInto, coverAnswer, bothLists, coverAfter, outerIn, innerIn}
 use Rattle.htm.specs.Promise.{Kept, PromiseOfAnswers, PromiseOfCalls}
 use Rattle.htm.proofs.PromiseKept.{promise-kept}
-
--- ---- pairs are read back as they were written
-
-length-pairs : (rs : List Range) → length (pairs rs) ≡ 2 * length rs
-unfolding pairs
-length-pairs [] = refl
-length-pairs (r ∷ rs) = omega (arith, length-pairs rs)
-
-read-back : (rs : List Range) (more : List ℕ) → rangesIn (length rs) (pairs rs ++ more) ≡ rs
-unfolding rangesIn pairs
-read-back [] more = refl
-read-back (r ∷ rs) more = ap (λ l. r ∷ l) (read-back rs more)
-
--- ---- two lists in one: xs at the beginning, ys from element k on
-
-module _ (k : ℕ) (xs ys before : List ℕ) (small : length xs ≤ k) (long : k ≤ length before) where
-  outer-part : put k ys (put 0 xs before) ≡ xs ++ (take (k - length xs) (drop (0 + length xs) before) ++ (ys ++ drop (k + length ys) (put 0 xs before)))
-  outer-part =
-      let e : k ≡ length xs + (k - length xs) = omega arith in
-      ap (λ n. take n (xs ++ drop (0 + length xs) before) ++ (ys ++ drop (k + length ys) (put 0 xs before))) e
-      ∙ ap (λ l. l ++ (ys ++ drop (k + length ys) (put 0 xs before))) (take-append-add xs (drop (0 + length xs) before) (k - length xs))
-      ∙ append-assoc xs (take (k - length xs) (drop (0 + length xs) before)) (ys ++ drop (k + length ys) (put 0 xs before))
-
-  inner-part : drop k (put k ys (put 0 xs before)) ≡ ys ++ drop (k + length ys) (put 0 xs before)
-  inner-part = drop-at (take k (put 0 xs before)) (ys ++ drop (k + length ys) (put 0 xs before)) k
-      (length-take-le k (put 0 xs before) (omega (arith, length-append xs (drop (0 + length xs) before), length-drop (0 + length xs) before)))
-
--- ---- the cover's lent list
-
-module _ (x : File) (before : List ℕ) (space : 4 * budgetOf (x .budget) ≤ length before) (small : length (cover x .outer) ≤ budgetOf (x .budget)) where
-  few : length (pairs (cover x .outer)) ≤ 2 * budgetOf (x .budget)
-  few = omega (arith, length-pairs (cover x .outer))
-
-  half : 2 * budgetOf (x .budget) ≤ length before
-  half = omega arith
-
-  pub outer-back : outerIn (countsOf (cover x)) (bothLists x before) ≡ cover x .outer
-  outer-back =
-      ap (rangesIn (length (cover x .outer))) (outer-part (2 * budgetOf (x .budget)) (pairs (cover x .outer)) (pairs (cover x .inner)) before few half)
-      ∙ read-back (cover x .outer) _
-
-  inner-back : innerIn (budgetOf (x .budget)) (countsOf (cover x)) (bothLists x before) ≡ cover x .inner
-  inner-back =
-      ap (rangesIn (length (cover x .inner))) (inner-part (2 * budgetOf (x .budget)) (pairs (cover x .outer)) (pairs (cover x .inner)) before few half)
-      ∙ read-back (cover x .inner) _
 
 -- ---- the three answers
 
@@ -119,7 +72,7 @@ answers-kept p f before c h cov tst =
     let k = promise-kept p f x (t .0) (v .accepted) in
     let few = k .2 .outer-list .few in
     let lists : Kept (k .0) (outerIn (countsOf (cover x)) (bothLists x before)) (innerIn B (countsOf (cover x)) (bothLists x before)) B (holds (x .region) p) =
-    subst₂ (λ o n. Kept (k .0) o n B (holds (x .region) p)) (sym (outer-back x before (v .space) few)) (sym (inner-back x before (v .space) few)) (k .2) in (
+    subst₂ (λ o n. Kept (k .0) o n B (holds (x .region) p)) (sym (outer-back B (cover x) before (v .space) few)) (sym (inner-back B (cover x) before (v .space) few)) (k .2) in (
       x,
       v .accepted,
       k .0,

@@ -9,7 +9,8 @@ use Rattle.cutting.specs.Cover.{cutting, cover, coverOf, countsOf}
 use Rattle.cutting.proofs.ContentsLaws.{full-contains, accepted-contains, outer-contains}
 use Rattle.htm.specs.Answers.{bothLists, outerIn}
 use Rattle.htm.specs.Counted.{Contents, Counted, CountedOfAnswers}
-use Rattle.htm.proofs.AnswersKept.{covered, outer-back}
+use Rattle.cutting.proofs.ListedLaws.{outer-back}
+use Rattle.htm.proofs.AnswersKept.{covered}
 
 -- of any depth, budget and region
 contents : (d b : ℕ) (g : Region) → Contents (cutting d g) (coverOf d b g .outer) (countsOf (coverOf d b g))
@@ -31,5 +32,5 @@ answers-counted f before c e =
     let few = outer-few (budgetOf (x .budget)) (budget-one (x .budget)) (cutting (x .depth) (x .region) .accepted) in
     let found = cutting (x .depth) (x .region) in
     let lists : Contents found (outerIn (countsOf (cover x)) (bothLists x before)) (countsOf (cover x)) =
-    subst (λ o. Contents found o (countsOf (cover x))) (sym (outer-back x before (v .space) few)) (contents (x .depth) (x .budget) (x .region)) in
+    subst (λ o. Contents found o (countsOf (cover x))) (sym (outer-back (budgetOf (x .budget)) (cover x) before (v .space) few)) (contents (x .depth) (x .budget) (x .region)) in
     (x, v .accepted, subst₂ (λ y l. Contents found (outerIn y l) y) (v .counts) (v .lists) lists)

@@ -8,3 +8,5 @@ pub mod PromiseKept
 pub mod Refusals
 pub mod Starred
 pub mod TightestKept
+pub mod FramesCLaws
+pub mod FramesKept

@@ -8,6 +8,7 @@ use Rattle.region.specs.Regions.{Region, holds}
 use Rattle.region.specs.Budgets.{budgetOf}
 use Rattle.region.proofs.BudgetLaws.{budget-one}
 use Rattle.region.proofs.ReaderLaws.{read-depth}
+use Rattle.ranges.specs.Ranges.{Proper}
 use Rattle.ranges.specs.Lists.{outerOf, innerOf}
 use Rattle.ranges.proofs.Sound.{Has, outer-few, inner-few, inner-only, outer-separate, inner-separate, outer-all}
 use Rattle.ranges.proofs.ListLaws.{some-has, in-exactly-one, separate-proper}
@@ -15,7 +16,21 @@ use Rattle.cutting.specs.Cover.{cutting, coverOf}
 use Rattle.htm.specs.Promise.{Kept, Promise}
 use Rattle.cutting.proofs.CuttingLaws.{accepted-ascends, full-ascends, cutting-accepts, cutting-holds}
 
--- of any depth, budget and region
+-- ---- of any depth, budget and region
+
+-- both lists ascend, leave gaps and keep to the budget
+pub outer-proper : (d b : ℕ) (g : Region) → Proper (budgetOf b) (coverOf d b g .outer)
+unfolding coverOf
+outer-proper d b g =
+    let A = cutting d g .accepted in
+    separate-proper (budgetOf b) (outerOf (budgetOf b) A) (outer-separate (budgetOf b) (budget-one b) A (accepted-ascends g d)) (outer-few (budgetOf b) (budget-one b) A)
+
+pub inner-proper : (d b : ℕ) (g : Region) → Proper (budgetOf b) (coverOf d b g .inner)
+unfolding coverOf
+inner-proper d b g =
+    let F = cutting d g .full in
+    separate-proper (budgetOf b) (innerOf (budgetOf b) F) (inner-separate (budgetOf b) (budget-one b) F (full-ascends g d)) (inner-few (budgetOf b) (budget-one b) F)
+
 pub kept : (d b : ℕ) (g : Region) (p : Vec3) → Long p → Kept (identifier p d) (coverOf d b g .outer) (coverOf d b g .inner) (budgetOf b) (holds g p)
 unfolding coverOf
 kept d b g p l =
@@ -25,7 +40,6 @@ kept d b g p l =
     let A = cutting d g .accepted in
     let F = cutting d g .full in
     let up = accepted-ascends g d in
-    let fup = full-ascends g d in
     record {
       inner-held = λ e.
           let h : Has (innerOf B F) i = some-has i (innerOf B F) e in
@@ -34,8 +48,8 @@ kept d b g p l =
           let a = cutting-accepts g d p l e in
           let h : Has (outerOf B A) i = outer-all B one A up (a .0) i (a .1) in
           in-exactly-one i (outerOf B A) (h .0) (outer-separate B one A up) (h .1);
-      outer-list = separate-proper B (outerOf B A) (outer-separate B one A up) (outer-few B one A);
-      inner-list = separate-proper B (innerOf B F) (inner-separate B one F fup) (inner-few B one F);
+      outer-list = outer-proper d b g;
+      inner-list = inner-proper d b g;
     }
 
 pub promise-kept : Promise

@@ -1,23 +1,45 @@
 -- Number 10 comes last, and a refusal changes no lent element: an answer with its room is the answer's refusal where it has one, and what is stored
 -- for a refusal is the list as it was. Assumes nothing.
-use mathlib.Core.Path.{ap}
+use Prim.Native.Nat.{ℕ, _*_}
+use mathlib.Core.Path.{_≡_, refl, ap, _∙_}
+use mathlib.Core.Bool.{Bool, true, false}
+use mathlib.Core.List.{List}
+use lib.Dec.{leb}
 use lib.ListN.{length}
+use lib.IntN.{ℤ}
+use Rattle.answer.specs.Answer.{Answer, refused, gives, check, then, with-value, Space, Owner}
 use Rattle.answer.specs.Lent.{put, stored}
 use Rattle.answer.proofs.LentLaws.{first-refusal, not-stored}
 use Rattle.mesh.specs.Answers.{nameInto, nameAnswer, nameAfter}
+use Rattle.region.specs.Budgets.{budgetOf}
+use Rattle.region.specs.Reader.{File, read}
 use Rattle.region.specs.Writer.{writeIn}
 use Rattle.region.specs.Converting.{convert}
 use Rattle.region.specs.Answers.{headerOf, rowsInto, readInto, readAnswer, readAfter, fileInto, fileAnswer, fileAfter}
 use Rattle.region.proofs.ConvertLaws.{refusal-stays}
 use Rattle.cutting.specs.Cover.{cover, countsOf, counted, countsList}
 use Rattle.index.specs.Entries.{numbers, keeping}
-use Rattle.index.specs.Answers.{beginning, adding, removing, beginAnswer, beginAfter, addAnswer, addAfter, removeAnswer, removeAfter}
+use Rattle.index.specs.Exposures.{Share, isOwner}
+use Rattle.index.specs.Answers.{inList, beginning, adding, removing, beginAnswer, beginAfter, addAnswer, addAfter, removeAnswer, removeAfter}
+use Rattle.frames.specs.declared.Frames.{Frames}
+use Rattle.frames.specs.Walk.{deliveredBy}
+use Rattle.frames.specs.Answers.{framesInto, walkOf, framesBy, framesList, framesAnswer, rangesAfter, numbersAfter}
 use Rattle.htm.specs.Answers.{coverInto, coverAnswer, bothLists, coverAfter}
-use Rattle.htm.specs.CalledFromC.{entryAfterC, cornersList, cornersForC, cornersAfterC, inBoth, headerList, readForC, rowsAfterC, headerAfterC, coverForC, coverAfterC, countsAfterC}
+use Rattle.htm.specs.CalledFromC.{entryAfterC, cornersList, cornersForC, cornersAfterC, inBoth, headerList, readForC, rowsAfterC, headerAfterC, coverForC, coverAfterC, countsAfterC, framesIntoC, framesForC, rangesAfterC, numbersAfterC, framesAfterC}
 use Rattle.htm.specs.Refusals.{SpaceLast, LentListsStay}
 
+-- the owner's refusal, or the file's, is that of what comes behind both
+check-then : {A B : Type 0} (t : Bool) (a : Answer A) (f : A → Answer B) → check Owner t (then a f) ≡ then (check Owner t a) f
+check-then true a f = refl
+check-then false a f = refl
+
+frames-refused : (o : ℕ) (l : List ℤ) (f ranges numbers : List ℕ) (n : ℕ) → check Owner (isOwner o) (read f) ≡ refused n → framesInto o l f ranges numbers ≡ refused n
+frames-refused o l f ranges numbers n e =
+    let rest : File → Answer File = λ x. check Space (leb (4 * budgetOf (x .budget)) (length ranges)) (check Space (leb Share (length numbers)) (inList l (gives x))) in
+    check-then (isOwner o) (read f) rest ∙ ap (λ a. then a rest) e
+
 pub space-last : SpaceLast
-unfolding nameAnswer readAnswer fileAnswer coverAnswer cornersForC readForC coverForC
+unfolding nameAnswer readAnswer fileAnswer coverAnswer cornersForC readForC coverForC framesAnswer framesForC
 space-last = (
   λ i n before. first-refusal length _ _ n,
   λ f n before. first-refusal headerOf _ _ n,
@@ -27,10 +49,12 @@ space-last = (
   λ i n out e. rw e,
   λ f n rows header e. rw e,
   λ f n out counts e. rw e,
+  λ o n l f ranges numbers e. ap (with-value (λ x. framesBy (walkOf o l x))) (frames-refused o l f ranges numbers n e),
+  λ o n l f ranges numbers counts e. first-refusal (λ x. framesBy (walkOf o l x)) (framesInto o l f ranges numbers) _ n (frames-refused o l f ranges numbers n e),
 )
 
 pub lent-lists-stay : LentListsStay
-unfolding beginAnswer beginAfter addAnswer addAfter removeAnswer removeAfter entryAfterC nameAnswer nameAfter readAnswer readAfter fileAnswer fileAfter coverAnswer coverAfter cornersAfterC readForC rowsAfterC headerAfterC coverForC coverAfterC countsAfterC
+unfolding framesAnswer rangesAfter numbersAfter framesForC rangesAfterC numbersAfterC framesAfterC beginAnswer beginAfter addAnswer addAfter removeAnswer removeAfter entryAfterC nameAnswer nameAfter readAnswer readAfter fileAnswer fileAfter coverAnswer coverAfter cornersAfterC readForC rowsAfterC headerAfterC coverForC coverAfterC countsAfterC
 lent-lists-stay = (
   λ i n before. not-stored length (put 0) (nameInto i before) before n,
   λ f n before. not-stored headerOf rowsInto (readInto f before) before n,
@@ -44,4 +68,15 @@ lent-lists-stay = (
   λ x n l. not-stored (λ _. tt) keeping (adding x l) l n,
   λ k n l. not-stored (λ _. tt) keeping (removing k l) l n,
   λ i n l out. ap (λ a. stored (λ e before. put 0 (numbers e) before) a out),
+  λ o n l f ranges numbers e.
+      let a = framesInto o l f ranges numbers in
+      let v : File → Frames = λ x. framesBy (walkOf o l x) in
+      (not-stored v bothLists a ranges n e, not-stored v (λ x before. put 0 (deliveredBy (walkOf o l x)) before) a numbers n e),
+  λ o n l f ranges numbers counts e.
+      let a = framesIntoC o l f ranges numbers counts in
+      let v : File → Frames = λ x. framesBy (walkOf o l x) in (
+        not-stored v bothLists a ranges n e,
+        not-stored v (λ x before. put 0 (deliveredBy (walkOf o l x)) before) a numbers n e,
+        ap (λ b. stored (λ r before. put 0 (framesList r) before) b counts) e,
+      ),
 )

@@ -24,7 +24,8 @@ use Rattle.cutting.specs.Cover.{cutting, cover, coverOf, countsOf}
 use Rattle.cutting.proofs.CuttingLaws.{Which, cutting-between}
 use Rattle.htm.specs.Answers.{bothLists, outerIn}
 use Rattle.htm.specs.Tightest.{TightestFor, TightestOf, Tightest, TightestOfAnswers, TightestOfCalls}
-use Rattle.htm.proofs.AnswersKept.{covered, outer-back}
+use Rattle.cutting.proofs.ListedLaws.{outer-back}
+use Rattle.htm.proofs.AnswersKept.{covered}
 
 -- of any depth from 1 on, budget and region
 module _ (d b : ℕ) (g : Region) (deep : 1 ≤ d) where
@@ -73,7 +74,7 @@ tightest-answers f before c e =
     let x = v .file in
     let t = tightest-kept f x (v .accepted) in
     let list : TightestOf x (outerIn (countsOf (cover x)) (bothLists x before)) =
-    subst (TightestOf x) (sym (outer-back x before (v .space) (t .feasible .few))) t in
+    subst (TightestOf x) (sym (outer-back (budgetOf (x .budget)) (cover x) before (v .space) (t .feasible .few))) t in
     (x, v .accepted, subst₂ (λ y l. TightestOf x (outerIn y l)) (v .counts) (v .lists) list)
 
 pub tightest-calls : TightestOfCalls

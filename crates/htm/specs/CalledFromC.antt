@@ -1,5 +1,5 @@
 -- The calls for a host in C: a number instead of an answer. Document 01, 'What is sent back', 'Regions' and 'The two lists';
--- document 02, F-10 and F-11.
+-- document 02, F-10 to F-12.
 -- A refusal is minus its number, and comes before any list is written. The lookup and the identifier of a name give 0 instead: `entry`, `orZero` (Answers).
 --   numberForC a         the number that is asked for, or minus the number of the refusal: the lengths of `nameAnswer` (mesh) and `writeAnswer` (region),
 --                        the identifiers of `lookupReport` and `locateLine` (Answers)
@@ -11,6 +11,8 @@
 --   readForC, rowsAfterC, headerAfterC     the reader's header; the lent list and the header's afterwards: count, depth, budget
 --   coverForC, coverAfterC, countsAfterC   the cover's counts; the lent list and the list of counts afterwards (`countsList`)
 --   entryForC i l out, entryAfterC         the entry at place i of the index l, or the refusal, then 10; the lent list afterwards (`numbers`)
+--   framesForC .., rangesAfterC, numbersAfterC, framesAfterC   the counts of the frames delivered and of the tests; the range list, the list of numbers
+--                        and the list of counts afterwards
 -- The other calls on an index answer `statusOf` and `numberForC` of what its calls answer (index/specs/Answers).
 use Prim.Native.Nat.{ℕ}
 use mathlib.Core.Bool.{Bool, cond}
@@ -29,6 +31,10 @@ use Rattle.cutting.specs.Cover.{cover, countsOf, counted, countsList}
 use Rattle.index.specs.declared.Entry.{Entry}
 use Rattle.index.specs.Entries.{Width, numbers}
 use Rattle.index.specs.Answers.{entryAnswer}
+use Rattle.frames.specs.declared.Frames.{Frames}
+use Rattle.frames.specs.Walk.{deliveredBy}
+use Rattle.frames.specs.Answers.{framesInto, walkOf, framesBy, framesList}
+use Rattle.frames.specs.Answers as frames
 use Rattle.htm.specs.Answers.{coverInto, bothLists}
 
 -- ---- answers as numbers
@@ -92,3 +98,20 @@ coverAfterC f out counts = stored bothLists (inBoth counted (coverInto f out) co
 
 unfoldable pub countsAfterC : List ℕ → List ℕ → List ℕ → List ℕ
 countsAfterC f out counts = stored (λ c before. put 0 (countsList c) before) (coverForC f out counts) counts
+
+-- ---- the frames of a region, with three lent lists
+
+abbrev pub framesIntoC : ℕ → List ℤ → List ℕ → List ℕ → List ℕ → List ℕ → Answer File
+framesIntoC o l f ranges numbers counts = inBoth frames.counted (framesInto o l f ranges numbers) counts
+
+unfoldable pub framesForC : ℕ → List ℤ → List ℕ → List ℕ → List ℕ → List ℕ → Answer Frames
+framesForC o l f ranges numbers counts = with-value (λ x. framesBy (walkOf o l x)) (framesIntoC o l f ranges numbers counts)
+
+unfoldable pub rangesAfterC : ℕ → List ℤ → List ℕ → List ℕ → List ℕ → List ℕ → List ℕ
+rangesAfterC o l f ranges numbers counts = stored bothLists (framesIntoC o l f ranges numbers counts) ranges
+
+unfoldable pub numbersAfterC : ℕ → List ℤ → List ℕ → List ℕ → List ℕ → List ℕ → List ℕ
+numbersAfterC o l f ranges numbers counts = stored (λ x before. put 0 (deliveredBy (walkOf o l x)) before) (framesIntoC o l f ranges numbers counts) numbers
+
+unfoldable pub framesAfterC : ℕ → List ℤ → List ℕ → List ℕ → List ℕ → List ℕ → List ℕ
+framesAfterC o l f ranges numbers counts = stored (λ r before. put 0 (framesList r) before) (framesForC o l f ranges numbers counts) counts

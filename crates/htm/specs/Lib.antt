@@ -6,3 +6,4 @@ pub mod Promise
 pub mod Counted
 pub mod EitherForm
 pub mod Tightest
+pub mod Frames

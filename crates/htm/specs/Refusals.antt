@@ -2,14 +2,15 @@
 -- Statements; they are proved in proofs/Refusals. The calls that write into a lent list are the name, the reader, the two writers (`writeIn`), the two
 -- conversions (`convert`) and the cover; for C also the corners, and the reader and the cover with a second list. (The calls for C that answer a length have
 -- the rules of the others.)
--- Those that write into an index are begin, add and remove; there 10 says that the list is no index, and comes before what is asked of one.
+-- Those that write into an index are begin, add and remove; there 10 says that the list is no index, and comes before what is asked of one. The frames of a
+-- region write into two lists, for C into three; there 10 comes after the owner and the file.
 --   SpaceLast     what is refused for another reason keeps its number, whatever list is lent
 --   LentListsStay where a call refuses, every lent list is as it was
 use Prim.Native.Nat.{ℕ}
 use mathlib.Core.Path.{_≡_}
 use mathlib.Core.List.{List}
 use lib.IntN.{ℤ}
-use Rattle.answer.specs.Answer.{refused}
+use Rattle.answer.specs.Answer.{refused, check, Owner}
 use Rattle.mesh.specs.Identifiers.{corners}
 use Rattle.mesh.specs.Names.{nameOf}
 use Rattle.mesh.specs.Answers.{nameAnswer, nameAfter}
@@ -18,10 +19,11 @@ use Rattle.region.specs.declared.Style.{Style}
 use Rattle.region.specs.Writer.{writeIn}
 use Rattle.region.specs.Converting.{convert}
 use Rattle.region.specs.Answers.{readAnswer, readAfter, fileAnswer, fileAfter}
-use Rattle.index.specs.Exposures.{Exposure, Key}
+use Rattle.index.specs.Exposures.{isOwner, Exposure, Key}
 use Rattle.index.specs.Answers.{beginAnswer, beginAfter, addAnswer, addAfter, removeAnswer, removeAfter}
+use Rattle.frames.specs.Answers.{framesAnswer, rangesAfter, numbersAfter}
 use Rattle.htm.specs.Answers.{coverAnswer, coverAfter}
-use Rattle.htm.specs.CalledFromC.{entryForC, entryAfterC, cornersForC, cornersAfterC, readForC, rowsAfterC, headerAfterC, coverForC, coverAfterC, countsAfterC}
+use Rattle.htm.specs.CalledFromC.{entryForC, entryAfterC, cornersForC, cornersAfterC, readForC, rowsAfterC, headerAfterC, coverForC, coverAfterC, countsAfterC, framesForC, rangesAfterC, numbersAfterC, framesAfterC}
 
 abbrev pub SpaceLast : Type 0
 SpaceLast =
@@ -33,6 +35,9 @@ SpaceLast =
     × ((i n : ℕ) (out : List ℤ) → corners i ≡ refused n → cornersForC i out ≡ refused n)
     × ((f : List ℕ) (n : ℕ) (rows : List ℤ) (header : List ℕ) → read f ≡ refused n → readForC f rows header ≡ refused n)
     × ((f : List ℕ) (n : ℕ) (out counts : List ℕ) → read f ≡ refused n → coverForC f out counts ≡ refused n)
+    × ((o n : ℕ) (l : List ℤ) (f ranges numbers : List ℕ) → check Owner (isOwner o) (read f) ≡ refused n → framesAnswer o l f ranges numbers ≡ refused n)
+    × ((o n : ℕ) (l : List ℤ) (f ranges numbers counts : List ℕ) → check Owner (isOwner o) (read f) ≡ refused n
+    → framesForC o l f ranges numbers counts ≡ refused n)
 
 abbrev pub LentListsStay : Type 0
 LentListsStay =
@@ -49,3 +54,8 @@ LentListsStay =
     × ((x : Exposure) (n : ℕ) (l : List ℤ) → addAnswer x l ≡ refused n → addAfter x l ≡ l)
     × ((k : Key) (n : ℕ) (l : List ℤ) → removeAnswer k l ≡ refused n → removeAfter k l ≡ l)
     × ((i n : ℕ) (l out : List ℤ) → entryForC i l out ≡ refused n → entryAfterC i l out ≡ out)
+    × ((o n : ℕ) (l : List ℤ) (f ranges numbers : List ℕ) → framesAnswer o l f ranges numbers ≡ refused n
+    → (rangesAfter o l f ranges numbers ≡ ranges) × (numbersAfter o l f ranges numbers ≡ numbers))
+    × ((o n : ℕ) (l : List ℤ) (f ranges numbers counts : List ℕ) → framesForC o l f ranges numbers counts ≡ refused n
+    → (rangesAfterC o l f ranges numbers counts ≡ ranges) × (numbersAfterC o l f ranges numbers counts ≡ numbers)
+    × (framesAfterC o l f ranges numbers counts ≡ counts))

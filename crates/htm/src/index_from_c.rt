@@ -2,12 +2,14 @@
 // A list is passed as a pointer and its number of elements: include/htm.h.
 use crate::to_c;
 use answer::SPACE;
+use frames::COUNTED;
+use frames::FramesOf;
 use index::EntryOf;
 use index::WIDTH;
 ghost use mathlib.Core.Path.{_≡_};
 ghost use Rattle.index.specs.Exposures.{key, exposure};
 ghost use Rattle.index.specs.Answers.{beginAnswer, beginAfter, addAnswer, addAfter, removeAnswer, removeAfter, countAnswer};
-ghost use Rattle.htm.specs.CalledFromC.{numberForC, statusOf, entryForC, entryAfterC};
+ghost use Rattle.htm.specs.CalledFromC.{numberForC, statusOf, entryForC, entryAfterC, framesForC, rangesAfterC, numbersAfterC, framesAfterC};
 
 // Makes a list an empty index: 0, or minus the number of the refusal.
 #[no_mangle]
@@ -60,5 +62,34 @@ pub extern "C" fn htm_index_entry(index: &[i64], place: u32, out: &mut [i64]) ->
             0
         }
         EntryOf::Refused(n) => to_c::minus(n),
+    }
+}
+
+// The frames of a region: the numbers delivered, from element 0 of `numbers` on, the cover's lists in `ranges`, and the counts of the numbers and of the tests
+// at the beginning of `counts`: 0, or minus the number of the refusal, 10 also where `counts` has fewer elements.
+#[no_mangle]
+pub extern "C" fn htm_frames(
+    index: &[i64],
+    owner: u32,
+    file: &[u8],
+    ranges: &mut [u64],
+    numbers: &mut [u32],
+    counts: &mut [u64],
+) -> i64
+    ensures { λ r. ⌜ r ≡ statusOf (framesForC owner (now (index .entry)) (now (file .entry)) (now (ranges .entry)) (now (numbers .entry)) (now (counts .entry))) ⌝ }
+    ensures { λ r. ⌜ now (ranges .exit) ≡ rangesAfterC owner (now (index .entry)) (now (file .entry)) (now (ranges .entry)) (now (numbers .entry)) (now (counts .entry)) ⌝ }
+    ensures { λ r. ⌜ now (numbers .exit) ≡ numbersAfterC owner (now (index .entry)) (now (file .entry)) (now (ranges .entry)) (now (numbers .entry)) (now (counts .entry)) ⌝ }
+    ensures { λ r. ⌜ now (counts .exit) ≡ framesAfterC owner (now (index .entry)) (now (file .entry)) (now (ranges .entry)) (now (numbers .entry)) (now (counts .entry)) ⌝ }
+{
+    if counts.len() < COUNTED {
+        return to_c::owner_without_room(owner, file);
+    }
+    let answer = crate::frames(index, owner, file, ranges, numbers);
+    match answer {
+        FramesOf::Gives(r) => {
+            frames_calls::put_frames(counts, r);
+            0
+        }
+        FramesOf::Refused(n) => to_c::minus(n),
     }
 }

@@ -4,6 +4,7 @@ use answer::DEPTH;
 use answer::Number;
 use answer::SPACE;
 use cutting::Counts;
+use frames::FramesOf;
 use index::Change;
 use index::EntryOf;
 use limits::HALFSPACES;
@@ -28,6 +29,7 @@ ghost use Rattle.region.specs.Answers.{headerGiven, readAnswer, readAfter, file
 ghost use Rattle.index.specs.Exposures.{key, exposure};
 ghost use Rattle.index.specs.Answers.{beginAnswer, beginAfter, addAnswer, addAfter, removeAnswer, removeAfter, countAnswer, entryAnswer};
 ghost use Rattle.index.specs.Answers.{changeGiven, entryGiven};
+ghost use Rattle.frames.specs.Answers.{framesGiven, framesAnswer, rangesAfter, numbersAfter};
 ghost use Rattle.htm.specs.Answers as answers;
 ghost use Rattle.htm.specs.Answers.{lookupReport, locateLine, coverGiven, coverAnswer, coverAfter};
 
@@ -212,4 +214,21 @@ pub fn index_entry(index: &[i64], place: u32) -> EntryOf
     ensures { λ r. ⌜ entryGiven r ≡ entryAnswer place (now (index .entry)) ⌝ }
 {
     index_calls::entry(index, place)
+}
+
+// All frames of a region in a single pass: the numbers of an owner's entries which the region of a file holds, in index order, from element 0 of `numbers`
+// on, with how many they are and how many point tests were made; `ranges` ends as `cover` leaves it. Refusals 18, the file's, then 10 where `ranges` has fewer
+// than 4 × budget elements, `numbers` fewer than index::SHARE, or `index` fewer than index::LEAST.
+pub fn frames(
+    index: &[i64],
+    owner: u32,
+    file: &[u8],
+    ranges: &mut [u64],
+    numbers: &mut [u32],
+) -> FramesOf
+    ensures { λ r. ⌜ framesGiven r ≡ framesAnswer owner (now (index .entry)) (now (file .entry)) (now (ranges .entry)) (now (numbers .entry)) ⌝ }
+    ensures { λ r. ⌜ now (ranges .exit) ≡ rangesAfter owner (now (index .entry)) (now (file .entry)) (now (ranges .entry)) (now (numbers .entry)) ⌝ }
+    ensures { λ r. ⌜ now (numbers .exit) ≡ numbersAfter owner (now (index .entry)) (now (file .entry)) (now (ranges .entry)) (now (numbers .entry)) ⌝ }
+{
+    frames_calls::frames(index, owner, file, ranges, numbers)
 }

@@ -1,7 +1,9 @@
 // What the calls for C are made of: answers as numbers, and values in lent lists. None of it is exported, so each may ask something of its callers.
 use answer::Number;
+use answer::OWNER;
 use answer::SPACE;
 use index::Change;
+use index::OWNERS;
 use limits::HALFSPACES;
 use mesh::Corners;
 use region::Header;
@@ -12,12 +14,13 @@ ghost use Prim.Native.Nat.{ℕ, _+_, _^_, _≤_};
 ghost use lib.ListN.{length};
 ghost use lib.IntN.{pos, negℤ};
 ghost use Rattle.algebra.proofs.Sizes.{Upto};
-ghost use Rattle.answer.specs.Answer.{gives};
+ghost use Rattle.answer.specs.Answer.{gives, check, Owner};
 ghost use Rattle.answer.specs.Calls.{numberOf};
 ghost use Rattle.answer.specs.Lent.{put};
 ghost use Rattle.vector.specs.Vectors.{three};
 ghost use Rattle.vector.proofs.Sizes.{Small};
 ghost use Rattle.mesh_trixels.specs.Corners.{SmallCorners};
+ghost use Rattle.index.specs.Exposures.{isOwner};
 ghost use Rattle.index.specs.Answers.{changeGiven};
 ghost use Rattle.htm.specs.Answers.{orZero};
 ghost use Rattle.htm.specs.CalledFromC.{numberForC, statusOf, cornersList, refusalOf, headerList};
@@ -102,4 +105,14 @@ pub(crate) fn put_header(header: &mut [u64], h: Header)
     header[0] = h.count as u64;
     header[1] = h.depth as u64;
     header[2] = h.budget as u64;
+}
+
+// The refusal of an owner and a file for which a lent list is too short: 18, the file's own, or 10.
+pub(crate) fn owner_without_room(owner: u32, file: &[u8]) -> i64
+    ensures { λ r. ⌜ (r ≡ statusOf (check Owner (isOwner owner) (refusalOf (now (file .entry))))) × Upto (2 ^ 32) r ⌝ }
+{
+    if OWNERS <= owner {
+        return minus(OWNER);
+    }
+    without_room(file)
 }

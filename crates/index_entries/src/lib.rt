@@ -41,7 +41,7 @@ fn precedes(a: Entry, b: Entry) -> bool
 }
 
 // Whether an entry is one of this owner.
-fn is_owned(e: Entry, owner: u32) -> bool
+pub fn is_owned(e: Entry, owner: u32) -> bool
     ensures { λ t. ⌜ t ≡ isOwned owner e ⌝ }
 {
     e.owner == owner as i64

@@ -1,7 +1,7 @@
--- Identifiers that the lookup gives: each step of the descent adds a digit, so what lies n levels below i is under (i + 1) times 4^n, and an identifier to
--- depth 12 is below 2^26. What is looked up is a vector, at a depth from 1 to 12. Assumes nothing.
-use Prim.Native.Nat.{ℕ, zero, suc, _+_, _-_, _*_, _^_, _≤_, _<_}
-use native.Mathlib.Nat.{pow-suc, pow-le-pow-right, mul-le-mul, mul-le-mul-right}
+-- Identifiers that the lookup gives: each step of the descent adds a digit, so what lies n levels below i is from i times 4^n to under (i + 1) times 4^n, an
+-- identifier divided by 4^n is the one n levels above, and an identifier to depth 12 is below 2^26. What is looked up is a vector, at a depth from 1 to 12. Assumes nothing.
+use Prim.Native.Nat.{ℕ, zero, suc, _+_, _-_, _*_, _/_, _^_, _≤_, _<_}
+use native.Mathlib.Nat.{pow-suc, pow-le-pow-right, mul-le-mul, mul-le-mul-right, div-eq-of-lt-le}
 use native.Mathlib.Omega.{arith}
 use mathlib.Core.Path.{_≡_, refl, ap, _∙_}
 use mathlib.Core.Bool.{Bool, true, false, cond}
@@ -22,6 +22,9 @@ use Rattle.mesh.specs.Lookup.{notNegative, northRoot, southRoot, rootNum
 use Rattle.mesh.proofs.Path.{digit-small}
 
 -- ---- the digits and the descent
+
+pub four-low : (i n : ℕ) → i * 4 ^ suc n ≡ 4 * i * 4 ^ n
+four-low i n = ap (λ x. i * x) (pow-suc 4 n) ∙ ap natAbs (ring 2 (λ i q. i :* (q :* con (pos 4)) :≡ con (pos 4) :* i :* q) refl (pos i) (pos (4 ^ n)))
 
 pub four-high : (i n : ℕ) → (i + 1) * 4 ^ suc n ≡ (4 * i + 4) * 4 ^ n
 four-high i n = ap (λ x. (i + 1) * x) (pow-suc 4 n) ∙ ap natAbs (ring 2 (λ i q. (i :+ `1) :* (q :* con (pos 4)) :≡ (con (pos 4) :* i :+ con (pos 4)) :* q) refl (pos i) (pos (4 ^ n)))
@@ -48,6 +51,35 @@ descend-high p (suc n) t i =
     let d = digit-small p t in
     let m : (4 * i + digit p t + 1) * 4 ^ n ≤ (4 * i + 4) * 4 ^ n = mul-le-mul-right (4 ^ n) (omega arith) in
     omega (arith, descend-high p n (child (digit p t) t) (4 * i + digit p t))
+
+pub descend-low : (p : Vec3) (n : ℕ) (t : Trixel) (i : ℕ) → i * 4 ^ n ≤ descend p n t i
+unfolding descend
+descend-low p zero t i = omega arith
+descend-low p (suc n) t i =
+    let e = four-low i n in
+    let m : 4 * i * 4 ^ n ≤ (4 * i + digit p t) * 4 ^ n = mul-le-mul-right (4 ^ n) (omega arith) in
+    omega (arith, descend-low p n (child (digit p t) t) (4 * i + digit p t))
+
+-- n levels and then m more: below the trixel that the first n lead to
+descend-more : (p : Vec3) (n m : ℕ) (t : Trixel) (i : ℕ) → (s : Trixel) × (descend p (n + m) t i ≡ descend p m s (descend p n t i))
+unfolding descend
+descend-more p zero m t i = let e : 0 + m ≡ m = omega arith in (t, ap (λ k. descend p k t i) e)
+descend-more p (suc n) m t i =
+    let e : suc n + m ≡ suc (n + m) = omega arith in
+    let r = descend-more p n m (child (digit p t) t) (4 * i + digit p t) in
+    (r .0, ap (λ k. descend p k t i) e ∙ r .1)
+
+-- the identifier at a lesser depth: the one at depth 12 without its last digits
+pub shorter : (p : Vec3) (d : ℕ) → 1 ≤ d → d ≤ 12 → identifier p 12 / 4 ^ (12 - d) ≡ identifier p d
+unfolding identifier
+shorter p d l h =
+    let t = rootTrixel (rootNumber p) in
+    let i = 8 + rootNumber p in
+    let j = descend p (d - 1) t i in
+    let r = descend-more p (d - 1) (12 - d) t i in
+    let e : 12 - 1 ≡ d - 1 + (12 - d) = omega arith in
+    ap (λ k. descend p k t i / 4 ^ (12 - d)) e ∙ ap (λ k. k / 4 ^ (12 - d)) (r .1)
+    ∙ div-eq-of-lt-le (4 ^ (12 - d)) (descend-low p (12 - d) (r .0) j) (descend-high p (12 - d) (r .0) j)
 
 pub identifier-small : (p : Vec3) (d : ℕ) → d ≤ 12 → identifier p d < 2 ^ 26
 unfolding identifier

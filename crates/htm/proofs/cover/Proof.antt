@@ -9,7 +9,9 @@ use Rattle.region.specs.Reader as reader
 use Rattle.region.specs.Answers.{headerOf, headerGiven}
 use Rattle.region.proofs.BudgetLaws.{budget-one}
 use Rattle.cutting_walk.specs.Walk.{CoversRows}
-use Rattle.htm.proofs.CoverAnswers.{file-refused, no-room, depth-fits, some-rows, covered}
+use Rattle.cutting_cover.specs.Decoded.{Decoded}
+use Rattle.cutting_cover.proofs.DecodedLaws.{decoded, depth-fits, some-rows}
+use Rattle.htm.proofs.CoverAnswers.{file-refused, no-room, covered}
 use Rattle.htm.proofs.cover.Statement.{statement}
 use Rattle.htm.proofs.cover.Tie as tie
 
@@ -17,31 +19,38 @@ use Rattle.htm.proofs.cover.Tie as tie
 room : {r b n : ℕ} → r ≡ b → (n < 4 * r → n < 4 * b) × (4 * r ≤ n → 4 * b ≤ n)
 room e = (λ h. omega arith, λ h. omega arith)
 
+-- the file is decoded
+file : (c : tie.After-known-told) → Decoded (now (c .before .before .before .before .before .before .before .args .file)) (c .before .said .given .0 .0) (c .before .before .before .decode .last .1 .0)
+file c =
+    let s = c .before in
+    let d = s .before .before in
+    decoded (now (d .before .before .before .before .args .file)) (s .said .given .0 .0) _ _ (sym (ap headerGiven (s .said .given .1)) ∙ d .decode .ensures .0) (d .decode .ensures .1)
+
 short : tie.Need-returns
 short c =
-    let a = c .before .before .before .before .before .before .before .before .before .args in
-    no-room (now (a .file)) (now (a .out)) (c .before .before .before .said .given .0 .0) (sym (ap headerGiven (c .before .before .before .said .given .1)) ∙ c .before .before .before .before .before .decode .ensures .0) (room (c .before .budget-of .ensures .0) .0 (omega (arith, c .if1 .taken)))
+    let t = c .before .before in
+    let a = t .before .before .before .before .before .before .before .args in
+    no-room (now (a .file)) (now (a .out)) _ _ (file t) (room (c .before .budget-of .ensures .0) .0 (omega (arith, c .if1 .taken)))
 
 wants : tie.Need-cover-requires
 wants c κs =
-    let a = c .before .before .before .before .before .before .before .before .before .before .before .before .args in
-    let d = c .before .before .before .before .before .before .said .given .0 .0 in
-    let e : gives d ≡ with-value headerOf (reader.read (now (a .file))) = sym (ap headerGiven (c .before .before .before .before .before .before .said .given .1)) ∙ c .before .before .before .before .before .before .before .before .decode .ensures .0 in (
-      depth-fits (now (a .file)) (now (a .out)) d e,
-      (
-        some-rows (now (a .file)) (now (a .out)) d e _ _ (c .before .before .before .before .before .before .before .before .decode .ensures .1),
-        (subst (λ n. 1 ≤ n) (sym (c .before .before .before .before .budget-of .ensures .0)) (budget-one (d .budget)), omega (arith, c .before .before .before .if1 .left)),
-      ),
+    let b = c .before .before .before .before in
+    let k = file (b .before) in (
+      depth-fits k,
+      (some-rows k, (subst (λ n. 1 ≤ n) (sym (b .budget-of .ensures .0)) (budget-one (b .before .before .said .given .0 .0 .budget)), omega (arith, c .before .before .before .if1 .left))),
     )
 
 given : tie.Need-returns-2
 given c =
-    let a = c .before .before .before .before .before .before .before .before .before .before .before .before .before .before .before .args in
-    let d = c .before .before .before .before .before .before .before .before .before .said .given .0 .0 in
-    let e : gives d ≡ with-value headerOf (reader.read (now (a .file))) = sym (ap headerGiven (c .before .before .before .before .before .before .before .before .before .said .given .1)) ∙ c .before .before .before .before .before .before .before .before .before .before .before .decode .ensures .0 in
-    let b = c .before .before .before .before .before .before .before .budget-of .ensures .0 in
-    covered (now (a .file)) (now (a .out)) d e _ _ (c .before .before .before .before .before .before .before .before .before .before .before .decode .ensures .1) (room b .1 (omega (arith, c .before .before .before .before .before .before .if1 .left)))
-    (subst (λ n. CoversRows (d .count) (c .before .before .before .before .before .before .before .before .before .before .before .decode .last .1 .0) n (d .depth) (now (a .out)) (c .before .before .cover .result) (c .before .before .cover .last .1 .1 .1 .1 .0)) b (c .before .before .cover .ensures))
+    let v = c .before .before in
+    let i = v .before .before .before .before in
+    let b = i .before in
+    let t = b .before in
+    let a = t .before .before .before .before .before .before .before .args in
+    let d = t .before .said .given .0 .0 in
+    let rs = t .before .before .before .decode .last .1 .0 in
+    covered (now (a .file)) (now (a .out)) d rs (file t) (room (b .budget-of .ensures .0) .1 (omega (arith, i .if1 .left)))
+    (subst (λ n. CoversRows (d .count) rs n (d .depth) (now (a .out)) (v .cover .result) (v .cover .last .1 .1 .1 .1 .0)) (b .budget-of .ensures .0) (v .cover .ensures))
 
 refused : tie.Need-returns-3
 refused c =

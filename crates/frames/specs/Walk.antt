@@ -1,0 +1,104 @@
+-- The walk: one owner's entries and the two lists of a cover, side by side. Document 02, F-12: entries in an inner range are delivered unchecked, entries in
+-- an outer range only are put to the point test, and the others are skipped. What is said here is said of every list of entries, in order or not, and of any
+-- two lists of ranges; that in an index every entry meets the ranges that its identifier is in: htm/specs/Frames.
+--   whole z            the number z; 0 where it is below 0, as in no entry of an index
+--   shortened d e      the identifier of the entry e, shortened to the depth d: divided by 4^(12 − d)
+--   numberOf e         the number of the entry e; 0 where it has more than 32 bits, as in no entry of an index
+--   entriesOf o l      the entries of the owner o in the list l, in their order; no more than a share, which in an index they never are
+--   ahead i rs         the ranges rs from the first one on that does not end below the identifier i
+--   begins i rs        the first of rs begins at i or below it
+--   fateOf held n o p  what becomes of an entry with the pointing p, by whether it is in an inner range, n, and in an outer one, o; `held` is the point test
+--   Met                an entry, and what becomes of it
+--   walk d held os ns es   the walk over the entries es beside the outer ranges os and the inner ranges ns, each of which it leaves behind as it passes them
+--   isDelivered f      the fate f is that of an entry that is delivered; isTested f: of one that is put to the test
+--   deliveredBy ms     the numbers of those delivered, in their order; testsOf ms: how many tests were made
+use Prim.Native.Nat.{ℕ, _-_, _/_, _^_}
+use mathlib.Core.Bool.{Bool, true, false, cond, _&&_, _||_}
+use mathlib.Core.List.{List, [], _∷_, map}
+use lib.Dec.{leb, ltb}
+use lib.ListN.{take}
+use lib.IntN.{ℤ, pos, negsuc}
+use Rattle.algebra.specs.Lists.{tally}
+use Rattle.vector.specs.declared.Vec3.{Vec3}
+use Rattle.vector.specs.Vectors.{isVector}
+use Rattle.ranges.specs.Ranges.{Range}
+use Rattle.index.specs.declared.Entry.{Entry}
+use Rattle.index.specs.Exposures.{Share, isNumber, only}
+use Rattle.index.specs.Entries.{isOwned, entriesIn}
+use Rattle.frames.specs.declared.Fate.{Fate}
+use Rattle.frames.specs.declared.Fate.the-variants.{Skipped, Unchecked, Held, Discarded}
+
+-- ---- entries
+
+abbrev pub whole : ℤ → ℕ
+whole (pos n) = n
+whole (negsuc n) = 0
+
+abbrev pub shortened : ℕ → Entry → ℕ
+shortened d e = whole (e .id) / 4 ^ (12 - d)
+
+abbrev pub numberOf : Entry → ℕ
+numberOf e = cond (isNumber (whole (e .number))) (whole (e .number)) 0
+
+abbrev pub entriesOf : ℕ → List ℤ → List Entry
+entriesOf o l = take Share (only (isOwned o) (entriesIn l))
+
+-- ---- ranges
+
+unfoldable pub ahead : ℕ → List Range → List Range
+ahead i [] = []
+ahead i (r ∷ rs) = cond (ltb (r .high) i) (ahead i rs) (r ∷ rs)
+
+abbrev pub begins : ℕ → List Range → Bool
+begins i [] = false
+begins i (r ∷ rs) = leb (r .low) i
+
+-- ---- the walk
+
+abbrev pub fateOf : (Vec3 → Bool) → Bool → Bool → Vec3 → Fate
+fateOf held inner outer p = cond inner Unchecked (cond outer (cond (isVector p && held p) Held Discarded) Skipped)
+
+pub record Met : Type 0 where
+  pub entry : Entry
+  pub fate : Fate
+
+abbrev pub met : Entry → Fate → Met
+met e f = record { entry = e; fate = f }
+
+unfoldable pub walk : ℕ → (Vec3 → Bool) → List Range → List Range → List Entry → List Met
+walk d held os ns [] = []
+walk d held os ns (e ∷ es) =
+    met e (fateOf held (begins (shortened d e) (ahead (shortened d e) ns)) (begins (shortened d e) (ahead (shortened d e) os)) (e .pointing))
+    ∷ walk d held (ahead (shortened d e) os) (ahead (shortened d e) ns) es
+
+-- ---- what it delivers and counts
+
+abbrev pub isUnchecked : Fate → Bool
+isUnchecked Skipped = false
+isUnchecked Unchecked = true
+isUnchecked Held = false
+isUnchecked Discarded = false
+
+abbrev pub isHeld : Fate → Bool
+isHeld Skipped = false
+isHeld Unchecked = false
+isHeld Held = true
+isHeld Discarded = false
+
+abbrev pub isDiscarded : Fate → Bool
+isDiscarded Skipped = false
+isDiscarded Unchecked = false
+isDiscarded Held = false
+isDiscarded Discarded = true
+
+abbrev pub isDelivered : Fate → Bool
+isDelivered f = isUnchecked f || isHeld f
+
+abbrev pub isTested : Fate → Bool
+isTested f = isHeld f || isDiscarded f
+
+abbrev pub deliveredBy : List Met → List ℕ
+deliveredBy ms = map (λ m. numberOf (m .entry)) (only (λ m. isDelivered (m .fate)) ms)
+
+abbrev pub testsOf : List Met → ℕ
+testsOf ms = tally (λ m. isTested (m .fate)) ms

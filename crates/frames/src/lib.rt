@@ -1,0 +1,24 @@
+// The frames of a region in a single pass: the rules in specs/, the laws in proofs/, and the types that they name. Document 02, F-12.
+
+// What becomes of an entry: in no outer range, in an inner range, and in an outer range only, where the point test tells.
+pub enum Fate {
+    Skipped,
+    Unchecked,
+    Held,
+    Discarded,
+}
+
+// How many counts the call gives.
+pub const COUNTED: usize = 2;
+
+// How many numbers were delivered, and how many point tests made.
+pub struct Frames {
+    pub delivered: u64,
+    pub tests: u64,
+}
+
+// The same, or the number of the first check that failed.
+pub enum FramesOf {
+    Gives(Frames),
+    Refused(u32),
+}

@@ -1,0 +1,48 @@
+-- What a search leaves: the cover's lists and counts, and the walk beside them. The rules are those of frames/specs/Answers.
+--   Leaves, SearchesRows   of a region; of every region that has these rows
+--   FileIs h rs          rs is what some file with the header h was decoded to
+--   deliveryOf t         the answer by the counts of a walk
+--   Answers ..           a call gave r, and left both lists, by the rule
+use Prim.Native.Nat.{ℕ, _+_, _*_, _≤_}
+use mathlib.Core.Path.{_≡_}
+use mathlib.Core.List.{List}
+use lib.IntN.{ℤ}
+use Rattle.answer.specs.Lent.{put}
+use Rattle.region.specs.Regions.{Region, holds}
+use Rattle.region.specs.declared.Header.{Header}
+use Rattle.cutting.specs.Cover.{Cover, cutting, listed, countsOf, bothListed}
+use Rattle.index.specs.Exposures.{Share}
+use Rattle.frames.specs.declared.Frames.{Frames}
+use Rattle.frames.specs.declared.FramesOf.{FramesOf}
+use Rattle.frames.specs.Walk.{entriesOf, Met, walk, deliveredBy}
+use Rattle.frames.specs.Answers.{framesAnswer, rangesAfter, numbersAfter, framesGiven}
+use Rattle.frames_walk.specs.declared.Tests.{Tests}
+use Rattle.frames_walk.specs.Steps.{countsBy}
+use Rattle.cutting_walk.specs.Walk.{RowsOf}
+use Rattle.cutting_cover.specs.Decoded.{Decoded}
+use Rattle.frames_calls.specs.declared.Searched.{Searched}
+
+-- the walk beside the lists of a cover c of the region g at the depth d
+abbrev pub walkBeside : ℕ → List ℤ → ℕ → Region → Cover → List Met
+walkBeside o l d g c = walk d (holds g) (c .outer) (c .inner) (entriesOf o l)
+
+pub record Leaves (o : ℕ) (l : List ℤ) (d b : ℕ) (g : Region) (ranges numbers : List ℕ) (r : Searched) (lists left : List ℕ) : Type 0 where
+  pub counts : r .counts ≡ countsOf (listed b (cutting d g))
+  pub lists-left : lists ≡ bothListed b (listed b (cutting d g)) ranges
+  pub tests : r .tests ≡ countsBy (walkBeside o l d g (listed b (cutting d g)))
+  pub numbers-left : left ≡ put 0 (deliveredBy (walkBeside o l d g (listed b (cutting d g)))) numbers
+  pub few : r .tests .unchecked + r .tests .held + r .tests .discarded ≤ Share
+
+abbrev pub SearchesRows : ℕ → List ℤ → ℕ → ℕ → List ℤ → ℕ → List ℕ → List ℕ → Searched → List ℕ → List ℕ → Type 0
+SearchesRows o l d b rs n ranges numbers r lists left = (g : Region) → RowsOf g n rs → Leaves o l d b g ranges numbers r lists left
+
+abbrev pub FileIs : Header → List ℤ → Type 0
+FileIs h rs = (f : List ℕ) × Decoded f h rs
+
+abbrev pub deliveryOf : Tests → Frames
+deliveryOf t = record { delivered = t .unchecked + t .held; tests = t .held + t .discarded }
+
+pub record Answers (o : ℕ) (l : List ℤ) (f ranges numbers : List ℕ) (r : FramesOf) (lists left : List ℕ) : Type 0 where
+  pub answer : framesGiven r ≡ framesAnswer o l f ranges numbers
+  pub lists-left : lists ≡ rangesAfter o l f ranges numbers
+  pub numbers-left : left ≡ numbersAfter o l f ranges numbers

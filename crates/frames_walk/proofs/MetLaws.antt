@@ -1,0 +1,129 @@
+-- One entry more that was met: the numbers delivered are one more or as many, and so are the counts; and as many numbers are delivered, and tests made, as are
+-- counted. By
+-- recursion over those met before, fate by fate. Assumes nothing.
+use Prim.Native.Nat.{ℕ, suc, _+_, _≤_}
+use mathlib.Core.Path.{_≡_, refl, sym, ap, _∙_}
+use mathlib.Core.Bool.{Bool, true, false, cond}
+use mathlib.Core.List.{List, [], _∷_, _++_, map, append-nil}
+use native.Mathlib.Omega.{arith}
+use lib.ListN.{length}
+use Rattle.algebra.specs.Lists.{tally}
+use Rattle.algebra.proofs.Tests.{split}
+use Rattle.answer.specs.Lent.{put}
+use Rattle.answer.proofs.PutLaws.{put-put}
+use Rattle.index.specs.declared.Entry.{Entry}
+use Rattle.index.specs.Exposures.{only}
+use Rattle.frames.specs.declared.Fate.{Fate}
+use Rattle.frames.specs.declared.Fate.the-variants.{Skipped, Unchecked, Held, Discarded}
+use Rattle.frames.specs.Walk.{Met, met, isUnchecked, isHeld, isDiscarded, isDelivered, isTested, numberOf, deliveredBy, testsOf}
+use Rattle.frames_walk.specs.declared.Tests.{Tests}
+use Rattle.frames_walk.specs.Steps.{tests, noted, countsBy}
+
+-- ---- the counts
+
+tally-last : {A : Type 0} (f : A → Bool) (xs : List A) (x : A) → tally f (xs ++ x ∷ []) ≡ cond (f x) (tally f xs + 1) (tally f xs)
+unfolding tally
+tally-last f [] x = refl
+tally-last f (y ∷ xs) x = by-test (f y) (f x) (tally-last f xs x)
+  where
+    by-test : (t u : Bool) → tally f (xs ++ x ∷ []) ≡ cond u (tally f xs + 1) (tally f xs)
+        → cond t (suc (tally f (xs ++ x ∷ []))) (tally f (xs ++ x ∷ [])) ≡ cond u (cond t (suc (tally f xs)) (tally f xs) + 1) (cond t (suc (tally f xs)) (tally f xs))
+    by-test true true h = omega arith
+    by-test true false h = omega arith
+    by-test false u h = h
+
+pub counts-more : (ms : List Met) (e : Entry) (f : Fate) → countsBy (ms ++ met e f ∷ []) ≡ noted (countsBy ms) f
+counts-more ms e f = (λ i. tests (tally-last (λ m. isUnchecked (m .fate)) ms (met e f) i) (tally-last (λ m. isHeld (m .fate)) ms (met e f) i) (tally-last (λ m. isDiscarded (m .fate)) ms (met e f) i))
+    ∙ by-fate f
+  where
+    by-fate : (g : Fate) → tests
+        (cond (isUnchecked g) (countsBy ms .unchecked + 1) (countsBy ms .unchecked))
+        (cond (isHeld g) (countsBy ms .held + 1) (countsBy ms .held))
+        (cond (isDiscarded g) (countsBy ms .discarded + 1) (countsBy ms .discarded)) ≡ noted (countsBy ms) g
+    by-fate Skipped = refl
+    by-fate Unchecked = refl
+    by-fate Held = refl
+    by-fate Discarded = refl
+
+-- no more than one more
+pub noted-most : (t : Tests) (f : Fate) → noted t f .unchecked + noted t f .held + noted t f .discarded ≤ t .unchecked + t .held + t .discarded + 1
+noted-most t Skipped = omega arith
+noted-most t Unchecked = omega arith
+noted-most t Held = omega arith
+noted-most t Discarded = omega arith
+
+-- ---- those of all that were met
+
+module _ (ms : List Met) where
+  abbrev u : ℕ
+  u = countsBy ms .unchecked
+
+  abbrev h : ℕ
+  h = countsBy ms .held
+
+  abbrev x : ℕ
+  x = countsBy ms .discarded
+
+-- no more than were met
+pub few-counted : (ms : List Met) → u ms + h ms + x ms ≤ length ms
+unfolding tally
+few-counted [] = omega arith
+few-counted (m ∷ ms) = by-fate (m .fate) (few-counted ms)
+  where
+    by-fate : (g : Fate) → u ms + h ms + x ms ≤ length ms
+        → cond (isUnchecked g) (suc (u ms)) (u ms) + cond (isHeld g) (suc (h ms)) (h ms) + cond (isDiscarded g) (suc (x ms)) (x ms) ≤ suc (length ms)
+    by-fate Skipped e = omega arith
+    by-fate Unchecked e = omega arith
+    by-fate Held e = omega arith
+    by-fate Discarded e = omega arith
+
+pub tests-counted : (ms : List Met) → testsOf ms ≡ h ms + x ms
+unfolding tally
+tests-counted [] = refl
+tests-counted (m ∷ ms) = by-fate (m .fate) (tests-counted ms)
+  where
+    by-fate : (g : Fate) → testsOf ms ≡ h ms + x ms
+        → cond (isTested g) (suc (testsOf ms)) (testsOf ms) ≡ cond (isHeld g) (suc (h ms)) (h ms) + cond (isDiscarded g) (suc (x ms)) (x ms)
+    by-fate Skipped e = e
+    by-fate Unchecked e = e
+    by-fate Held e = omega arith
+    by-fate Discarded e = omega arith
+
+-- ---- the numbers
+
+abbrev own : Entry → Bool → List ℕ
+own e t = cond t (numberOf e ∷ []) []
+
+delivered-more : (ms : List Met) (e : Entry) (f : Fate) → deliveredBy (ms ++ met e f ∷ []) ≡ deliveredBy ms ++ own e (isDelivered f)
+unfolding only
+delivered-more [] e f = split (isDelivered f) (λ t. rw t) (λ t. rw t)
+delivered-more (m ∷ ms) e f =
+    split (isDelivered (m .fate))
+    (λ t. rw t (ap (λ ns. numberOf (m .entry) ∷ ns) (delivered-more ms e f)))
+    (λ t. rw t (delivered-more ms e f))
+
+pub length-delivered : (ms : List Met) → length (deliveredBy ms) ≡ countsBy ms .unchecked + countsBy ms .held
+unfolding only tally
+length-delivered [] = refl
+length-delivered (m ∷ ms) = by-fate (m .fate) (length-delivered ms)
+  where
+    by-fate : (g : Fate) → length (deliveredBy ms) ≡ countsBy ms .unchecked + countsBy ms .held
+        → length (map (λ x. numberOf (x .entry)) (cond (isDelivered g) (m ∷ only (λ x. isDelivered (x .fate)) ms) (only (λ x. isDelivered (x .fate)) ms)))
+        ≡ cond (isUnchecked g) (suc (countsBy ms .unchecked)) (countsBy ms .unchecked) + cond (isHeld g) (suc (countsBy ms .held)) (countsBy ms .held)
+    by-fate Skipped h = h
+    by-fate Unchecked h = omega arith
+    by-fate Held h = omega arith
+    by-fate Discarded h = h
+
+-- a number stored behind those delivered, where the entry is delivered
+pub numbers-more : (ms : List Met) (e : Entry) (f : Fate) (before : List ℕ) → cond (isDelivered f)
+    (put (countsBy ms .unchecked + countsBy ms .held) (numberOf e ∷ []) (put 0 (deliveredBy ms) before)) (put 0 (deliveredBy ms) before)
+    ≡ put 0 (deliveredBy (ms ++ met e f ∷ [])) before
+numbers-more ms e f before =
+    let more : (t : Bool) → isDelivered f ≡ t → deliveredBy (ms ++ met e f ∷ []) ≡ deliveredBy ms ++ own e t =
+    λ t q. delivered-more ms e f ∙ ap (λ u. deliveredBy ms ++ own e u) q in
+    split (isDelivered f)
+    (λ t. rw t
+    (put-put 0 (countsBy ms .unchecked + countsBy ms .held) (deliveredBy ms) (numberOf e ∷ []) before (omega (arith, length-delivered ms)) (omega arith)
+    ∙ ap (λ ns. put 0 ns before) (sym (more true t))))
+    (λ t. rw t (ap (λ ns. put 0 ns before) (sym (more false t ∙ append-nil (deliveredBy ms)))))

@@ -1,0 +1,103 @@
+-- The frames of a region for a host in C, by their checks in their order: where the list of counts is too short the call refuses in any case, by the owner, the
+-- file or 10, and nothing is stored; else it answers as the call of the crate does. Assumes nothing.
+use Prim.Native.Nat.{ℕ, _*_, _≤_, _<_}
+use mathlib.Core.Path.{_≡_, refl, sym, ap, subst, _∙_}
+use mathlib.Core.Bool.{Bool, true, false}
+use mathlib.Core.List.{List}
+use lib.Dec.{leb}
+use lib.ListN.{length}
+use lib.IntN.{ℤ}
+use borrow.Author.Tests.{le-leb, lt-leb}
+use Rattle.answer.specs.Answer.{Answer, refused, gives, check, then, with-value, Space, Owner}
+use Rattle.answer.specs.Lent.{put, stored}
+use Rattle.region.specs.Budgets.{budgetOf}
+use Rattle.region.specs.Reader.{File, read}
+use Rattle.index.specs.Exposures.{Share, isOwner}
+use Rattle.index.specs.Entries.{Least}
+use Rattle.index.specs.Answers.{inList}
+use Rattle.frames.specs.declared.Frames as declared
+use Rattle.frames.specs.Walk.{deliveredBy}
+use Rattle.frames.specs.Answers.{framesInto, walkOf, framesBy, framesList, counted, framesAnswer, rangesAfter, numbersAfter}
+use Rattle.htm.specs.Answers.{bothLists}
+use Rattle.htm.specs.CalledFromC.{statusOf, refusalOf, inBoth, framesIntoC, framesForC, rangesAfterC, numbersAfterC, framesAfterC}
+
+-- the owner's refusal, the file's own, or 10
+pub no-owner-c : (o : ℕ) (f : List ℕ) → isOwner o ≡ false → statusOf {A = File} (refused Owner) ≡ statusOf (check Owner (isOwner o) (refusalOf f))
+no-owner-c o f e = sym (ap (λ t. statusOf (check Owner t (refusalOf f))) e)
+
+pub of-owner-c : (o : ℕ) (f : List ℕ) → isOwner o ≡ true → statusOf (refusalOf f) ≡ statusOf (check Owner (isOwner o) (refusalOf f))
+of-owner-c o f e = sym (ap (λ t. statusOf (check Owner t (refusalOf f))) e)
+
+module _ (o : ℕ) (l : List ℤ) (f ranges numbers counts : List ℕ) where
+  pub record Frames (status : ℤ) (xs ns cs : List ℕ) : Type 0 where
+    pub status-is : status ≡ statusOf (framesForC o l f ranges numbers counts)
+    pub ranges-left : xs ≡ rangesAfterC o l f ranges numbers counts
+    pub numbers-left : ns ≡ numbersAfterC o l f ranges numbers counts
+    pub counts-left : cs ≡ framesAfterC o l f ranges numbers counts
+
+  -- what there is to write, or the refusal
+  frames-by : (a : Answer File) → framesIntoC o l f ranges numbers counts ≡ a
+      → Frames (statusOf (with-value (λ x. framesBy (walkOf o l x)) a)) (stored bothLists a ranges) (stored (λ x before. put 0 (deliveredBy (walkOf o l x)) before) a numbers)
+      (stored (λ r before. put 0 (framesList r) before) (with-value (λ x. framesBy (walkOf o l x)) a) counts)
+  unfolding framesForC rangesAfterC numbersAfterC framesAfterC
+  frames-by a e = record {
+    status-is = ap (λ b. statusOf (with-value (λ x. framesBy (walkOf o l x)) b)) (sym e);
+    ranges-left = ap (λ b. stored bothLists b ranges) (sym e);
+    numbers-left = ap (λ b. stored (λ x before. put 0 (deliveredBy (walkOf o l x)) before) b numbers) (sym e);
+    counts-left = ap (λ b. stored (λ r before. put 0 (framesList r) before) (with-value (λ x. framesBy (walkOf o l x)) b) counts) (sym e);
+  }
+
+  -- too few elements for the counts: a refusal in any case, and nothing is stored
+  module _ (h : length counts < counted) where
+    abbrev refusing : Answer File → Answer File
+    refusing a = then a (λ x. refused Space)
+
+    always : (a : Answer File) → inBoth counted a counts ≡ refusing a
+    always (refused n) = refl
+    always (gives x) = ap (λ t. check Space t (gives x)) (lt-leb counted (length counts) h)
+
+    in-any-case : (x : File) (t u v : Bool) → refusing (check Space t (check Space u (check Space v (gives x)))) ≡ refused Space
+    in-any-case x false u v = refl
+    in-any-case x true false v = refl
+    in-any-case x true true false = refl
+    in-any-case x true true true = refl
+
+    refusals : (t : Bool) (a : Answer File)
+        → refusing (check Owner t (then a (λ x. check Space (leb (4 * budgetOf (x .budget)) (length ranges)) (check Space (leb Share (length numbers)) (inList l (gives x))))))
+        ≡ check Owner t (then a (λ x. refused Space))
+    refusals false a = refl
+    refusals true (refused n) = refl
+    refusals true (gives x) = in-any-case x (leb (4 * budgetOf (x .budget)) (length ranges)) (leb Share (length numbers)) (leb Least (length l))
+
+    pub short-frames : Frames (statusOf (check Owner (isOwner o) (refusalOf f))) ranges numbers counts
+    short-frames = refused-frames (check Owner (isOwner o) (refusalOf f)) (always (framesInto o l f ranges numbers) ∙ refusals (isOwner o) (read f)) (never (isOwner o) (read f))
+      where
+        -- it gives nothing
+        Never : Answer File → Type 0
+        Never a = (n : ℕ) × (a ≡ refused n)
+
+        never : (t : Bool) (a : Answer File) → Never (check Owner t (then a (λ x. refused Space)))
+        never false a = (Owner, refl)
+        never true (refused n) = (n, refl)
+        never true (gives x) = (Space, refl)
+
+        refused-frames : (a : Answer File) → framesIntoC o l f ranges numbers counts ≡ a → Never a → Frames (statusOf a) ranges numbers counts
+        refused-frames a e n = subst (λ b. Frames (statusOf b) ranges numbers counts) (sym (n .1)) (frames-by (refused (n .0)) (e ∙ n .1))
+
+  -- enough
+  module _ (h : counted ≤ length counts) where
+    enough-counts : (a : Answer File) → inBoth counted a counts ≡ a
+    enough-counts (refused n) = refl
+    enough-counts (gives x) = ap (λ t. check Space t (gives x)) (le-leb counted (length counts) h)
+
+    pub long-frames : (a : Answer declared.Frames) (xs ns : List ℕ) → a ≡ framesAnswer o l f ranges numbers → xs ≡ rangesAfter o l f ranges numbers → ns ≡ numbersAfter o l f ranges numbers
+        → Frames (statusOf a) xs ns (stored (λ r before. put 0 (framesList r) before) a counts)
+    unfolding framesAnswer rangesAfter numbersAfter
+    long-frames a xs ns e g k =
+        let w = frames-by (framesInto o l f ranges numbers) (enough-counts (framesInto o l f ranges numbers)) in
+        record {
+          status-is = ap statusOf e ∙ w .status-is;
+          ranges-left = g ∙ w .ranges-left;
+          numbers-left = k ∙ w .numbers-left;
+          counts-left = ap (λ b. stored (λ r before. put 0 (framesList r) before) b counts) e ∙ w .counts-left;
+        }
