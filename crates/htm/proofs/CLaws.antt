@@ -35,7 +35,8 @@ use Rattle.htm.specs.Answers.{coverInto, coverAnswer, bothLists, coverAf
 use Rattle.index.specs.declared.Entry.{Entry}
 use Rattle.index.specs.Entries.{Width, numbers}
 use Rattle.index.specs.Answers.{entryAnswer}
-use Rattle.htm.specs.CalledFromC.{statusOf, entryForC, entryAfterC, cornersList, cornersForC, cornersAfterC, refusalOf, inBoth, headerList, readForC, rowsAfterC, headerAfterC, coverForC, coverAfterC, countsAfterC}
+use Rattle.htm_values.specs.Values.{statusOf, cornersList, headerList, refusalOf}
+use Rattle.htm.specs.CalledFromC.{entryForC, entryAfterC, cornersForC, cornersAfterC, inBoth, readForC, rowsAfterC, headerAfterC, coverForC, coverAfterC, countsAfterC}
 
 -- ---- lengths are small: 32 bytes a name, 10508 a file
 
@@ -116,15 +117,6 @@ module _ (i : ℕ) (out : List ℤ) where
 
     pub corners-put : 9 ≤ length out → (statusOf (gives c) ≡ statusOf (cornersForC i out)) × (put 0 (cornersList c) out ≡ cornersAfterC i out)
     corners-put h = cornered (gives c) (into (gives c) e ∙ ap (λ t. check Space t (gives c)) (le-leb 9 (length out) h))
-
--- ---- a file for which a lent list is too short
-
-pub own-or-space : (f : List ℕ) (a : Answer Header) → a ≡ with-value headerOf (read f) → statusOf {A = File} (then a (λ h. refused Space)) ≡ statusOf (refusalOf f)
-own-or-space f a e = ap (λ a. statusOf {A = File} (then a (λ h. refused Space))) e ∙ whichever (read f)
-  where
-    whichever : (a : Answer File) → statusOf {A = File} (then (with-value headerOf a) (λ h. refused Space)) ≡ statusOf {A = File} (then a (λ x. refused Space))
-    whichever (refused n) = refl
-    whichever (gives x) = refl
 
 -- ---- a file and two lent lists: `before`, into which `write` writes, and `list`, which takes the m numbers of the value
 

@@ -19,14 +19,8 @@ use Rattle.frames.specs.declared.Frames as declared
 use Rattle.frames.specs.Walk.{deliveredBy}
 use Rattle.frames.specs.Answers.{framesInto, walkOf, framesBy, framesList, counted, framesAnswer, rangesAfter, numbersAfter}
 use Rattle.htm.specs.Answers.{bothLists}
-use Rattle.htm.specs.CalledFromC.{statusOf, refusalOf, inBoth, framesIntoC, framesForC, rangesAfterC, numbersAfterC, framesAfterC}
-
--- the owner's refusal, the file's own, or 10
-pub no-owner-c : (o : ℕ) (f : List ℕ) → isOwner o ≡ false → statusOf {A = File} (refused Owner) ≡ statusOf (check Owner (isOwner o) (refusalOf f))
-no-owner-c o f e = sym (ap (λ t. statusOf (check Owner t (refusalOf f))) e)
-
-pub of-owner-c : (o : ℕ) (f : List ℕ) → isOwner o ≡ true → statusOf (refusalOf f) ≡ statusOf (check Owner (isOwner o) (refusalOf f))
-of-owner-c o f e = sym (ap (λ t. statusOf (check Owner t (refusalOf f))) e)
+use Rattle.htm_values.specs.Values.{statusOf, refusalOf}
+use Rattle.htm.specs.CalledFromC.{inBoth, framesIntoC, framesForC, rangesAfterC, numbersAfterC, framesAfterC}
 
 module _ (o : ℕ) (l : List ℤ) (f ranges numbers counts : List ℕ) where
   pub record Frames (status : ℤ) (xs ns cs : List ℕ) : Type 0 where

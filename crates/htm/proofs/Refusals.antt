@@ -25,7 +25,8 @@ use Rattle.frames.specs.declared.Frames.{Frames}
 use Rattle.frames.specs.Walk.{deliveredBy}
 use Rattle.frames.specs.Answers.{framesInto, walkOf, framesBy, framesList, framesAnswer, rangesAfter, numbersAfter}
 use Rattle.htm.specs.Answers.{coverInto, coverAnswer, bothLists, coverAfter}
-use Rattle.htm.specs.CalledFromC.{entryAfterC, cornersList, cornersForC, cornersAfterC, inBoth, headerList, readForC, rowsAfterC, headerAfterC, coverForC, coverAfterC, countsAfterC, framesIntoC, framesForC, rangesAfterC, numbersAfterC, framesAfterC}
+use Rattle.htm_values.specs.Values.{cornersList, headerList}
+use Rattle.htm.specs.CalledFromC.{entryAfterC, cornersForC, cornersAfterC, inBoth, readForC, rowsAfterC, headerAfterC, coverForC, coverAfterC, countsAfterC, framesIntoC, framesForC, rangesAfterC, numbersAfterC, framesAfterC}
 use Rattle.htm.specs.Refusals.{SpaceLast, LentListsStay}
 
 -- the owner's refusal, or the file's, is that of what comes behind both

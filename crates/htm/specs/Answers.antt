@@ -27,8 +27,9 @@ use Rattle.region.specs.Budgets.{budgetOf}
 use Rattle.region.specs.Reader.{File, read}
 use Rattle.ranges.specs.Ranges.{Range, rangesIn}
 use Rattle.cutting.specs.declared.Counts.{Counts}
-use Rattle.htm.specs.declared.CoverOf.{CoverOf}
 use Rattle.cutting.specs.Cover.{cover, countsOf, bothListed}
+use Rattle.htm_values.specs.Values.{orZero}
+use Rattle.htm.specs.declared.CoverOf.{CoverOf}
 
 -- ---- the lookup of a pointing that comes in another form: it is a point like any other
 
@@ -42,10 +43,6 @@ abbrev pub locateLine : List ℕ → ℕ → Answer ℕ
 locateLine l d = located (pointingIn l) d
 
 -- ---- lookup from C: the identifier, or 0 for a refusal
-
-abbrev pub orZero : Answer ℕ → ℕ
-orZero (refused n) = 0
-orZero (gives i) = i
 
 unfoldable pub entry : ℤ → ℤ → ℤ → ℕ → ℕ
 entry x y z d = orZero (lookup (vec x y z) d)

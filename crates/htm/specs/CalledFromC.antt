@@ -1,30 +1,25 @@
 -- The calls for a host in C: a number instead of an answer. Document 01, 'What is sent back', 'Regions' and 'The two lists';
 -- document 02, F-10 to F-12.
--- A refusal is minus its number, and comes before any list is written. The lookup and the identifier of a name give 0 instead: `entry`, `orZero` (Answers).
---   numberForC a         the number that is asked for, or minus the number of the refusal: the lengths of `nameAnswer` (mesh) and `writeAnswer` (region),
---                        the identifiers of `lookupReport` and `locateLine` (Answers)
---   heldForC a           1 held, 0 not, or minus the number of the refusal
---   statusOf a           0, or minus the number of the refusal
---   cornersForC i out, cornersAfterC   the corners or the refusal, 11, then 10; the lent list afterwards: x, y, z of each corner
---   refusalOf f          the refusal of a file for which a lent list is too short: the file's own, or 10
+-- A refusal is minus its number, and comes before any list is written. The lookup and the identifier of a name give 0 instead: `entry` (Answers), `orZero`.
+-- How an answer becomes a number, and a value the numbers of a list: htm_values/specs/Values. The lengths of `nameAnswer` (mesh) and `writeAnswer` (region) and
+-- the identifiers of `lookupReport` and `locateLine` (Answers) go by `numberForC`, the point test by `heldForC`.
+--   cornersForC i out, cornersAfterC   the corners or the refusal, 11, then 10; the lent list afterwards (`cornersList`)
 --   inBoth n a list      what a call has to write, or its refusal; then 10 where the second lent list has fewer than n elements
---   readForC, rowsAfterC, headerAfterC     the reader's header; the lent list and the header's afterwards: count, depth, budget
+--   readForC, rowsAfterC, headerAfterC     the reader's header; the lent list and the header's afterwards (`headerList`)
 --   coverForC, coverAfterC, countsAfterC   the cover's counts; the lent list and the list of counts afterwards (`countsList`)
 --   entryForC i l out, entryAfterC         the entry at place i of the index l, or the refusal, then 10; the lent list afterwards (`numbers`)
 --   framesForC .., rangesAfterC, numbersAfterC, framesAfterC   the counts of the frames delivered and of the tests; the range list, the list of numbers
 --                        and the list of counts afterwards
 -- The other calls on an index answer `statusOf` and `numberForC` of what its calls answer (index/specs/Answers).
 use Prim.Native.Nat.{ℕ}
-use mathlib.Core.Bool.{Bool, cond}
-use mathlib.Core.List.{List, [], _∷_, _++_}
-use lib.IntN.{ℤ, pos, negℤ}
-use Rattle.answer.specs.Answer.{Answer, refused, gives, then, with-value, Space}
+use mathlib.Core.List.{List}
+use lib.IntN.{ℤ}
+use Rattle.answer.specs.Answer.{Answer, then, with-value}
 use Rattle.answer.specs.Lent.{put, stored, room}
-use Rattle.vector.specs.Vectors.{three}
 use Rattle.mesh.specs.declared.Corners.{Corners}
 use Rattle.mesh.specs.Identifiers.{corners}
 use Rattle.region.specs.declared.Header.{Header}
-use Rattle.region.specs.Reader.{File, read}
+use Rattle.region.specs.Reader.{File}
 use Rattle.region.specs.Answers.{headerOf, readInto, rowsInto}
 use Rattle.cutting.specs.declared.Counts.{Counts}
 use Rattle.cutting.specs.Cover.{cover, countsOf, counted, countsList}
@@ -35,26 +30,10 @@ use Rattle.frames.specs.declared.Frames.{Frames}
 use Rattle.frames.specs.Walk.{deliveredBy}
 use Rattle.frames.specs.Answers.{framesInto, walkOf, framesBy, framesList}
 use Rattle.frames.specs.Answers as frames
+use Rattle.htm_values.specs.Values.{cornersList, headerList}
 use Rattle.htm.specs.Answers.{coverInto, bothLists}
 
--- ---- answers as numbers
-
-abbrev pub numberForC : Answer ℕ → ℤ
-numberForC (refused n) = negℤ (pos n)
-numberForC (gives n) = pos n
-
-abbrev pub heldForC : Answer Bool → ℤ
-heldForC (refused n) = negℤ (pos n)
-heldForC (gives held) = cond held (pos 1) (pos 0)
-
-abbrev pub statusOf : {A : Type 0} → Answer A → ℤ
-statusOf (refused n) = negℤ (pos n)
-statusOf (gives a) = pos 0
-
 -- ---- corners
-
-abbrev pub cornersList : Corners → List ℤ
-cornersList c = three (c .v0) ++ three (c .v1) ++ three (c .v2)
 
 unfoldable pub cornersForC : ℕ → List ℤ → Answer Corners
 cornersForC i out = then (corners i) (λ c. room 9 out c)
@@ -72,14 +51,8 @@ entryAfterC i l out = stored (λ e before. put 0 (numbers e) before) (entryForC 
 
 -- ---- a file, with two lent lists
 
-abbrev pub refusalOf : List ℕ → Answer File
-refusalOf f = then (read f) (λ x. refused Space)
-
 abbrev pub inBoth : ℕ → Answer File → List ℕ → Answer File
 inBoth n a list = then a (λ x. room n list x)
-
-abbrev pub headerList : Header → List ℕ
-headerList h = h .count ∷ h .depth ∷ h .budget ∷ []
 
 unfoldable pub readForC : List ℕ → List ℤ → List ℕ → Answer Header
 readForC f rows header = with-value headerOf (inBoth 3 (readInto f rows) header)

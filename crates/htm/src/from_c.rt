@@ -1,7 +1,6 @@
 // The calls for a host in C: each is a call of the crate, with a number for its answer, since C has no enum with values. None has a `requires`.
 // A list is passed as a pointer and its number of elements: include/htm.h.
 use crate::CoverOf;
-use crate::to_c;
 use answer::SPACE;
 use cutting::COUNTED;
 use mesh::CornersOf;
@@ -19,15 +18,16 @@ ghost use Rattle.mesh.specs.Answers.{nameAnswer, nameAfter};
 ghost use Rattle.region.specs.Writer.{writeGrouped};
 ghost use Rattle.region.specs.Converting.{toGrouped, toPlain};
 ghost use Rattle.region.specs.Answers.{pointTest, fileAnswer, fileAfter, writeAnswer, writeAfter};
-ghost use Rattle.htm.specs.Answers.{lookupReport, locateLine, orZero, entry};
-ghost use Rattle.htm.specs.CalledFromC.{numberForC, heldForC, statusOf, cornersForC, cornersAfterC, readForC, rowsAfterC, headerAfterC, coverForC, coverAfterC, countsAfterC};
+ghost use Rattle.htm_values.specs.Values.{orZero, numberForC, heldForC, statusOf};
+ghost use Rattle.htm.specs.Answers.{lookupReport, locateLine, entry};
+ghost use Rattle.htm.specs.CalledFromC.{cornersForC, cornersAfterC, readForC, rowsAfterC, headerAfterC, coverForC, coverAfterC, countsAfterC};
 
 // The lookup: the identifier, or 0 for a refusal.
 #[no_mangle]
 pub extern "C" fn lookup(x: i32, y: i32, z: i32, depth: u32) -> u64
     ensures { λ r. ⌜ r ≡ entry x y z depth ⌝ }
 {
-    to_c::or_zero(crate::locate(x, y, z, depth))
+    htm_values::or_zero(crate::locate(x, y, z, depth))
 }
 
 // The lookup of a mount's report in single precision: the identifier, or minus the number of the refusal.
@@ -35,7 +35,10 @@ pub extern "C" fn lookup(x: i32, y: i32, z: i32, depth: u32) -> u64
 pub extern "C" fn htm_lookup_f32(x: f32, y: f32, z: f32, depth: u32) -> i64
     ensures { λ r. ⌜ r ≡ numberForC (lookupReport (singleReport x y z) depth) ⌝ }
 {
-    to_c::number_or_minus(crate::locate_report(Report::Single(Single { x: x, y: y, z: z }), depth))
+    htm_values::number_or_minus(crate::locate_report(
+        Report::Single(Single { x: x, y: y, z: z }),
+        depth,
+    ))
 }
 
 // The same in double precision.
@@ -43,7 +46,10 @@ pub extern "C" fn htm_lookup_f32(x: f32, y: f32, z: f32, depth: u32) -> i64
 pub extern "C" fn htm_lookup_f64(x: f64, y: f64, z: f64, depth: u32) -> i64
     ensures { λ r. ⌜ r ≡ numberForC (lookupReport (doubleReport x y z) depth) ⌝ }
 {
-    to_c::number_or_minus(crate::locate_report(Report::Double(Double { x: x, y: y, z: z }), depth))
+    htm_values::number_or_minus(crate::locate_report(
+        Report::Double(Double { x: x, y: y, z: z }),
+        depth,
+    ))
 }
 
 // The lookup of a catalogue line: the identifier, or minus the number of the refusal.
@@ -51,7 +57,7 @@ pub extern "C" fn htm_lookup_f64(x: f64, y: f64, z: f64, depth: u32) -> i64
 pub extern "C" fn htm_lookup_line(line: &[u8], depth: u32) -> i64
     ensures { λ r. ⌜ r ≡ numberForC (locateLine (now (line .entry)) depth) ⌝ }
 {
-    to_c::number_or_minus(crate::locate_line(line, depth))
+    htm_values::number_or_minus(crate::locate_line(line, depth))
 }
 
 // The name of an identifier, at the beginning of `out`: its length, or minus the number of the refusal.
@@ -60,7 +66,7 @@ pub extern "C" fn htm_name(id: u64, out: &mut [u8]) -> i64
     ensures { λ r. ⌜ r ≡ numberForC (nameAnswer id (now (out .entry))) ⌝ }
     ensures { λ r. ⌜ now (out .exit) ≡ nameAfter id (now (out .entry)) ⌝ }
 {
-    to_c::number_or_minus(crate::name(id, out))
+    htm_values::number_or_minus(crate::name(id, out))
 }
 
 // The identifier of a name, or 0 for a refusal. An identifier of depth 31 has bit 63, so the answer has no sign.
@@ -68,7 +74,7 @@ pub extern "C" fn htm_name(id: u64, out: &mut [u8]) -> i64
 pub extern "C" fn htm_identifier(name: &[u8]) -> u64
     ensures { λ r. ⌜ r ≡ orZero (identifierOf (now (name .entry))) ⌝ }
 {
-    to_c::or_zero(crate::identifier(name))
+    htm_values::or_zero(crate::identifier(name))
 }
 
 // The corners of the trixel of an identifier to depth 12, nine numbers at the beginning of `out`: 0, or minus the number of the refusal, 10 where
@@ -82,12 +88,12 @@ pub extern "C" fn htm_corners(id: u64, out: &mut [i32]) -> i64
     match answer {
         CornersOf::Gives(c) => {
             if out.len() < 9 {
-                return to_c::minus(SPACE);
+                return htm_values::minus(SPACE);
             }
-            to_c::put_corners(out, c);
+            htm_values::put_corners(out, c);
             0
         }
-        CornersOf::Refused(n) => to_c::minus(n),
+        CornersOf::Refused(n) => htm_values::minus(n),
     }
 }
 
@@ -97,7 +103,7 @@ pub extern "C" fn htm_write(depth: u32, budget: u32, rows: &[i32], out: &mut [u8
     ensures { λ r. ⌜ r ≡ numberForC (writeAnswer depth budget (now (rows .entry)) (now (out .entry))) ⌝ }
     ensures { λ r. ⌜ now (out .exit) ≡ writeAfter depth budget (now (rows .entry)) (now (out .entry)) ⌝ }
 {
-    to_c::number_or_minus(crate::write(depth, budget, rows, out))
+    htm_values::number_or_minus(crate::write(depth, budget, rows, out))
 }
 
 // The same of the grouped file.
@@ -106,7 +112,7 @@ pub extern "C" fn htm_write_grouped(depth: u32, budget: u32, rows: &[i32], out: 
     ensures { λ r. ⌜ r ≡ numberForC (fileAnswer (writeGrouped depth budget (now (rows .entry))) (now (out .entry))) ⌝ }
     ensures { λ r. ⌜ now (out .exit) ≡ fileAfter (writeGrouped depth budget (now (rows .entry))) (now (out .entry)) ⌝ }
 {
-    to_c::number_or_minus(crate::write_grouped(depth, budget, rows, out))
+    htm_values::number_or_minus(crate::write_grouped(depth, budget, rows, out))
 }
 
 // The grouped form of a region file, at the beginning of `out`: its length, or minus the number of the refusal.
@@ -115,7 +121,7 @@ pub extern "C" fn htm_to_grouped(file: &[u8], out: &mut [u8]) -> i64
     ensures { λ r. ⌜ r ≡ numberForC (fileAnswer (toGrouped (now (file .entry))) (now (out .entry))) ⌝ }
     ensures { λ r. ⌜ now (out .exit) ≡ fileAfter (toGrouped (now (file .entry))) (now (out .entry)) ⌝ }
 {
-    to_c::number_or_minus(crate::to_grouped(file, out))
+    htm_values::number_or_minus(crate::to_grouped(file, out))
 }
 
 // The same of the plain form.
@@ -124,7 +130,7 @@ pub extern "C" fn htm_to_plain(file: &[u8], out: &mut [u8]) -> i64
     ensures { λ r. ⌜ r ≡ numberForC (fileAnswer (toPlain (now (file .entry))) (now (out .entry))) ⌝ }
     ensures { λ r. ⌜ now (out .exit) ≡ fileAfter (toPlain (now (file .entry))) (now (out .entry)) ⌝ }
 {
-    to_c::number_or_minus(crate::to_plain(file, out))
+    htm_values::number_or_minus(crate::to_plain(file, out))
 }
 
 // The point test: 1 where the region holds the pointing, 0 where it does not, or minus the number of the refusal.
@@ -135,7 +141,7 @@ pub extern "C" fn htm_holds(file: &[u8], x: i32, y: i32, z: i32) -> i64
     let answer = crate::holds(file, x, y, z);
     match answer {
         HeldOf::Gives(held) => { if held { 1 } else { 0 } }
-        HeldOf::Refused(n) => to_c::minus(n),
+        HeldOf::Refused(n) => htm_values::minus(n),
     }
 }
 
@@ -148,15 +154,15 @@ pub extern "C" fn htm_read(file: &[u8], rows: &mut [i32], header: &mut [u64]) ->
     ensures { λ r. ⌜ now (header .exit) ≡ headerAfterC (now (file .entry)) (now (rows .entry)) (now (header .entry)) ⌝ }
 {
     if header.len() < 3 {
-        return to_c::without_room(file);
+        return htm_values::without_room(file);
     }
     let answer = crate::read(file, rows);
     match answer {
         HeaderOf::Gives(h) => {
-            to_c::put_header(header, h);
+            htm_values::put_header(header, h);
             0
         }
-        HeaderOf::Refused(n) => to_c::minus(n),
+        HeaderOf::Refused(n) => htm_values::minus(n),
     }
 }
 
@@ -168,7 +174,7 @@ pub extern "C" fn htm_cover(file: &[u8], out: &mut [u64], counts: &mut [u64]) ->
     ensures { λ r. ⌜ now (counts .exit) ≡ countsAfterC (now (file .entry)) (now (out .entry)) (now (counts .entry)) ⌝ }
 {
     if counts.len() < COUNTED {
-        return to_c::without_room(file);
+        return htm_values::without_room(file);
     }
     let answer = crate::cover(file, out);
     match answer {
@@ -176,6 +182,6 @@ pub extern "C" fn htm_cover(file: &[u8], out: &mut [u64], counts: &mut [u64]) ->
             cutting_cover::put_counts(counts, c);
             0
         }
-        CoverOf::Refused(n) => to_c::minus(n),
+        CoverOf::Refused(n) => htm_values::minus(n),
     }
 }

@@ -13,7 +13,6 @@ use mount::Report;
 use region::HeaderOf;
 use region::HeldOf;
 use region::Style;
-use vector::Vec3;
 use vector::VectorOf;
 ghost use mathlib.Core.Path.{_≡_};
 ghost use Rattle.answer.specs.Calls.{numberOf};
@@ -35,7 +34,6 @@ ghost use Rattle.htm.specs.Answers.{lookupReport, locateLine, coverGiven
 
 pub mod from_c;
 pub mod index_from_c;
-mod to_c;
 
 // The six counts, or the number of the first check that failed.
 pub enum CoverOf {
@@ -43,21 +41,11 @@ pub enum CoverOf {
     Refused(u32),
 }
 
-fn pointing(x: i32, y: i32, z: i32) -> Vec3
-    ensures { λ r. ⌜ r ≡ vec x y z ⌝ }
-{
-    Vec3 {
-        x: x as i64,
-        y: y as i64,
-        z: z as i64,
-    }
-}
-
 // The identifier of the trixel of a depth from 1 to 12 in which a pointing lies; refusals 5, 8.
 pub fn locate(x: i32, y: i32, z: i32, depth: u32) -> Number
     ensures { λ r. ⌜ numberOf r ≡ mesh_lookup.lookup (vec x y z) depth ⌝ }
 {
-    mesh_lookup::lookup(pointing(x, y, z), depth)
+    mesh_lookup::lookup(htm_values::pointing(x, y, z), depth)
 }
 
 // The same of a mount's report, three floats of single or double precision; refusals 5, 12, 8.
@@ -155,7 +143,7 @@ pub fn to_plain(file: &[u8], out: &mut [u8]) -> Number
 pub fn holds(file: &[u8], x: i32, y: i32, z: i32) -> HeldOf
     ensures { λ r. ⌜ heldGiven r ≡ pointTest (now (file .entry)) (vec x y z) ⌝ }
 {
-    region_points::point_test(file, pointing(x, y, z))
+    region_points::point_test(file, htm_values::pointing(x, y, z))
 }
 
 // The cover of a region file: the outer list from element 0 of `out`, the inner list from element 2 × budget, pairs low and high; both counts,
@@ -191,7 +179,7 @@ pub fn add(index: &mut [i64], owner: u32, number: u32, x: i32, y: i32, z: i32) -
     ensures { λ r. ⌜ changeGiven r ≡ addAnswer (exposure owner number x y z) (now (index .entry)) ⌝ }
     ensures { λ r. ⌜ now (index .exit) ≡ addAfter (exposure owner number x y z) (now (index .entry)) ⌝ }
 {
-    index_calls::add(index, owner, number, pointing(x, y, z))
+    index_calls::add(index, owner, number, htm_values::pointing(x, y, z))
 }
 
 // One exposure less of an owner, by its number; refusals 18, 10, 17.

@@ -3,7 +3,8 @@ use mathlib.Core.Path.{ap, _∙_}
 use mir.Facts.{toZ-ofZ}
 use Rattle.vector.specs.Vectors.{vec}
 use Rattle.mesh.specs.Lookup as mesh
-use Rattle.htm.specs.Answers.{entry, orZero}
+use Rattle.htm_values.specs.Values.{orZero}
+use Rattle.htm.specs.Answers.{entry}
 use Rattle.htm.proofs.from_c.lookup.Statement.{statement}
 use Rattle.htm.proofs.from_c.lookup.Tie as tie
 

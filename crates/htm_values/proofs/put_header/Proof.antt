@@ -1,10 +1,10 @@
--- `htm::to_c::put_header` stores the three numbers one after the other. Assumes nothing.
+-- `htm_values::put_header` stores the three numbers one after the other. Assumes nothing.
 use native.Mathlib.Omega.{arith}
 use mathlib.Core.List.{[], _∷_}
 use lib.ListN.{length-set}
 use lib.Seq.{sets-eq}
-use Rattle.htm.proofs.to_c.put_header.Statement.{statement}
-use Rattle.htm.proofs.to_c.put_header.Tie as tie
+use Rattle.htm_values.proofs.put_header.Statement.{statement}
+use Rattle.htm_values.proofs.put_header.Tie as tie
 
 pub put-header-spec : {M : Type 1} → statement M
 put-header-spec =

@@ -1,13 +1,13 @@
--- `htm::to_c::status` is 0, or minus the refusal. Assumes nothing.
+-- `htm_values::status` is 0, or minus the refusal. Assumes nothing.
 use Prim.Native.Nat.{_^_}
 use mathlib.Core.Path.{sym, ap, subst, _∙_}
 use Rattle.algebra.proofs.Sizes.{Upto}
 use Rattle.algebra.proofs.Sized.{held, lit, upto-mono}
 use native.Mathlib.Omega.{arith}
 use Rattle.index.specs.Answers.{changeGiven}
-use Rattle.htm.specs.CalledFromC.{statusOf}
-use Rattle.htm.proofs.to_c.status.Statement.{statement}
-use Rattle.htm.proofs.to_c.status.Tie as tie
+use Rattle.htm_values.specs.Values.{statusOf}
+use Rattle.htm_values.proofs.status.Statement.{statement}
+use Rattle.htm_values.proofs.status.Tie as tie
 
 pub status-spec : {M : Type 1} → statement M
 status-spec =

@@ -1,4 +1,4 @@
--- `htm::to_c::put_corners` puts one corner after the other. Assumes nothing.
+-- `htm_values::put_corners` puts one corner after the other. Assumes nothing.
 use native.Mathlib.Omega.{arith}
 use borrow.Author.Needs.{needs}
 use mathlib.Core.Path.{refl}
@@ -6,8 +6,8 @@ use mathlib.Core.List.{_++_}
 use denote.Ref.{now}
 use Rattle.answer.proofs.PutLaws.{put-next}
 use Rattle.vector.specs.Vectors.{three}
-use Rattle.htm.proofs.to_c.put_corners.Statement.{statement}
-use Rattle.htm.proofs.to_c.put_corners.Tie as tie
+use Rattle.htm_values.proofs.put_corners.Statement.{statement}
+use Rattle.htm_values.proofs.put_corners.Tie as tie
 
 pub put-corners-spec : {M : Type 1} → statement M
 put-corners-spec =

@@ -1,4 +1,5 @@
-// What the calls for C are made of: answers as numbers, and values in lent lists. None of it is exported, so each may ask something of its callers.
+// What the exported calls are made of: a pointing from three numbers; for C, answers as numbers and values in lent lists. No function here is exported, so each
+// may ask something of its callers. The rules stand in specs/Values.
 use answer::Number;
 use answer::OWNER;
 use answer::SPACE;
@@ -17,16 +18,26 @@ ghost use Rattle.algebra.proofs.Sizes.{Upto};
 ghost use Rattle.answer.specs.Answer.{gives, check, Owner};
 ghost use Rattle.answer.specs.Calls.{numberOf};
 ghost use Rattle.answer.specs.Lent.{put};
-ghost use Rattle.vector.specs.Vectors.{three};
+ghost use Rattle.vector.specs.Vectors.{vec, three};
 ghost use Rattle.vector.proofs.Sizes.{Small};
 ghost use Rattle.mesh_trixels.specs.Corners.{SmallCorners};
 ghost use Rattle.index.specs.Exposures.{isOwner};
 ghost use Rattle.index.specs.Answers.{changeGiven};
-ghost use Rattle.htm.specs.Answers.{orZero};
-ghost use Rattle.htm.specs.CalledFromC.{numberForC, statusOf, cornersList, refusalOf, headerList};
+ghost use Rattle.htm_values.specs.Values.{orZero, numberForC, statusOf, cornersList, headerList, refusalOf};
+
+// Three components, as a vector.
+pub fn pointing(x: i32, y: i32, z: i32) -> Vec3
+    ensures { λ r. ⌜ r ≡ vec x y z ⌝ }
+{
+    Vec3 {
+        x: x as i64,
+        y: y as i64,
+        z: z as i64,
+    }
+}
 
 // An identifier, or 0 for a refusal.
-pub(crate) fn or_zero(answer: Number) -> u64
+pub fn or_zero(answer: Number) -> u64
     ensures { λ r. ⌜ r ≡ orZero (numberOf answer) ⌝ }
 {
     match answer {
@@ -36,14 +47,14 @@ pub(crate) fn or_zero(answer: Number) -> u64
 }
 
 // A refusal's number, below zero.
-pub(crate) fn minus(n: u32) -> i64
+pub fn minus(n: u32) -> i64
     ensures { λ r. ⌜ (r ≡ negℤ (pos n)) × Upto (2 ^ 32) r ⌝ }
 {
     -(n as i64)
 }
 
 // A length or an identifier to depth 12, or minus the number of the refusal.
-pub(crate) fn number_or_minus(answer: Number) -> i64
+pub fn number_or_minus(answer: Number) -> i64
     requires { ⌜ ((n : ℕ) → numberOf answer ≡ gives n → n ≤ 2 ^ 32) ⌝ }
     ensures { λ r. ⌜ (r ≡ numberForC (numberOf answer)) × Upto (2 ^ 32) r ⌝ }
 {
@@ -54,7 +65,7 @@ pub(crate) fn number_or_minus(answer: Number) -> i64
 }
 
 // What a call answers that changes the index: 0, or minus the number of the refusal.
-pub(crate) fn status(answer: Change) -> i64
+pub fn status(answer: Change) -> i64
     ensures { λ r. ⌜ (r ≡ statusOf (changeGiven answer)) × Upto (2 ^ 32) r ⌝ }
 {
     match answer {
@@ -64,7 +75,7 @@ pub(crate) fn status(answer: Change) -> i64
 }
 
 // A corner, from element `at` on.
-pub(crate) fn put_corner(out: &mut [i32], at: usize, v: Vec3)
+pub fn put_corner(out: &mut [i32], at: usize, v: Vec3)
     requires { ⌜ at + 3 ≤ length (now out) ⌝ }
     requires { ⌜ Small v ⌝ }
     ensures { λ _. ⌜ now (out .exit) ≡ put at (three v) (now (out .entry)) ⌝ }
@@ -75,7 +86,7 @@ pub(crate) fn put_corner(out: &mut [i32], at: usize, v: Vec3)
 }
 
 // Three corners, at the beginning of a list.
-pub(crate) fn put_corners(out: &mut [i32], c: Corners)
+pub fn put_corners(out: &mut [i32], c: Corners)
     requires { ⌜ 9 ≤ length (now out) ⌝ }
     requires { ⌜ SmallCorners c ⌝ }
     ensures { λ _. ⌜ now (out .exit) ≡ put 0 (cornersList c) (now (out .entry)) ⌝ }
@@ -86,7 +97,7 @@ pub(crate) fn put_corners(out: &mut [i32], c: Corners)
 }
 
 // The refusal of a file for which a lent list is too short: its own, or 10.
-pub(crate) fn without_room(file: &[u8]) -> i64
+pub fn without_room(file: &[u8]) -> i64
     ensures { λ r. ⌜ (r ≡ statusOf (refusalOf (now (file .entry)))) × Upto (2 ^ 32) r ⌝ }
 {
     let mut rows = [0i32; 5 * HALFSPACES];
@@ -98,7 +109,7 @@ pub(crate) fn without_room(file: &[u8]) -> i64
 }
 
 // Count, depth and budget, at the beginning of a list.
-pub(crate) fn put_header(header: &mut [u64], h: Header)
+pub fn put_header(header: &mut [u64], h: Header)
     requires { ⌜ 3 ≤ length (now header) ⌝ }
     ensures { λ _. ⌜ now (header .exit) ≡ put 0 (headerList h) (now (header .entry)) ⌝ }
 {
@@ -108,7 +119,7 @@ pub(crate) fn put_header(header: &mut [u64], h: Header)
 }
 
 // The refusal of an owner and a file for which a lent list is too short: 18, the file's own, or 10.
-pub(crate) fn owner_without_room(owner: u32, file: &[u8]) -> i64
+pub fn owner_without_room(owner: u32, file: &[u8]) -> i64
     ensures { λ r. ⌜ (r ≡ statusOf (check Owner (isOwner owner) (refusalOf (now (file .entry))))) × Upto (2 ^ 32) r ⌝ }
 {
     if OWNERS <= owner {

@@ -1,8 +1,8 @@
--- `htm::pointing`: the three components are the same numbers in 64 bits as in 32. Assumes nothing.
+-- `htm_values::pointing`: the three components are the same numbers in 64 bits as in 32. Assumes nothing.
 use Rattle.algebra.proofs.Sized.{fits-wider, same-wider}
 use Rattle.vector.specs.Vectors.{vec}
-use Rattle.htm.proofs.pointing.Statement.{statement}
-use Rattle.htm.proofs.pointing.Tie as tie
+use Rattle.htm_values.proofs.pointing.Statement.{statement}
+use Rattle.htm_values.proofs.pointing.Tie as tie
 
 pub pointing-spec : {M : Type 1} → statement M
 pointing-spec =

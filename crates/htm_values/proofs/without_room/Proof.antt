@@ -1,13 +1,13 @@
--- `htm::to_c::without_room` decodes the file, and answers its refusal or 10. Assumes nothing.
+-- `htm_values::without_room` decodes the file, and answers its refusal or 10. Assumes nothing.
 use Prim.Native.Nat.{_^_}
 use mathlib.Core.Path.{sym, ap, subst, _∙_}
 use denote.Ref.{now}
 use Rattle.algebra.proofs.Sizes.{Upto}
 use Rattle.algebra.proofs.Sized.{held}
 use Rattle.region.specs.Answers.{headerGiven}
-use Rattle.htm.proofs.CLaws.{own-or-space}
-use Rattle.htm.proofs.to_c.without_room.Statement.{statement}
-use Rattle.htm.proofs.to_c.without_room.Tie as tie
+use Rattle.htm_values.proofs.RefusalLaws.{own-or-space}
+use Rattle.htm_values.proofs.without_room.Statement.{statement}
+use Rattle.htm_values.proofs.without_room.Tie as tie
 
 pub without-room-spec : {M : Type 1} → statement M
 without-room-spec =

@@ -1,4 +1,4 @@
--- `htm::to_c::put_corner` stores three numbers, each of which fits 32 bits. Assumes nothing.
+-- `htm_values::put_corner` stores three numbers, each of which fits 32 bits. Assumes nothing.
 use Prim.Native.Nat.{_+_}
 use native.Mathlib.Omega.{arith}
 use mathlib.Core.Path.{_∙_}
@@ -6,8 +6,8 @@ use lib.ListN.{set, length-set}
 use denote.Ref.{now}
 use Rattle.vector_products.proofs.StoreLaws.{three-stored}
 use Rattle.region_contents.proofs.RowLaws.{narrow-fits, narrow-same}
-use Rattle.htm.proofs.to_c.put_corner.Statement.{statement}
-use Rattle.htm.proofs.to_c.put_corner.Tie as tie
+use Rattle.htm_values.proofs.put_corner.Statement.{statement}
+use Rattle.htm_values.proofs.put_corner.Tie as tie
 
 stored : tie.Need-returns
 stored c =

@@ -1,4 +1,4 @@
--- `htm::to_c::minus` is the number below zero, which 64 bits hold. Assumes nothing.
+-- `htm_values::minus` is the number below zero, which 64 bits hold. Assumes nothing.
 use Prim.Native.Nat.{ℕ, _^_, _≤_}
 use native.Mathlib.Omega.{arith}
 use mathlib.Core.Path.{sym, subst, _∙_}
@@ -6,8 +6,8 @@ use lib.IntN.{pos, negℤ, +ℤ-idl}
 use mir.Syntax.{w64}
 use Rattle.algebra.proofs.Sizes.{Upto}
 use Rattle.algebra.proofs.Sized.{sfits, nat, lit, upto-neg, is-sub, fits-sub}
-use Rattle.htm.proofs.to_c.minus.Statement.{statement}
-use Rattle.htm.proofs.to_c.minus.Tie as tie
+use Rattle.htm_values.proofs.minus.Statement.{statement}
+use Rattle.htm_values.proofs.minus.Tie as tie
 
 small : (c : tie.Start) → c .args .n ≤ 2 ^ 32
 small c = omega arith

@@ -1,4 +1,4 @@
--- `htm::to_c::owner_without_room` answers the owner's refusal, or else the file's or 10. Assumes nothing.
+-- `htm_values::owner_without_room` answers the owner's refusal, or else the file's or 10. Assumes nothing.
 use Prim.Native.Nat.{_^_}
 use native.Mathlib.Omega.{arith}
 use mathlib.Core.Path.{sym, subst, _∙_}
@@ -6,9 +6,9 @@ use borrow.Author.Tests.{lt-ltb, le-ltb}
 use denote.Ref.{now}
 use Rattle.algebra.proofs.Sizes.{Upto}
 use Rattle.algebra.proofs.Sized.{held}
-use Rattle.htm.proofs.FramesCLaws.{no-owner-c, of-owner-c}
-use Rattle.htm.proofs.to_c.owner_without_room.Statement.{statement}
-use Rattle.htm.proofs.to_c.owner_without_room.Tie as tie
+use Rattle.htm_values.proofs.RefusalLaws.{no-owner-c, of-owner-c}
+use Rattle.htm_values.proofs.owner_without_room.Statement.{statement}
+use Rattle.htm_values.proofs.owner_without_room.Tie as tie
 
 pub owner-without-room-spec : {M : Type 1} → statement M
 owner-without-room-spec =

@@ -1,0 +1,49 @@
+-- What a host in C gets: a number instead of an answer, and the numbers of a value in a lent list. Document 01, 'What is sent back' and 'Regions'.
+-- A refusal is minus its number; the lookup and the identifier of a name give 0 instead. The calls that answer so: htm/specs/CalledFromC.
+--   orZero a        the identifier, or 0 for a refusal
+--   numberForC a    the number that is asked for, or minus the number of the refusal
+--   heldForC a      1 held, 0 not, or minus the number of the refusal
+--   statusOf a      0, or minus the number of the refusal
+--   cornersList c   x, y, z of each corner
+--   headerList h    count, depth, budget
+--   refusalOf f     the refusal of a file for which a lent list is too short: the file's own, or 10
+use Prim.Native.Nat.{ℕ}
+use mathlib.Core.Bool.{Bool, cond}
+use mathlib.Core.List.{List, [], _∷_, _++_}
+use lib.IntN.{ℤ, pos, negℤ}
+use Rattle.answer.specs.Answer.{Answer, refused, gives, then, Space}
+use Rattle.vector.specs.Vectors.{three}
+use Rattle.mesh.specs.declared.Corners.{Corners}
+use Rattle.region.specs.declared.Header.{Header}
+use Rattle.region.specs.Reader.{File, read}
+
+-- ---- answers as numbers
+
+abbrev pub orZero : Answer ℕ → ℕ
+orZero (refused n) = 0
+orZero (gives i) = i
+
+abbrev pub numberForC : Answer ℕ → ℤ
+numberForC (refused n) = negℤ (pos n)
+numberForC (gives n) = pos n
+
+abbrev pub heldForC : Answer Bool → ℤ
+heldForC (refused n) = negℤ (pos n)
+heldForC (gives held) = cond held (pos 1) (pos 0)
+
+abbrev pub statusOf : {A : Type 0} → Answer A → ℤ
+statusOf (refused n) = negℤ (pos n)
+statusOf (gives a) = pos 0
+
+-- ---- values as numbers
+
+abbrev pub cornersList : Corners → List ℤ
+cornersList c = three (c .v0) ++ three (c .v1) ++ three (c .v2)
+
+abbrev pub headerList : Header → List ℕ
+headerList h = h .count ∷ h .depth ∷ h .budget ∷ []
+
+-- ---- a file for which a lent list is too short
+
+abbrev pub refusalOf : List ℕ → Answer File
+refusalOf f = then (read f) (λ x. refused Space)
