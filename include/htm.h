@@ -25,7 +25,8 @@
  *   16 full    1024 exposures are the owner's    17 absent  no such number of its owner's, or no such place
  *   18 owner   not 0 or 1
  * In the calls on an index 18 comes before all else. There 10 says that the list is too short to be one, and comes before 15, 16 and 17;
- * of htm_frames it says that any of its lists is too short, and comes last.
+ * of htm_frames and htm_trial it says that any of its lists is too short, and comes last. Only a list of settings that is too short is
+ * found before their depths and budgets are checked.
  *
  * Styles: a region file is plain, with a record for each convex and one for each halfspace (kinds 2 and 3), or grouped, with one
  * record for each convex and all its halfspaces (kind 5). Every call that reads a region file takes either style. */
@@ -121,9 +122,9 @@ int64_t htm_cover(const uint8_t *file, size_t bytes, uint64_t *out, size_t eleme
  * six numbers each, identifier at depth 12, number, owner, x, y, z, ordered by identifier, then by number, then by owner. A list of
  * zeros is an empty index; htm_index_begin makes any list one. From an empty one on, changed by htm_add and htm_remove only, it has
  * exactly the exposures that their owners added and did not remove since, each once, and what these two calls answer an owner does
- * not depend on the other's calls. htm_index_count and htm_index_entry tell of both owners, htm_frames of one. Write to the list by
- * these calls only: on another list, such as one of five numbers an exposure, a call still ends, and neither reads nor writes outside
- * it, but its answer means nothing.
+ * not depend on the other's calls. htm_index_count and htm_index_entry tell of both owners, htm_frames and htm_trial of one. Write to
+ * the list by these calls only: on another list, such as one of five numbers an exposure, a call still ends, and neither reads nor
+ * writes outside it, but its answer means nothing.
  * Each call gives -10 where elements is under HTM_INDEX_LENGTH. */
 
 /* Makes the list an empty index, whatever it holds: 0, or -10. */
@@ -154,6 +155,30 @@ int64_t htm_index_entry(const int64_t *index, size_t elements, uint32_t place, i
  * than 2. */
 int64_t htm_frames(const int64_t *index, size_t elements, uint32_t owner, const uint8_t *file, size_t bytes, uint64_t *ranges, size_t n,
                    uint32_t *numbers, size_t m, uint64_t *counts, size_t k);
+
+/* The region of a region file of so many bytes under two settings, tried on the owner's exposures. settings[0] and settings[1] are depth
+ * and budget of the first, settings[2] and settings[3] those of the second. They stand in for the depth and budget of the file's header,
+ * and a budget of 0 counts as HTM_DEFAULT_BUDGET. first and second are left as htm_cover leaves its list under that setting: the outer
+ * list from element 0 on, the inner list from element 2 * budget on.
+ * numbers[0] to numbers[4] are what the first setting comes to: how many of the owner's exposures htm_frames would deliver unchecked, test
+ * and hold, and test and discard, and how many ranges the outer and the inner list have. numbers[5] to numbers[9] are the same of the
+ * second. Unchecked plus held is the same under both settings: the exposures that the region holds. numbers[10] is the choice, 1 or 2:
+ * the setting whose outer list spans the smaller share of the sky, counted in identifiers of depth 12, and 1 where they are equal.
+ * The elements of numbers from 11 on keep their values.
+ * 0, or -N for refusal N: 18 where there is no such owner; then that of the file's first failed check, 1 to 9 or 14; then -10 where
+ * settings has fewer than 4 elements; then 5 and 6 of the first setting, and 5 and 6 of the second; then -10 where first or second has
+ * fewer than 4 * budget elements of its setting, at most 8192, index fewer than HTM_INDEX_LENGTH, or numbers fewer than 11. */
+int64_t htm_trial(const int64_t *index, size_t elements, uint32_t owner, const uint8_t *file, size_t bytes, const uint32_t *settings,
+                  size_t s, uint64_t *first, size_t n1, uint64_t *second, size_t n2, uint64_t *numbers, size_t m);
+
+/* The outer list of the chosen setting, given what htm_trial left in numbers, first and second. It is a part of one of these two lists,
+ * itself and not a copy: part[0] is which one, 1 for first and 2 for second, and part[1] how many of its elements, from element 0 on, are
+ * the part, pairs low, high. Nothing else is written, and the part is there for as long as its list keeps these elements.
+ * part[0] is 0 where numbers[10] is neither 1 nor 2. part[1] is 0, and the part empty, there and where the list is shorter than its outer
+ * list. A refused htm_trial leaves numbers as it was: with zeros in it before, the part is empty after a refusal.
+ * 0; -10 where numbers has fewer than 11 elements or part fewer than 2. */
+int64_t htm_chosen(const uint64_t *numbers, size_t m, const uint64_t *first, size_t n1, const uint64_t *second, size_t n2, uint64_t *part,
+                   size_t p);
 
 #ifdef __cplusplus
 }

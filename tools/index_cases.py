@@ -23,6 +23,8 @@ def command(index, words, number):
     name, *rest = words
     if name == b'frames':
         return frames_answer(index, number(rest[0], False, 0, LAST), regions.bytes_of(rest[1])) if len(rest) == 2 else 'usage'
+    if name == b'trial':
+        return trial_answer(index, [number(w, False, 0, LAST) for w in rest[:1] + rest[2:]], regions.bytes_of(rest[1])) if len(rest) == 6 else 'usage'
     naturals = 1 if name == b'list' else 2
     numbers = [number(w, False, 0, LAST) for w in rest[:naturals]] + [number(w, True, -2**31, 2**31 - 1) for w in rest[naturals:]]
     if None in numbers or (name, len(numbers)) not in ((b'add', 5), (b'remove', 2), (b'list', 1), (b'list', 0)):
@@ -41,6 +43,14 @@ def frames_answer(index, owner, file):
         return 'usage'
     numbers, tests = index.frames(owner, file)
     return ' '.join(map(str, (len(numbers), tests, *numbers)))
+
+
+def trial_answer(index, numbers, file):
+    if None in numbers or file is None:
+        return 'usage'
+    owner, *settings = numbers
+    (first, second), choice, part = index.trial(owner, file, settings[:2], settings[2:])
+    return '|'.join([' '.join(map(str, (*first, *second, choice))), *(f'{low} {high}' for low, high in part)])
 
 
 def answers(lines, number):
@@ -210,8 +220,12 @@ EVERYTHING, NOTHING = [[(NORTH, -K)], [(SOUTH, -K)]], [[(NORTH, DEGREE[60]), (SO
 FIRST, PAST = 2 * 4**12, 4 * 4**12                  # the first identifier of depth 12, and the one behind the last
 
 
+def digits(file):
+    return file.hex().encode() or b'-'
+
+
 def frames(owner, file):
-    return b'frames %d %s' % (owner, file.hex().encode() or b'-')
+    return b'frames %d %s' % (owner, digits(file))
 
 
 def of_both(region, depth, budget):
@@ -408,6 +422,181 @@ def region_lines(sky):
     yield from (*frames_shapes(), b'list')
 
 
+# ---- two settings tried for a region
+
+HEADERS = (1, 1), (12, 2048), (7, 0), (4, 3)        # what a file's header may say: the settings stand in for it
+
+
+def trial(owner, file, s, t):
+    return b'trial %d %s %d %d %d %d' % (owner, digits(file), *s, *t)
+
+
+def tried(sky, region, *pairs):
+    """Each pair of settings, tried by one of the owners, for a file of one of the styles. Its header says something else."""
+    for s, t in pairs:
+        make, header = sky.draws.pick((file_of, grouped)), sky.draws.pick([h for h in HEADERS if h not in (s, t)])
+        yield trial(sky.draws.below(2), make(region, *header), s, t)
+
+
+def both_ways(*pairs):
+    return [pair for s, t in pairs for pair in ((s, t), (t, s))]
+
+
+def around(sky, region, some, others):
+    """Pointings of both owners: so many about the region's borders, so many about the middle of its first halfspace, and as many anywhere."""
+    n, d = region[0][0]
+    within = [sky.near(n, isqrt(K * K - d * d) // 2) for _ in range(2 * others)]
+    return {o: [near_border(sky, region) for _ in range(some)] + within[o::2] + [sky.direction() for _ in range(others)] for o in (0, 1)}
+
+
+def few_trials(sky):
+    """An empty index, one entry of either owner, and one of both with the same number: everything, nothing, a hemisphere and a plane, under one setting twice
+    and under two."""
+    some = EVERYTHING, NOTHING, cap(NORTH, 0), [[(NORTH, 0), (SOUTH, 0)]]
+    pairs = ((2, 5), (2, 5)), ((1, 1), (2, 5)), ((2, 5), (1, 1))
+    asked = [trial(o, make(region, 3, 4), *pair) for region in some for pair in pairs for o, make in enumerate((file_of, grouped))]
+    for owners in ({}, {0: [NORTH]}, {1: [SOUTH]}, {0: [AXES[0]], 1: [AXES[0]]}):
+        yield from among(owners, asked)
+
+
+def whole_and_empty_tried(sky):
+    """Everything and nothing at every depth: equal shares of the sky, whatever the depths and the budgets, and the part that is handed back is all or empty."""
+    owners = {o: [sky.direction() for _ in range(6)] + AXES[o::2] for o in (0, 1)}
+    pairs = both_ways(*(((depth, sky.draws.pick((0, 1, 7))), (13 - depth, sky.draws.pick((2, 64, 2048)))) for depth in range(1, 7)))
+    yield from among(owners, [l for region in (EVERYTHING, NOTHING) for l in tried(sky, region, *pairs)])
+
+
+def depths_tried(sky):
+    """Every depth beside itself, the next one and the last one, the deeper one first or second: a small cap, and a square with a hole."""
+    n = sky.direction()
+    for region, budget in ((cap(n, DEGREE[1]), 9), ([sky.polygon(n, 4, 20) + [turned((n, DEGREE[1]))]], 30)):
+        pairs = [pair for depth in range(1, 13) for pair in (((depth, budget), (depth, budget)), *both_ways(((depth, budget), (1 + depth % 12, budget))))]
+        pairs += [pair for depth in (1, 5, 9, 11) for pair in (((depth, 2), (12, 40)), ((12, 2), (depth, 40)))]
+        yield from among(around(sky, region, 25, 4), list(tried(sky, region, *pairs)))
+
+
+def budgets_tried(sky):
+    """One depth and two budgets: 0 beside 16, the ends, and around the number of ranges, from which on the shares are equal. At depth 12 they differ by one
+    identifier or some."""
+    n = sky.direction()
+    for region, depth in ((cap(n, DEGREE[30]), 5), (cap(n, DEGREE[1]), 12), ([sky.polygon(n, 5, 200)], 6)):
+        _, outer, inner, *_ = htm.cover(file_of(region, depth, 2048))
+        many, few = len(outer), len(inner)
+        budgets = both_ways((0, 16), (1, 2), (1, many), (many - 1, many), (many, many + 1), (3, 0), (few, few + 1)) + [(0, 0), (2048, many), (2047, 2048)]
+        assert depth < 12 or htm.outer_of(outer, many - 1)[1] < 4
+        yield from among(around(sky, region, 20, 4), list(tried(sky, region, *(((depth, a), (depth, b)) for a, b in budgets))))
+
+
+def share(region, depth, budget):
+    return htm.identifiers(htm.cover(file_of(region, depth, budget))[1]) * 4**(12 - depth)
+
+
+def shrunk(sky, i, k):
+    """A trixel with its edges moved towards the middle, by k twelfths of the way."""
+    normals = [sky.into_rule(htm.unit(p)) for p in htm.trixel(i)[1]]
+    return [[(p, htm.dot(p, sky.middle(i)) // K * k // 12) for p in normals]]
+
+
+def equal_shares(sky):
+    """A trixel, shrunk, which still reaches into its four children: at both depths the same share of the sky, of one identifier and of four. Then less
+    shrunk, and with a small budget at one of the depths."""
+    for depth in range(1, 12):
+        wide = 4**(12 - depth)
+        trixels = iter(lambda: sky.trixel(depth), None)
+        i = next(i for i in trixels if share(shrunk(sky, i, 8), depth, 4) == share(shrunk(sky, i, 8), depth + 1, 4) == wide)
+        ids = sorted({*ends([(i, i)], depth), *(i * wide + sky.draws.below(wide) for _ in range(5))})
+        points = [middle(sky, k) for k in ids]
+        pairs = both_ways(((depth, 4), (depth + 1, 4)), ((depth, 20), (depth + 1, 1)))
+        yield from among({depth % 2: points, 1 - depth % 2: points[::2]}, [l for k in (8, 1) for l in tried(sky, shrunk(sky, i, k), *pairs)])
+
+
+def range_ends_tried(sky):
+    """Entries at the ends of the ranges of both covers, beside them and in the gaps that a small budget swallows."""
+    for depth, deeper in ((1, 3), (2, 2), (3, 7), (4, 5), (6, 8), (8, 12), (11, 12), (12, 12)):
+        n = sky.direction() if depth > 2 else sky.near((K3, K3, K3), 9999)
+        region = cap(n, max(DEGREE[60], K - 100 * K // 4**depth)) if depth % 3 else [sky.polygon(n, 4, 6000 // 2**depth + 1)]
+        ids = set()
+        for d in (depth, deeper):
+            _, accepted, full, *_ = htm.cover(file_of(region, d, 2048))
+            ids |= {*ends(accepted, d), *ends(full, d), *((a[1] + b[0]) * 4**(12 - d) // 2 for a, b in zip(accepted, accepted[1:]))}
+        ids = sorted(ids)[::1 + len(ids) // 40]
+        points = [middle(sky, i) for i in ids]
+        pairs = both_ways(((depth, 3), (deeper, 2048)), ((depth, 1), (deeper, 2)))
+        yield from among({depth % 2: points, 1 - depth % 2: points[::3]}, list(tried(sky, region, *pairs)))
+
+
+def refused_trials(sky):
+    """The refusals in their order: another owner beside a bad file and bad settings; each refusal of a file beside bad settings; depth and budget of the first
+    setting beside those of the second; those of the second. The index stays. Then the ends of what is taken, and the longest file."""
+    good = file_of(EVERYTHING, 3)
+    bad = [(0, 5), (13, 5), (3, 2049), (0, 2049), (12, 65536), (65536 + 3, 5), (256 + 3, 5), (3, 65536 + 5), (2**31, 2**31), (LAST, LAST)]
+    fine = (3, 5), (12, 2048), (1, 0)
+    asked = [trial(o, good, *pair) for o in (0, 1) for s in bad for pair in ((s, fine[0]), (fine[1], s))]
+    asked += [trial(0, good, s, t) for s in bad[:4] for t in bad[:4]]
+    for k, file in enumerate(refused_files()):
+        worse = bad[k % 4], bad[2 - k % 3]
+        asked += [trial(k % 2, file, *fine[:2]), trial(1 - k % 2, file, *worse), trial(2, file, *worse)]
+    asked += [trial(o, good, *pair) for o in (2, 3, 255, 256, 2**31, LAST) for pair in (fine[:2], bad[:2])]
+    taken = [trial(k % 2, grouped(cap(NORTH, K - 9), *HEADERS[k % 4]), s, t) for k, (s, t) in enumerate(both_ways((fine[1], fine[2]), (fine[0], fine[2])))]
+    longest = trial(0, file_of([[(NORTH, 0)] * 8] * 64, 3), (2, 3), (3, 5))
+    yield from among({o: [sky.direction() for _ in range(5)] for o in (0, 1)}, [b'list', *asked, b'list', *taken, longest])
+
+
+def trial_shapes():
+    """Lines of another shape, and digits and numbers in an unusual dress."""
+    good = digits(file_of(cap(NORTH, 0), 2, 5))
+    start, end = b'trial 0 ' + good, b' 2 5 3 1'
+    shapes = [b'trial', b'trial ', b'trial 0', b'trial ' + good, start, start + b' ', start + b' 2', start + b' 2 5', start + b' 2 5 3', start + b' 2 5 3 ']
+    shapes += [start + end + w for w in (b' ', b' 1', b' ' + good, b'\r', b'\t')]
+    shapes += [start + w for w in (b' ' + end, b'0' + end, b'\t2 5 3 1', b' 2  5 3 1', b' 2 5  3 1', b' 2 5 3  1')]
+    shapes += [b'trial' + end, b'trial 0' + end, b'trial 0 ' + end, b'trial ' + good + b' 0' + end, b'trial 0' + end + b' ' + good, b' ' + start + end]
+    shapes += [w + b'0 ' + good + end for w in (b'trial  ', b'Trial ', b'trials ', b'tria ', b'trial')] + [b'trial 0  ' + good + end]
+    shapes += [b'trial 0 ' + w + end for w in (b'0', b'0g', b'--', b'-0', b'0x00', b'+')]
+    for w in (b'-0', b'-1', b'+0', b'4294967296', b'x', b'0.0', b'', b'-', b'9' * 40):
+        shapes += [b'trial ' + w + b' ' + good + end] + [start + b''.join(b' ' + (w if k == place else b'1') for k in range(4)) for place in range(4)]
+    odd = [b'trial 000 ' + good + end, b'trial 1 ' + good.upper() + end, start + b' 02 0000005 003 1', b'trial 0000000000000000000001 ' + good + b' 1 0 000 00']
+    odd += [b'trial 0 -' + end, b'trial 2 -' + end, b'trial 0 ' + b'0' * (LINE - 16) + end]
+    odd += [start + b' 2 5 3 ' + b'0' * (n - len(start) - 8) + b'1' for n in (LINE, LINE + 1)]
+    yield from among({0: [NORTH, AXES[0]], 1: [SOUTH, AXES[0]]}, shapes + odd)
+
+
+def long_lists_tried(sky):
+    """More ranges than the largest budget, in the first buffer or in the second."""
+    region = cap(sky.direction(), 1000)
+    asked = [trial(1, grouped(region, 3, 1), (11, 2048), (9, 2048)), trial(1, file_of(region, 12, 5), (8, 1), (11, 2047))]
+    yield from among({1: [near_border(sky, region) for _ in range(40)]}, asked)
+
+
+def full_trials(sky):
+    """1024 entries of one owner and some of the other: about the borders of some regions."""
+    n = sky.direction()
+    m = sky.near(n, 300000)
+    square = sky.polygon(n, 4, 300)
+    some = cap(n, DEGREE[30]), [square], [square + [turned((n, DEGREE[5]))]], [[(n, DEGREE[30])], [(m, DEGREE[30])]], cap(n, -DEGREE[60])
+    owners = {o: [near_border(sky, sky.draws.pick(some)) for _ in range(count)] for o, count in ((1, SHARE), (0, 40))}
+    pairs = ((4, 5), (7, 64)), ((6, 64), (6, 4)), ((5, 2048), (3, 0))
+    everything = [trial(o, file_of(EVERYTHING, 7), (12, 1), (1, 5)) for o in (0, 1)]
+    yield from among(owners, [l for region in some for l in tried(sky, region, *pairs)] + everything)
+
+
+def some_trials(sky):
+    """Random regions and settings, and entries about the borders and anywhere."""
+    for k in range(24):
+        depth = 1 + k % 12
+        region = some_region(sky, depth)
+        deep = sky.draws.between(1, 6) if depth < 7 else sky.draws.between(4, 12)
+        pairs = [((depth, sky.draws.pick((0, 1, 2, 9))), (deep, sky.draws.pick((1, 3, 16, 64)))) for _ in range(2)]
+        yield from among(around(sky, region, 7, 2), list(tried(sky, region, *pairs, pairs[0][::-1])))
+
+
+def trial_lines(sky):
+    for group in (few_trials, whole_and_empty_tried, depths_tried, budgets_tried, equal_shares, range_ends_tried, refused_trials, long_lists_tried, full_trials,
+                  some_trials):
+        yield from group(sky)
+        yield b'list'
+    yield from (*trial_shapes(), b'list')
+
+
 def lines(draws, direction, into_rule):
     yield from a_day()
     yield from no_owner()
@@ -418,5 +607,7 @@ def lines(draws, direction, into_rule):
     yield from history(draws, lambda: draws.pick(few), 10000, 8, 5, 25)
     yield from history(draws, direction, 8000, 1300, 9, 2000)
     yield from apart(draws, lambda: draws.pick(few), 600, 10)
-    yield from region_lines(Sky(draws, direction, into_rule))
+    sky = Sky(draws, direction, into_rule)
+    yield from region_lines(sky)
+    yield from trial_lines(sky)
     yield from (add(1, LAST, POLES[0]), b'list')    # the last line, which ends without a line feed

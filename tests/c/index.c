@@ -1,7 +1,8 @@
 /* The C calls on an index, on the stored cases of program archive: each command line of crates/archive/stdin goes through htm.h, is
  * printed as archive prints it, and compared with its line of crates/archive/stdout. Every call is made with a list that is longer than needed,
  * one that is shorter by one element and one that is exactly long enough. Then the calls on lists of noise, which no history leaves.
- * What htm_frames leaves in its range list is compared with htm_cover.
+ * What htm_frames leaves in its range list is compared with htm_cover, and so is each buffer of htm_trial, with the setting in the file's
+ * header; the part that htm_chosen tells is printed from the buffer itself.
  *
  *   index STDIN STDOUT     exit status 1 on any difference */
 #include <inttypes.h>
@@ -18,12 +19,13 @@
 #define PAINT 0x5555555555555555
 #define RANGES 8192  /* enough for every region file */
 #define NUMBERS 1024 /* the most entries of one owner */
+#define COUNTS 11    /* the numbers of a trial */
 #define LINE (1 << 18)
 #define NOISE 20000
 
 static int64_t kept[ALL], other[ALL];
 static char line[LINE], wanted[LINE], printed[LINE];
-static long line_number, made, refused, listed, found, tests, not_found, differ;
+static long line_number, made, refused, listed, found, tests, not_found, tried, chosen[3], not_tried, differ;
 
 static void must(bool is, const char *what)
 {
@@ -184,12 +186,12 @@ static size_t ranges_for(const struct region *r)
     return 4 * (header[2] ? header[2] : HTM_DEFAULT_BUDGET);
 }
 
-/* The bytes of a word in hexadecimal digits; `-` has none. */
+/* The bytes of a word in hexadecimal digits, up to the next blank; `-` has none. */
 static void bytes_of(const char *word, struct region *r)
 {
     unsigned byte;
     r->count = 0;
-    for (; *word != '-' && sscanf(word, "%2x", &byte) == 1; word += 2)
+    for (; *word != '-' && *word != ' ' && sscanf(word, "%2x", &byte) == 1; word += 2)
         r->bytes[r->count++] = (uint8_t)byte;
 }
 
@@ -216,6 +218,182 @@ static void frames(void)
     }
     must_need(owner, &r, ranges_for(&r), answer);
     must(memcmp(other, kept, sizeof kept) == 0, "the index stays");
+}
+
+/* ---- two settings, tried for a region */
+
+struct buffers {
+    uint64_t lists[2][RANGES + BEHIND], numbers[COUNTS + BEHIND];
+};
+
+struct room {
+    size_t index, settings, first, second, numbers;
+};
+
+struct setting {
+    uint32_t depth, budget;
+};
+
+static const struct room roomy = {ALL, 5, RANGES + BEHIND, RANGES + BEHIND, COUNTS + BEHIND};
+static struct buffers trial_given, trial_again, trial_painted;
+
+static int64_t trial_of(uint32_t owner, const struct region *r, const struct setting *two, struct room n, struct buffers *to)
+{
+    uint32_t settings[5] = {two[0].depth, two[0].budget, two[1].depth, two[1].budget, UINT32_MAX};
+    memset(to, PAINT & 0xff, sizeof *to);
+    return htm_trial(kept, n.index, owner, r->bytes, r->count, settings, n.settings, to->lists[0], n.first, to->lists[1], n.second, to->numbers, n.numbers);
+}
+
+/* The refusal of the owner or of the file, which comes before all others; 0 where there is none. */
+static int64_t refusal_before(uint32_t owner, const struct region *r)
+{
+    static int32_t rows[2560];
+    uint64_t header[3];
+    return owner < 2 ? htm_read(r->bytes, r->count, rows, 2560, header, 3) : -18;
+}
+
+/* The same region with another depth and budget in its header. */
+static void with_setting(const struct region *r, struct setting s, struct region *to)
+{
+    static int32_t rows[2560];
+    uint64_t header[3];
+    must(htm_read(r->bytes, r->count, rows, 2560, header, 3) == 0, "a file that is tried has rows");
+    int64_t bytes = htm_write(s.depth, s.budget, rows, 5 * header[0], to->bytes, sizeof to->bytes);
+    must(bytes > 0, "a setting that is tried is one of a file");
+    to->count = (size_t)bytes;
+}
+
+/* What a trial in longer lists gave: the lists and counts of each setting are those of htm_cover and htm_frames with that header, the choice is the smaller
+ * share of the sky, and every other element stays. */
+static void must_be_trial(uint32_t owner, const struct region *r, const struct setting *two)
+{
+    static struct buffers all;
+    static struct region one;
+    uint64_t share[2];
+    const uint64_t *numbers = trial_given.numbers;
+    memset(&all, PAINT & 0xff, sizeof all);
+    for (int i = 0; i < 2; i++, numbers += 5) {
+        uint64_t counts[6] = {0};
+        with_setting(r, two[i], &one);
+        must(htm_cover(one.bytes, one.count, all.lists[i], RANGES + BEHIND, counts, 6) == 0, "a setting has a cover");
+        must(numbers[3] == counts[0] && numbers[4] == counts[1], "the range counts are those of the cover");
+        share[i] = (counts[3] + counts[4] + counts[5]) << 2 * (12 - two[i].depth);
+        must(frames_of(owner, &one, longer, &again) == 0, "a setting has frames");
+        must(numbers[0] + numbers[1] == again.counts[0] && numbers[1] + numbers[2] == again.counts[1], "delivered and tested are those of the frames");
+    }
+    memcpy(all.numbers, trial_given.numbers, COUNTS * sizeof all.numbers[0]);
+    must(memcmp(&trial_given, &all, sizeof all) == 0, "both buffers are those of the cover, and other elements stay");
+    must(all.numbers[COUNTS - 1] == (share[0] <= share[1] ? 1 : 2), "the smaller share is chosen, the first if equal");
+}
+
+static bool trial_is_left(uint32_t owner, const struct region *r, const struct setting *two, struct room n, int64_t refusal)
+{
+    return trial_of(owner, r, two, n, &trial_again) == refusal && memcmp(&trial_again, &trial_painted, sizeof trial_again) == 0;
+}
+
+/* The elements of a buffer that a setting needs; some where it is none. */
+static size_t room_for(struct setting s)
+{
+    return 4 * (0 < s.budget && s.budget <= 2048 ? s.budget : HTM_DEFAULT_BUDGET);
+}
+
+/* The trial with lists of exact lengths, and with each of them short by one. Short settings come before what they say. */
+static void trial_must_need(uint32_t owner, const struct region *r, const struct setting *two, int64_t answer)
+{
+    struct room exact = {HTM_INDEX_LENGTH, 4, room_for(two[0]), room_for(two[1]), COUNTS}, n = exact;
+    must(trial_of(owner, r, two, exact, &trial_again) == answer, "lists of the exact lengths are tried alike");
+    must(memcmp(&trial_again, &trial_given, sizeof trial_given) == 0, "lists of the exact lengths are left alike");
+    int64_t before = refusal_before(owner, r), refusal = answer ? answer : -10;
+    n.index--;
+    must(trial_is_left(owner, r, two, n, refusal), "an index that is short by one is not tried, and all stays");
+    n = exact;
+    n.settings--;
+    must(trial_is_left(owner, r, two, n, before ? before : -10), "settings that are short by one are not tried, and all stays");
+    n = exact;
+    n.first--;
+    must(trial_is_left(owner, r, two, n, refusal), "a first buffer that is short by one is not tried, and all stays");
+    n = exact;
+    n.second--;
+    must(trial_is_left(owner, r, two, n, refusal), "a second buffer that is short by one is not tried, and all stays");
+    n = exact;
+    n.numbers--;
+    must(trial_is_left(owner, r, two, n, refusal), "a list of numbers that is short by one is not tried, and all stays");
+    must(trial_is_left(owner, r, two, (struct room){0, 4, 0, 0, 0}, refusal), "lists of no elements are not tried, and all stays");
+    must(trial_is_left(owner, r, two, (struct room){0, 0, 0, 0, 0}, before ? before : -10), "no settings are not tried, and all stays");
+}
+
+/* What htm_chosen tells of some numbers and of buffers of so many elements: the buffer and the length, each other element of the list staying. */
+static bool is_part(const struct buffers *b, size_t n1, size_t n2, uint64_t which, uint64_t length)
+{
+    uint64_t part[2 + BEHIND], wanted_part[2 + BEHIND];
+    memset(part, PAINT & 0xff, sizeof part);
+    memcpy(wanted_part, part, sizeof part);
+    wanted_part[0] = which;
+    wanted_part[1] = length;
+    return htm_chosen(b->numbers, COUNTS, b->lists[0], n1, b->lists[1], n2, part, 2) == 0 && memcmp(part, wanted_part, sizeof part) == 0;
+}
+
+static bool has_no_part(const struct buffers *b, size_t numbers, size_t p)
+{
+    uint64_t part[2] = {PAINT, PAINT};
+    return htm_chosen(b->numbers, numbers, b->lists[0], RANGES, b->lists[1], RANGES, part, p) == -10 && part[0] == PAINT && part[1] == PAINT;
+}
+
+/* The same of the trial, where its chosen buffer and the other one have so many elements. */
+static bool has_part(size_t its, size_t others, uint64_t length)
+{
+    uint64_t choice = trial_given.numbers[COUNTS - 1];
+    return is_part(&trial_given, choice == 1 ? its : others, choice == 1 ? others : its, choice, length);
+}
+
+/* The part in buffers that are longer, exact, short by one and empty; it is printed from the buffer that is told. */
+static void print_part(size_t at)
+{
+    static struct buffers before;
+    const struct buffers *b = &trial_given;
+    uint64_t part[2] = {0, 0}, length = 2 * b->numbers[b->numbers[COUNTS - 1] == 1 ? 3 : 8];
+    memcpy(&before, b, sizeof before);
+    must(has_part(RANGES + BEHIND, RANGES + BEHIND, length), "the part is the chosen outer list");
+    must(has_part(length, 0, length), "a buffer of the exact length has the part");
+    must(length == 0 || has_part(length - 1, RANGES, 0), "a buffer that is short by one has no part");
+    must(has_part(0, RANGES, 0), "a buffer of no elements has no part");
+    must(has_no_part(b, COUNTS - 1, 2) && has_no_part(b, 0, 2), "numbers that are short tell no part");
+    must(has_no_part(b, COUNTS, 1) && has_no_part(b, COUNTS, 0), "a part that is short is refused, and stays");
+    must(htm_chosen(b->numbers, COUNTS + BEHIND, b->lists[0], RANGES, b->lists[1], RANGES, part, 2) == 0, "longer numbers tell a part");
+    must(memcmp(&before, b, sizeof before) == 0, "numbers and buffers stay");
+    const uint64_t *list = b->lists[part[0] == 2];
+    for (uint64_t i = 0; i + 1 < part[1] && part[1] <= RANGES; i += 2)
+        at += (size_t)sprintf(printed + at, "|%" PRIu64 " %" PRIu64, list[i], list[i + 1]);
+}
+
+static void trial(void)
+{
+    static struct region r;
+    struct setting two[2] = {{0, 0}, {0, 0}};
+    uint32_t owner = 0;
+    int at = 0;
+    sscanf(line, "trial %" SCNu32 " %n", &owner, &at);
+    bytes_of(line + at, &r);
+    sscanf(line + at + strcspn(line + at, " "), "%" SCNu32 " %" SCNu32 " %" SCNu32 " %" SCNu32, &two[0].depth, &two[0].budget, &two[1].depth, &two[1].budget);
+    memcpy(other, kept, sizeof kept);
+    int64_t answer = trial_of(owner, &r, two, roomy, &trial_given);
+    if (answer == 0) {
+        must_be_trial(owner, &r, two);
+        size_t n = 0;
+        for (int i = 0; i < COUNTS; i++)
+            n += (size_t)sprintf(printed + n, i ? " %" PRIu64 : "%" PRIu64, trial_given.numbers[i]);
+        print_part(n);
+        tried++;
+        chosen[trial_given.numbers[COUNTS - 1] % 3]++;
+    } else {
+        must(memcmp(&trial_given, &trial_painted, sizeof trial_given) == 0, "a trial that is refused leaves every element");
+        memset(trial_again.numbers, 0, sizeof trial_again.numbers);
+        must(is_part(&trial_again, RANGES, RANGES, 0, 0), "zeros have no part");
+        print_answer(answer);
+        not_tried++;
+    }
+    trial_must_need(owner, &r, two, answer);
+    must(memcmp(other, kept, sizeof kept) == 0, "the index of a trial stays");
 }
 
 /* ---- the stored cases */
@@ -253,6 +431,8 @@ static void cases(FILE *lines, FILE *answers)
             list(line[4] ? line + 5 : "");
         } else if (strncmp(line, "frames", 6) == 0) {
             frames();
+        } else if (strncmp(line, "trial", 5) == 0) {
+            trial();
         } else {
             sscanf(line, c.adds ? "add %" SCNu32 " %" SCNu32 " %" SCNd32 " %" SCNd32 " %" SCNd32 : "remove %" SCNu32 " %" SCNu32, &c.owner, &c.number, &c.x, &c.y, &c.z);
             change(c);
@@ -298,6 +478,46 @@ static void frames_in_noise(const struct region *some, size_t elements, uint32_t
     must(memcmp(other, kept, sizeof kept) == 0, "noise stays");
 }
 
+/* The settings of such a trial: good ones, and one that is none. */
+static void trial_in_noise(const struct region *some, size_t elements, uint32_t owner)
+{
+    static const struct setting settings[] = {{12, 1}, {1, 2048}, {3, 0}, {6, 5}, {2, 1}, {13, 5}, {5, 2049}, {0, UINT32_MAX}};
+    static const int64_t refusals[] = {0, 0, 0, 0, 0, -5, -6, -5};
+    const struct region *r = &some[next() % 3];
+    uint64_t a = next() % 8, b = next() % 8;
+    struct setting two[2] = {settings[a], settings[b]};
+    struct room n = roomy;
+    if (r == &some[1] || r == &some[2]) /* a border at depth 12 has too many trixels */
+        for (int i = 0; i < 2; i++)
+            two[i].depth = two[i].depth == 12 ? 4 : two[i].depth;
+    n.index = elements;
+    int64_t answer = trial_of(owner, r, two, n, &trial_given), short_index = elements < HTM_INDEX_LENGTH ? -10 : 0;
+    int64_t wanted_answer = owner > 1 ? -18 : refusals[a] ? refusals[a] : refusals[b] ? refusals[b] : short_index;
+    must(answer == wanted_answer, "noise is tried, or too short");
+    if (answer == 0) {
+        must_be_trial(owner, r, two);
+        must(trial_given.numbers[0] + trial_given.numbers[1] + trial_given.numbers[2] <= NUMBERS, "no more are tried than an owner has");
+    } else {
+        must(memcmp(&trial_given, &trial_painted, sizeof trial_given) == 0, "a refused trial of noise leaves every element");
+    }
+    must(memcmp(other, kept, sizeof kept) == 0, "noise that is tried stays");
+}
+
+/* Numbers that no trial gives. */
+static void chosen_in_noise(void)
+{
+    static const uint64_t values[] = {0, 1, 2, 3, 4, 64, 4096, UINT32_MAX, (1ull << 32) + 1, (1ull << 32) + 2, 1ull << 63, (1ull << 63) + 1, UINT64_MAX};
+    struct buffers *b = &trial_again;
+    for (int i = 0; i < COUNTS; i++)
+        b->numbers[i] = next() % 8 ? values[next() % (sizeof values / sizeof values[0])] : next();
+    if (next() % 4)
+        b->numbers[COUNTS - 1] = 1 + next() % 2;
+    size_t n1 = next() % 3 ? next() % 10 : next() % (RANGES + 1), n2 = next() % 3 ? next() % 10 : next() % (RANGES + 1);
+    uint64_t choice = b->numbers[COUNTS - 1], which = choice == 1 || choice == 2 ? choice : 0;
+    uint64_t outer = b->numbers[which == 2 ? 8 : 3], room = which == 1 ? n1 : which == 2 ? n2 : 0;
+    must(is_part(b, n1, n2, which, outer <= room / 2 ? 2 * outer : 0), "any numbers tell a part of the buffer, or none");
+}
+
 static void noise(const struct region *some)
 {
     static const int64_t counts[] = {0, 1, 2047, 2048, 2049, -1, INT64_MAX, INT64_MIN};
@@ -311,6 +531,9 @@ static void noise(const struct region *some)
     size_t elements = next() % 4 ? HTM_INDEX_LENGTH : next() % HTM_INDEX_LENGTH;
     memcpy(kept, other, sizeof kept);
     frames_in_noise(some, elements, (uint32_t)(next() % 3));
+    if (line_number % 8 < 2)
+        trial_in_noise(some, elements, (uint32_t)(next() % 3));
+    chosen_in_noise();
     struct call c = {next() % 2, (uint32_t)(next() % 3), (uint32_t)(next() % 8), 0, 0, 1048576};
     int64_t answer = call(c, other, elements), count = htm_index_count(other, elements);
     must(answer == 0 || memcmp(kept, other, sizeof kept) == 0, "a refusal leaves a list of noise");
@@ -329,13 +552,15 @@ int main(int argc, char **argv)
     }
     static struct region some[3];
     memset(&painted, PAINT & 0xff, sizeof painted);
+    memset(&trial_painted, PAINT & 0xff, sizeof trial_painted);
     cases(open(argv[1]), open(argv[2]));
     printf("htm_add, htm_remove %ld made, %ld refused; htm_index_entry %ld lists; %ld differences\n", made, refused, listed, differ);
     printf("htm_frames %ld with %ld tests, %ld refused\n", found, tests, not_found);
+    printf("htm_trial %ld, the first chosen in %ld and the second in %ld, %ld refused\n", tried, chosen[1], chosen[2], not_tried);
     strcpy(line, "noise");
     make_regions(some);
     for (line_number = 0; line_number < NOISE; line_number++)
         noise(some);
     printf("%d lists of noise, %ld differences\n", NOISE, differ);
-    return differ || made == 0 || listed == 0 || found == 0 || tests == 0;
+    return differ || made == 0 || listed == 0 || found == 0 || tests == 0 || chosen[1] == 0 || chosen[2] == 0 || not_tried == 0;
 }

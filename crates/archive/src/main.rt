@@ -6,9 +6,14 @@
 //   list                     those of both owners
 //   frames OWNER HEX         the owner's entries that a region holds: DELIVERED TESTS N1 N2 .., their count, how many of its entries were put to the point
 //                            test, and their numbers in the order of the entries; or refused N. HEX is a region file in hexadecimal digits, `-` an empty one
+//   trial OWNER HEX D1 B1 D2 B2
+//                            a region under two settings, a depth and a budget each, which stand in for those of the file: U1 H1 X1 O1 I1 U2 H2 X2 O2
+//                            I2 CHOICE. Of each setting how many of the owner's entries are delivered unchecked, tested and held, and tested and discarded,
+//                            and how many ranges its outer and its inner list have; the choice, 1 or 2, is the one whose outer list spans the smaller share
+//                            of the sky, 1 if equal. Then `|LOW HIGH` for each range of that list, identifiers at its depth. Or refused N
 //
-// The index begins empty. A line of another shape is answered `usage`. Words are parted by one blank; numbers are decimal, OWNER and NUMBER of 32 bits
-// without a sign, X Y Z with an optional minus. A line ends with a line feed; the last line may do without. A line of more than 65536 bytes is of another shape.
+// The index begins empty. A line of another shape is answered `usage`. Words are parted by one blank; numbers are decimal, X Y Z with an optional minus, the
+// others without a sign, all of 32 bits. A line ends with a line feed; the last line may do without. A line of more than 65536 bytes is of another shape.
 // Where a read or a write fails, standard error says so and no line more is answered.
 use index::LEAST;
 

@@ -1,5 +1,5 @@
-// Lines of input over one index, each answered as it ends: the commands add, remove, list and frames. After a read that failed the line that has begun is not
-// answered, and after a write that failed nothing more is read.
+// Lines of input over one index, each answered as it ends: the commands add, remove, list, frames and trial. After a read that failed the line that has begun
+// is not answered, and after a write that failed nothing more is read.
 use answer::OWNER;
 use check::same;
 use index::Change;
@@ -121,6 +121,9 @@ fn answer(index: &mut [i64], line: &[u8], out: &mut Buffer, at: usize) -> usize 
     }
     if same(word, b"frames") {
         return archive_frames::frames(index, line, next, out, at);
+    }
+    if same(word, b"trial") {
+        return archive_trial::trial(index, line, next, out, at);
     }
     print::usage(out, at)
 }

@@ -5,7 +5,7 @@ use native.Mathlib.Omega.{arith}
 use mathlib.Core.Path.{_≡_, refl, ap, _∙_}
 use mathlib.Core.List.{List, [], _∷_, _++_, append-assoc}
 use lib.ListN.{length, take, drop, length-append, length-drop}
-use lib.Seq.{take-append-add, drop-at, length-take-le}
+use lib.Seq.{take-append-add, take-at, drop-at, length-take-le}
 use Rattle.answer.specs.Lent.{put}
 use Rattle.ranges.specs.Ranges.{Range, pairs, rangesIn}
 use Rattle.cutting.specs.Cover.{Cover, bothListed}
@@ -48,3 +48,13 @@ module _ (b : ℕ) (c : Cover) (before : List ℕ) (space : 4 * b ≤ length bef
 
   pub inner-back : rangesIn (length (c .inner)) (drop (2 * b) (bothListed b c before)) ≡ c .inner
   inner-back = ap (rangesIn (length (c .inner))) (inner-part (2 * b) (pairs (c .outer)) (pairs (c .inner)) before few half) ∙ read-back (c .inner) _
+
+  -- the pairs of the outer list, at the front
+  pub outer-front : (2 * length (c .outer) ≤ length (bothListed b c before)) × (take (2 * length (c .outer)) (bothListed b c before) ≡ pairs (c .outer))
+  outer-front =
+      let n = length-pairs (c .outer) in
+      let more = take (2 * b - length (pairs (c .outer))) (drop (0 + length (pairs (c .outer))) before) ++ (pairs (c .inner) ++ drop (2 * b + length (pairs (c .inner))) (put 0 (pairs (c .outer)) before)) in
+      let e : bothListed b c before ≡ pairs (c .outer) ++ more = outer-part (2 * b) (pairs (c .outer)) (pairs (c .inner)) before few half in (
+        omega (arith, ap length e, length-append (pairs (c .outer)) more),
+        ap (take (2 * length (c .outer))) e ∙ take-at (pairs (c .outer)) more (2 * length (c .outer)) n,
+      )

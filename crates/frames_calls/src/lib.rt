@@ -34,7 +34,7 @@ pub struct Searched {
 }
 
 // The cover of the region of `count` rows in the range list, and the walk over an owner's entries beside it, with the numbers delivered.
-fn search(
+pub fn search(
     index: &[i64],
     owner: u32,
     depth: u32,

@@ -132,6 +132,11 @@ module _ (d b : ℕ) (g : Region) (low : 1 ≤ d) (high : d ≤ 12) where
         ap (map pos) (ap deliveredBy each ∙ delivered-only d (holds g) os ns F es ∙ ap (map numberOf) (only-same isFiled (λ e. isDelivered (F e)) (λ e. holds g (e .pointing)) by-region es all))
         ∙ numbers-back held (only-every (λ e. holds g (e .pointing)) isFiled es all)
 
+    held-delivered : tally (λ m. isDelivered (m .fate)) (walk d (holds g) os ns es) ≡ tally (λ e. holds g (e .pointing)) es
+    held-delivered =
+        ap (tally (λ m. isDelivered (m .fate))) each ∙ tallied d (holds g) os ns F isDelivered es
+        ∙ tally-same isFiled (λ e. isDelivered (F e)) (λ e. holds g (e .pointing)) by-region es all
+
     counted : testsOf (walk d (holds g) os ns es) ≡ tally (outerOnly d os ns) es
     counted =
         ap testsOf each ∙ tallied d (holds g) os ns F isTested es
@@ -159,6 +164,13 @@ delivers d b g low high l i o =
       exactly = ap (λ es. map pos (deliveredBy (w es))) (share l i o) ∙ exactly d b g low high (entriesBy o l) (own-ascends l i o) (own-filed l i o);
       counted = ap (λ es. testsOf (w es)) (share l i o) ∙ counted d b g low high (entriesBy o l) (own-ascends l i o) (own-filed l i o);
     }
+
+-- as many as the region holds
+pub delivered-tally : (d b : ℕ) (g : Region) → 1 ≤ d → d ≤ 12 → (l : List ℤ) → IsIndex l → (o : ℕ)
+    → tally (λ m. isDelivered (m .fate)) (walk d (holds g) (coverOf d b g .outer) (coverOf d b g .inner) (entriesOf o l)) ≡ tally (λ e. holds g (e .pointing)) (entriesBy o l)
+delivered-tally d b g low high l i o =
+    ap (λ es. tally (λ m. isDelivered (m .fate)) (walk d (holds g) (coverOf d b g .outer) (coverOf d b g .inner) es)) (share l i o)
+    ∙ held-delivered d b g low high (entriesBy o l) (own-ascends l i o) (own-filed l i o)
 
 pub frames-kept : Frames
 unfolding walkOf

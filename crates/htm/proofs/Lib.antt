@@ -10,3 +10,5 @@ pub mod Starred
 pub mod TightestKept
 pub mod FramesCLaws
 pub mod FramesKept
+pub mod TrialsKept
+pub mod TrialCLaws

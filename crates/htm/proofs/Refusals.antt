@@ -2,16 +2,17 @@
 -- for a refusal is the list as it was. Assumes nothing.
 use Prim.Native.Nat.{ℕ, _*_}
 use mathlib.Core.Path.{_≡_, refl, ap, _∙_}
-use mathlib.Core.Bool.{Bool, true, false}
+use mathlib.Core.Bool.{Bool, true, false, cond}
 use mathlib.Core.List.{List}
 use lib.Dec.{leb}
 use lib.ListN.{length}
 use lib.IntN.{ℤ}
-use Rattle.answer.specs.Answer.{Answer, refused, gives, check, then, with-value, Space, Owner}
+use Rattle.answer.specs.Answer.{Answer, refused, gives, check, then, with-value, Depth, Budget, Space, Owner}
 use Rattle.answer.specs.Lent.{put, stored}
 use Rattle.answer.proofs.LentLaws.{first-refusal, not-stored}
 use Rattle.mesh.specs.Answers.{nameInto, nameAnswer, nameAfter}
-use Rattle.region.specs.Budgets.{budgetOf}
+use Rattle.vector.specs.Numbers.{isDepth}
+use Rattle.region.specs.Budgets.{isBudget, budgetOf}
 use Rattle.region.specs.Reader.{File, read}
 use Rattle.region.specs.Writer.{writeIn}
 use Rattle.region.specs.Converting.{convert}
@@ -25,8 +26,15 @@ use Rattle.frames.specs.declared.Frames.{Frames}
 use Rattle.frames.specs.Walk.{deliveredBy}
 use Rattle.frames.specs.Answers.{framesInto, walkOf, framesBy, framesList, framesAnswer, rangesAfter, numbersAfter}
 use Rattle.htm.specs.Answers.{coverInto, coverAnswer, bothLists, coverAfter}
-use Rattle.htm_values.specs.Values.{cornersList, headerList}
+use Rattle.htm_values.specs.Values.{cornersList, headerList, refusalOf}
 use Rattle.htm.specs.CalledFromC.{entryAfterC, cornersForC, cornersAfterC, inBoth, readForC, rowsAfterC, headerAfterC, coverForC, coverAfterC, countsAfterC, framesIntoC, framesForC, rangesAfterC, numbersAfterC, framesAfterC}
+use Rattle.trial.specs.declared.Setting.{Setting}
+use Rattle.trial.specs.declared.Trial.{Trial}
+use Rattle.trial.specs.Trials.{trialOf}
+use Rattle.trial.specs.Answers.{settled, roomFor, trialInto, trialAnswer, listsBy, firstAfter, secondAfter, trialList}
+use Rattle.trial.specs.Answers as trial
+use Rattle.trial_values.specs.Values.{settingAt}
+use Rattle.htm.specs.TrialFromC.{trialIntoC, trialForC, firstAfterC, secondAfterC, trialAfterC, chosenAfterC}
 use Rattle.htm.specs.Refusals.{SpaceLast, LentListsStay}
 
 -- the owner's refusal, or the file's, is that of what comes behind both
@@ -39,8 +47,38 @@ frames-refused o l f ranges numbers n e =
     let rest : File → Answer File = λ x. check Space (leb (4 * budgetOf (x .budget)) (length ranges)) (check Space (leb Share (length numbers)) (inList l (gives x))) in
     check-then (isOwner o) (read f) rest ∙ ap (λ a. then a rest) e
 
+-- the same of a trial: the rooms come behind the settings
+settle-then : (f : File → Answer File) (x : File) (a b c d : Bool)
+    → check Depth a (check Budget b (check Depth c (check Budget d (f x)))) ≡ then (check Depth a (check Budget b (check Depth c (check Budget d (gives x))))) f
+settle-then f x false b c d = refl
+settle-then f x true false c d = refl
+settle-then f x true true false d = refl
+settle-then f x true true true false = refl
+settle-then f x true true true true = refl
+
+module _ (o : ℕ) (l : List ℤ) (f first second : List ℕ) (s t : Setting) where
+  abbrev rooms : File → Answer File
+  rooms x = roomFor s first (roomFor t second (inList l (gives x)))
+
+  behind : (b : Bool) (a : Answer File) → check Owner b (then a (λ x. settled s (settled t (rooms x)))) ≡ then (check Owner b (then a (λ x. settled s (settled t (gives x))))) rooms
+  behind false a = refl
+  behind true (refused n) = refl
+  behind true (gives x) = settle-then rooms x (isDepth (s .depth)) (isBudget (s .budget)) (isDepth (t .depth)) (isBudget (t .budget))
+
+  trial-refused : (n : ℕ) → check Owner (isOwner o) (then (read f) (λ x. settled s (settled t (gives x)))) ≡ refused n → trialInto o l f s t first second ≡ refused n
+  trial-refused n e = behind (isOwner o) (read f) ∙ ap (λ a. then a rooms) e
+
+-- for C: whether the settings are there or not, the owner and the file come first
+module _ (o : ℕ) (l : List ℤ) (f ss first second numbers : List ℕ) (n : ℕ) (e : check Owner (isOwner o) (read f) ≡ refused n) where
+  owner-or-file : (g : File → Answer File) → check Owner (isOwner o) (then (read f) g) ≡ refused n
+  owner-or-file g = check-then (isOwner o) (read f) g ∙ ap (λ a. then a g) e
+
+  trial-c-refused : (b : Bool) → cond b (inBoth trial.counted (trialInto o l f (settingAt ss 0) (settingAt ss 2) first second) numbers) (check Owner (isOwner o) (refusalOf f)) ≡ refused n
+  trial-c-refused true = ap (λ a. inBoth trial.counted a numbers) (owner-or-file (λ x. settled (settingAt ss 0) (settled (settingAt ss 2) (rooms o l f first second (settingAt ss 0) (settingAt ss 2) x))))
+  trial-c-refused false = owner-or-file (λ x. refused Space)
+
 pub space-last : SpaceLast
-unfolding nameAnswer readAnswer fileAnswer coverAnswer cornersForC readForC coverForC framesAnswer framesForC
+unfolding trialAnswer trialForC nameAnswer readAnswer fileAnswer coverAnswer cornersForC readForC coverForC framesAnswer framesForC
 space-last = (
   λ i n before. first-refusal length _ _ n,
   λ f n before. first-refusal headerOf _ _ n,
@@ -52,10 +90,13 @@ space-last = (
   λ f n out counts e. rw e,
   λ o n l f ranges numbers e. ap (with-value (λ x. framesBy (walkOf o l x))) (frames-refused o l f ranges numbers n e),
   λ o n l f ranges numbers counts e. first-refusal (λ x. framesBy (walkOf o l x)) (framesInto o l f ranges numbers) _ n (frames-refused o l f ranges numbers n e),
+  λ o n l f first second s t e. ap (with-value (λ x. trialOf o l (x .region) s t)) (trial-refused o l f first second s t n e),
+  λ o n l f ss first second numbers e.
+      ap (with-value (λ x. trialOf o l (x .region) (settingAt ss 0) (settingAt ss 2))) (trial-c-refused o l f ss first second numbers n e (leb 4 (length ss))),
 )
 
 pub lent-lists-stay : LentListsStay
-unfolding framesAnswer rangesAfter numbersAfter framesForC rangesAfterC numbersAfterC framesAfterC beginAnswer beginAfter addAnswer addAfter removeAnswer removeAfter entryAfterC nameAnswer nameAfter readAnswer readAfter fileAnswer fileAfter coverAnswer coverAfter cornersAfterC readForC rowsAfterC headerAfterC coverForC coverAfterC countsAfterC
+unfolding trialAnswer firstAfter secondAfter trialForC firstAfterC secondAfterC trialAfterC chosenAfterC framesAnswer rangesAfter numbersAfter framesForC rangesAfterC numbersAfterC framesAfterC beginAnswer beginAfter addAnswer addAfter removeAnswer removeAfter entryAfterC nameAnswer nameAfter readAnswer readAfter fileAnswer fileAfter coverAnswer coverAfter cornersAfterC readForC rowsAfterC headerAfterC coverForC coverAfterC countsAfterC
 lent-lists-stay = (
   λ i n before. not-stored length (put 0) (nameInto i before) before n,
   λ f n before. not-stored headerOf rowsInto (readInto f before) before n,
@@ -80,4 +121,16 @@ lent-lists-stay = (
         not-stored v (λ x before. put 0 (deliveredBy (walkOf o l x)) before) a numbers n e,
         ap (λ b. stored (λ r before. put 0 (framesList r) before) b counts) e,
       ),
+  λ o n l f first second s t e.
+      let a = trialInto o l f s t first second in
+      let v : File → Trial = λ x. trialOf o l (x .region) s t in
+      (not-stored v (listsBy s) a first n e, not-stored v (listsBy t) a second n e),
+  λ o n l f ss first second numbers e.
+      let a = trialIntoC o l f ss first second numbers in
+      let v : File → Trial = λ x. trialOf o l (x .region) (settingAt ss 0) (settingAt ss 2) in (
+        not-stored v (listsBy (settingAt ss 0)) a first n e,
+        not-stored v (listsBy (settingAt ss 2)) a second n e,
+        ap (λ b. stored (λ r before. put 0 (trialList r) before) b numbers) e,
+      ),
+  λ n ns first second part. ap (λ a. stored (put 0) a part),
 )

@@ -7,3 +7,5 @@ pub mod Counted
 pub mod EitherForm
 pub mod Tightest
 pub mod Frames
+pub mod Trials
+pub mod TrialFromC

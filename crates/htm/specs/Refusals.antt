@@ -3,14 +3,15 @@
 -- conversions (`convert`) and the cover; for C also the corners, and the reader and the cover with a second list. (The calls for C that answer a length have
 -- the rules of the others.)
 -- Those that write into an index are begin, add and remove; there 10 says that the list is no index, and comes before what is asked of one. The frames of a
--- region write into two lists, for C into three; there 10 comes after the owner and the file.
+-- region write into two lists, for C into three; there 10 comes after the owner and the file. A trial writes into two buffers, for C also into a list of numbers;
+-- there 10 comes after the settings too.
 --   SpaceLast     what is refused for another reason keeps its number, whatever list is lent
 --   LentListsStay where a call refuses, every lent list is as it was
 use Prim.Native.Nat.{ℕ}
 use mathlib.Core.Path.{_≡_}
 use mathlib.Core.List.{List}
 use lib.IntN.{ℤ}
-use Rattle.answer.specs.Answer.{refused, check, Owner}
+use Rattle.answer.specs.Answer.{refused, gives, check, then, Owner}
 use Rattle.mesh.specs.Identifiers.{corners}
 use Rattle.mesh.specs.Names.{nameOf}
 use Rattle.mesh.specs.Answers.{nameAnswer, nameAfter}
@@ -22,8 +23,11 @@ use Rattle.region.specs.Answers.{readAnswer, readAfter, fileAnswer, fileAfter}
 use Rattle.index.specs.Exposures.{isOwner, Exposure, Key}
 use Rattle.index.specs.Answers.{beginAnswer, beginAfter, addAnswer, addAfter, removeAnswer, removeAfter}
 use Rattle.frames.specs.Answers.{framesAnswer, rangesAfter, numbersAfter}
+use Rattle.trial.specs.declared.Setting.{Setting}
+use Rattle.trial.specs.Answers.{settled, trialAnswer, firstAfter, secondAfter}
 use Rattle.htm.specs.Answers.{coverAnswer, coverAfter}
 use Rattle.htm.specs.CalledFromC.{entryForC, entryAfterC, cornersForC, cornersAfterC, readForC, rowsAfterC, headerAfterC, coverForC, coverAfterC, countsAfterC, framesForC, rangesAfterC, numbersAfterC, framesAfterC}
+use Rattle.htm.specs.TrialFromC.{trialForC, firstAfterC, secondAfterC, trialAfterC, chosenForC, chosenAfterC}
 
 abbrev pub SpaceLast : Type 0
 SpaceLast =
@@ -38,6 +42,10 @@ SpaceLast =
     × ((o n : ℕ) (l : List ℤ) (f ranges numbers : List ℕ) → check Owner (isOwner o) (read f) ≡ refused n → framesAnswer o l f ranges numbers ≡ refused n)
     × ((o n : ℕ) (l : List ℤ) (f ranges numbers counts : List ℕ) → check Owner (isOwner o) (read f) ≡ refused n
     → framesForC o l f ranges numbers counts ≡ refused n)
+    × ((o n : ℕ) (l : List ℤ) (f first second : List ℕ) (s t : Setting) → check Owner (isOwner o) (then (read f) (λ x. settled s (settled t (gives x)))) ≡ refused n
+    → trialAnswer o l f s t first second ≡ refused n)
+    × ((o n : ℕ) (l : List ℤ) (f ss first second numbers : List ℕ) → check Owner (isOwner o) (read f) ≡ refused n
+    → trialForC o l f ss first second numbers ≡ refused n)
 
 abbrev pub LentListsStay : Type 0
 LentListsStay =
@@ -59,3 +67,9 @@ LentListsStay =
     × ((o n : ℕ) (l : List ℤ) (f ranges numbers counts : List ℕ) → framesForC o l f ranges numbers counts ≡ refused n
     → (rangesAfterC o l f ranges numbers counts ≡ ranges) × (numbersAfterC o l f ranges numbers counts ≡ numbers)
     × (framesAfterC o l f ranges numbers counts ≡ counts))
+    × ((o n : ℕ) (l : List ℤ) (f first second : List ℕ) (s t : Setting) → trialAnswer o l f s t first second ≡ refused n
+    → (firstAfter o l f s t first second ≡ first) × (secondAfter o l f s t first second ≡ second))
+    × ((o n : ℕ) (l : List ℤ) (f ss first second numbers : List ℕ) → trialForC o l f ss first second numbers ≡ refused n
+    → (firstAfterC o l f ss first second numbers ≡ first) × (secondAfterC o l f ss first second numbers ≡ second)
+    × (trialAfterC o l f ss first second numbers ≡ numbers))
+    × ((n : ℕ) (ns first second part : List ℕ) → chosenForC ns first second part ≡ refused n → chosenAfterC ns first second part ≡ part)

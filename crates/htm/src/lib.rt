@@ -13,6 +13,8 @@ use mount::Report;
 use region::HeaderOf;
 use region::HeldOf;
 use region::Style;
+use trial::Setting;
+use trial::TrialOf;
 use vector::VectorOf;
 ghost use mathlib.Core.Path.{_≡_};
 ghost use Rattle.answer.specs.Calls.{numberOf};
@@ -29,11 +31,13 @@ ghost use Rattle.index.specs.Exposures.{key, exposure};
 ghost use Rattle.index.specs.Answers.{beginAnswer, beginAfter, addAnswer, addAfter, removeAnswer, removeAfter, countAnswer, entryAnswer};
 ghost use Rattle.index.specs.Answers.{changeGiven, entryGiven};
 ghost use Rattle.frames.specs.Answers.{framesGiven, framesAnswer, rangesAfter, numbersAfter};
+ghost use Rattle.trial.specs.Answers.{trialGiven, trialAnswer, firstAfter, secondAfter, partOf};
 ghost use Rattle.htm.specs.Answers as answers;
 ghost use Rattle.htm.specs.Answers.{lookupReport, locateLine, coverGiven, coverAnswer, coverAfter};
 
 pub mod from_c;
 pub mod index_from_c;
+pub mod trial_from_c;
 
 // The six counts, or the number of the first check that failed.
 pub enum CoverOf {
@@ -219,4 +223,31 @@ pub fn frames(
     ensures { λ r. ⌜ now (numbers .exit) ≡ numbersAfter owner (now (index .entry)) (now (file .entry)) (now (ranges .entry)) (now (numbers .entry)) ⌝ }
 {
     frames_calls::frames(index, owner, file, ranges, numbers)
+}
+
+// A trial of one region under two settings, each a depth and a budget that stand in for the header's: the two lists of each in its buffer, what both come to,
+// and the choice. Refusals 18, the file's, 5 and 6 of the first setting, 5 and 6 of the second, then 10 where a buffer has fewer than 4 × its budget elements, or
+// `index` fewer than index::LEAST.
+pub fn trial(
+    index: &[i64],
+    owner: u32,
+    file: &[u8],
+    s: Setting,
+    t: Setting,
+    first: &mut [u64],
+    second: &mut [u64],
+) -> TrialOf
+    ensures { λ r. ⌜ trialGiven r ≡ trialAnswer owner (now (index .entry)) (now (file .entry)) s t (now (first .entry)) (now (second .entry)) ⌝ }
+    ensures { λ r. ⌜ now (first .exit) ≡ firstAfter owner (now (index .entry)) (now (file .entry)) s t (now (first .entry)) (now (second .entry)) ⌝ }
+    ensures { λ r. ⌜ now (second .exit) ≡ secondAfter owner (now (index .entry)) (now (file .entry)) s t (now (first .entry)) (now (second .entry)) ⌝ }
+{
+    trial_calls::trial(index, owner, file, s, t, first, second)
+}
+
+// The outer list that a trial chose, in its buffer: a part of one of the two, itself and not a copy. The empty part after a refused trial, where the chosen
+// buffer is shorter than the result's outer list, or where the result names no choice. Any result may be handed in.
+pub fn chosen<'a>(result: TrialOf, first: &'a [u64], second: &'a [u64]) -> &'a [u64]
+    ensures { λ r. ⌜ now r ≡ partOf result (now (first .entry)) (now (second .entry)) ⌝ }
+{
+    trial_calls::chosen(result, first, second)
 }

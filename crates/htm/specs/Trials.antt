@@ -1,0 +1,71 @@
+-- Trying settings before buying disks. Document 02, F-13: delivered plus held is the same under both settings; the part handed back is the outer list that
+-- spans the smaller share of the sky, the first if equal.
+--   heldBy o l g       how many entries of the owner o in the index l the region g holds
+--   SameHeld n r       under both settings of the trial r, what is delivered unchecked plus what is tested and held is n
+--   Trials             of the rules: of every index, owner, accepted file and pair of good settings
+--   chosenOf n s t     the setting that the choice n names; Smaller n s t g: its outer list spans no more than either, and the first is chosen if they are equal
+--   Tries ..           of a trial's answer and the two buffers afterwards: the same, and the part that the second call hands back of these buffers has the
+--                      chosen setting's outer list
+--   TrialsOfAnswers, TrialsOfCalls   of what the calls answer; of values that meet their contracts
+-- All are proved: proofs/TrialsKept.
+use Prim.Native.Nat.{ℕ, _+_, _≤_, _<_}
+use mathlib.Core.Path.{_≡_}
+use mathlib.Core.Bool.{true, cond}
+use mathlib.Core.List.{List}
+use lib.Dec.{eqb}
+use lib.IntN.{ℤ}
+use Rattle.algebra.specs.Lists.{tally}
+use Rattle.answer.specs.Answer.{gives}
+use Rattle.region.specs.Regions.{Region, holds}
+use Rattle.region.specs.Reader.{File, Accepted}
+use Rattle.ranges.specs.Ranges.{pairs}
+use Rattle.index.specs.Kept.{IsIndex}
+use Rattle.trial.specs.declared.Setting.{Setting}
+use Rattle.trial.specs.declared.Trial.{Trial}
+use Rattle.trial.specs.declared.TrialOf.{TrialOf}
+use Rattle.trial.specs.Trials.{isSetting, coverBy, skyOf, trialOf}
+use Rattle.trial.specs.Answers.{trialAnswer, firstAfter, secondAfter, trialGiven, partOf}
+use Rattle.htm.specs.Frames.{entriesBy}
+
+abbrev pub heldBy : ℕ → List ℤ → Region → ℕ
+heldBy o l g = tally (λ e. holds g (e .pointing)) (entriesBy o l)
+
+pub record SameHeld (n : ℕ) (r : Trial) : Type 0 where
+  pub first : r .first .unchecked + r .first .held ≡ n
+  pub second : r .second .unchecked + r .second .held ≡ n
+
+abbrev pub Trials : Type 0
+Trials = (o : ℕ) (l : List ℤ) (f : List ℕ) (x : File) (s t : Setting) → IsIndex l → Accepted f x → isSetting s ≡ true → isSetting t ≡ true
+    → SameHeld (heldBy o l (x .region)) (trialOf o l (x .region) s t)
+
+-- ---- the choice
+
+abbrev pub chosenOf : ℕ → Setting → Setting → Setting
+chosenOf n s t = cond (eqb n 1) s t
+
+pub record Smaller (n : ℕ) (s t : Setting) (g : Region) : Type 0 where
+  pub no-first : skyOf (chosenOf n s t) g ≤ skyOf s g
+  pub no-second : skyOf (chosenOf n s t) g ≤ skyOf t g
+  pub equal : skyOf s g ≡ skyOf t g → n ≡ 1
+
+-- ---- of the answers and of the calls
+
+-- r is what the trial answered, one and two are the buffers afterwards, and part is what the second call hands back
+pub record Tries (o : ℕ) (l : List ℤ) (f : List ℕ) (s t : Setting) (r : Trial) (part : List ℕ) : Type 0 where
+  pub file : File
+  pub accepted : Accepted f file
+  pub same-held : IsIndex l → SameHeld (heldBy o l (file .region)) r
+  pub smaller : Smaller (r .choice) s t (file .region)
+  pub outer : part ≡ pairs (coverBy (chosenOf (r .choice) s t) (file .region) .outer)
+
+abbrev pub TrialsOfAnswers : Type 0
+TrialsOfAnswers =
+    (o : ℕ) (l : List ℤ) (f : List ℕ) (s t : Setting) (first second : List ℕ) (r : Trial) → trialAnswer o l f s t first second ≡ gives r
+    → Tries o l f s t r (partOf (TrialOf.Gives r) (firstAfter o l f s t first second) (secondAfter o l f s t first second))
+
+abbrev pub TrialsOfCalls : Type 0
+TrialsOfCalls =
+    (o : ℕ) (l : List ℤ) (f : List ℕ) (s t : Setting) (first second one two part : List ℕ) (r : Trial)
+    → trialGiven (TrialOf.Gives r) ≡ trialAnswer o l f s t first second
+    → one ≡ firstAfter o l f s t first second → two ≡ secondAfter o l f s t first second → part ≡ partOf (TrialOf.Gives r) one two
+    → Tries o l f s t r part

@@ -1,0 +1,52 @@
+-- One region under two settings. Document 02, F-13: a trial steps through an owner's entries, reporting for each setting the frames delivered unchecked, tested
+-- and held, and tested and discarded. The settings stand in for the header's depth and budget.
+--   isSetting s        a depth from 1 to 12, and a budget of at most 2048
+--   coverBy s g        the cover of the region g under the setting s
+--   walkBy o l g s     the walk over the entries of the owner o in the list l beside that cover (frames/specs/Walk)
+--   triedBy o l g s    what the setting s comes to: the three counts of the walk, and how many ranges both lists have
+--   skyOf s g          the share of the sky that the outer list spans, in identifiers of depth 12
+--   choiceOf m n       1 where m is the smaller share or they are equal, else 2
+--   trialOf o l g s t  what both settings come to, and the choice
+use Prim.Native.Nat.{ℕ, _-_, _*_, _^_}
+use mathlib.Core.Bool.{Bool, cond, _&&_}
+use mathlib.Core.List.{List}
+use lib.Dec.{leb}
+use lib.ListN.{length}
+use lib.IntN.{ℤ}
+use Rattle.algebra.specs.Lists.{tally}
+use Rattle.vector.specs.Numbers.{isDepth}
+use Rattle.region.specs.Regions.{Region, holds}
+use Rattle.region.specs.Budgets.{isBudget}
+use Rattle.ranges.specs.Contents.{identifiers}
+use Rattle.cutting.specs.Cover.{Cover, coverOf}
+use Rattle.frames.specs.Walk.{entriesOf, Met, walk, isUnchecked, isHeld, isDiscarded}
+use Rattle.trial.specs.declared.Setting.{Setting}
+use Rattle.trial.specs.declared.Tried.{Tried}
+use Rattle.trial.specs.declared.Trial.{Trial}
+
+abbrev pub isSetting : Setting → Bool
+isSetting s = isDepth (s .depth) && isBudget (s .budget)
+
+abbrev pub coverBy : Setting → Region → Cover
+coverBy s g = coverOf (s .depth) (s .budget) g
+
+unfoldable pub walkBy : ℕ → List ℤ → Region → Setting → List Met
+walkBy o l g s = walk (s .depth) (holds g) (coverBy s g .outer) (coverBy s g .inner) (entriesOf o l)
+
+abbrev pub triedBy : ℕ → List ℤ → Region → Setting → Tried
+triedBy o l g s = record {
+  unchecked = tally (λ m. isUnchecked (m .fate)) (walkBy o l g s);
+  held = tally (λ m. isHeld (m .fate)) (walkBy o l g s);
+  discarded = tally (λ m. isDiscarded (m .fate)) (walkBy o l g s);
+  outer = length (coverBy s g .outer);
+  inner = length (coverBy s g .inner);
+}
+
+abbrev pub skyOf : Setting → Region → ℕ
+skyOf s g = identifiers (coverBy s g .outer) * 4 ^ (12 - s .depth)
+
+abbrev pub choiceOf : ℕ → ℕ → ℕ
+choiceOf m n = cond (leb m n) 1 2
+
+unfoldable pub trialOf : ℕ → List ℤ → Region → Setting → Setting → Trial
+trialOf o l g s t = record { first = triedBy o l g s; second = triedBy o l g t; choice = choiceOf (skyOf s g) (skyOf t g) }

@@ -1,0 +1,32 @@
+// A trial of two settings: the rules in specs/, and the types that they name. Document 02, F-13.
+
+// How many numbers a trial gives.
+pub const COUNTED: usize = 11;
+
+// A depth and a budget that stand in for those of a file's header.
+pub struct Setting {
+    pub depth: u32,
+    pub budget: u32,
+}
+
+// What one setting comes to: the frames delivered unchecked, tested and held, and tested and discarded, and how many ranges the outer and the inner list have.
+pub struct Tried {
+    pub unchecked: u64,
+    pub held: u64,
+    pub discarded: u64,
+    pub outer: u64,
+    pub inner: u64,
+}
+
+// What both come to, and the choice: 1 for the first, 2 for the second.
+pub struct Trial {
+    pub first: Tried,
+    pub second: Tried,
+    pub choice: u32,
+}
+
+// The same, or the number of the first check that failed.
+pub enum TrialOf {
+    Gives(Trial),
+    Refused(u32),
+}

@@ -1,0 +1,4 @@
+pub mod CheckLaws
+pub mod OutcomeLaws
+pub mod AnswerLaws
+pub mod PartLaws

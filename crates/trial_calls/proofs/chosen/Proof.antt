@@ -1,0 +1,24 @@
+-- `trial_calls::chosen` takes the part by what the trial gave, and none after a refusal. Assumes nothing.
+use mathlib.Core.Path.{sym, ap, _∙_}
+use denote.Ref.{now}
+use borrow.Author.Needs.{needs}
+use Rattle.trial.specs.Answers.{partOf}
+use Rattle.trial_calls.proofs.chosen.Statement.{statement}
+use Rattle.trial_calls.proofs.chosen.Tie as tie
+
+given : tie.Need-returns
+given c =
+    let r = c .before .before in
+    let a = r .before .before .before .before .args in
+    c .part-by .ensures ∙ sym (ap (λ x. partOf x (now (a .first)) (now (a .second))) (r .result .given .1))
+
+pub chosen-spec : {M : Type 1} → statement M
+chosen-spec =
+    tie.close
+    (tie.spec
+    (λ c. c .match .keys1)
+    (λ c κs. tt)
+    (λ c. c .match .keys2)
+    (λ c. search needs)
+    given
+    (λ c. search needs))

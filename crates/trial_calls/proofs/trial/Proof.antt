@@ -1,0 +1,63 @@
+-- `trial_calls::trial` checks the owner and decodes the file. Assumes nothing.
+use mathlib.Core.Path.{_≡_, sym, ap, _∙_}
+use mathlib.Core.Bool.{true}
+use native.Mathlib.Omega.{arith}
+use borrow.Author.Needs.{needs}
+use borrow.Author.Tests.{lt-ltb, le-ltb}
+use denote.Ref.{now}
+use Rattle.region.specs.Answers.{headerGiven}
+use Rattle.index.specs.Exposures.{isOwner}
+use Rattle.cutting_cover.specs.Decoded.{Decoded}
+use Rattle.cutting_cover.proofs.DecodedLaws.{decoded}
+use Rattle.trial_calls.proofs.AnswerLaws.{no-owner, file-refused}
+use Rattle.trial_calls.proofs.trial.Statement.{statement}
+use Rattle.trial_calls.proofs.trial.Tie as tie
+
+other : tie.Need-returns
+other c =
+    let a = c .before .before .before .before .args in
+    let r = no-owner (a .owner) (now (a .index)) (now (a .file)) (a .s) (a .t) (now (a .first)) (now (a .second)) (le-ltb (a .owner) 2 (omega (arith, c .if1 .taken))) in
+    (r .answer, (r .first-left, r .second-left))
+
+own : (c : tie.Else1) → isOwner (c .before .before .before .before .args .owner) ≡ true
+own c = lt-ltb (c .before .before .before .before .args .owner) 2 (omega (arith, c .if1 .left))
+
+-- the file is decoded
+file : (c : tie.After-known-told) → Decoded (now (c .before .before .before .before .before .before .before .before .before .args .file)) (c .before .said .given .0 .0) (c .before .before .before .decode .last .1 .0)
+file c =
+    let s = c .before in
+    let d = s .before .before in
+    decoded (now (d .before .before .before .before .before .before .args .file)) (s .said .given .0 .0) _ _ (sym (ap headerGiven (s .said .given .1)) ∙ d .decode .ensures .0) (d .decode .ensures .1)
+
+wants : tie.Need-trial-in-requires
+wants c κs =
+    let t = c .before .before .before in
+    ((_, file t), own (t .before .before .before .before .before))
+
+given : tie.Need-returns-2
+given c =
+    let v = c .before .before .before .before in
+    let r = v .trial-in .ensures _ (file (v .before .before .before .before)) in
+    (r .answer, (r .first-left, r .second-left))
+
+refused : tie.Need-returns-3
+refused c =
+    let d = c .before .before .before in
+    let e = d .before .before in
+    let a = e .before .before .before .before .args in
+    let r = file-refused (a .owner) (now (a .index)) (now (a .file)) (a .s) (a .t) (now (a .first)) (now (a .second)) (own e) (c .before .said2 .given .0 .0) (sym (ap headerGiven (c .before .said2 .given .1)) ∙ d .decode .ensures .0) in
+    (r .answer, (r .first-left, r .second-left))
+
+pub trial-spec : {M : Type 1} → statement M
+trial-spec =
+    tie.close
+    (tie.spec
+    other
+    (λ c κs. search needs)
+    (λ c. search needs)
+    wants
+    (λ c. search needs)
+    (λ c. search needs)
+    (λ c. search needs)
+    given
+    refused)

@@ -1,0 +1,251 @@
+// A trial of one region under two settings, and the call beside it that hands back the outer list of the setting chosen: a part of one of the two buffers. The file
+// is decoded once, and each setting is searched as frames are (frames_calls). The rules are those of trial/specs.
+use answer::BUDGET;
+use answer::DEPTH;
+use answer::OWNER;
+use answer::SPACE;
+use frames_calls::Searched;
+use index::LEAST;
+use index::OWNERS;
+use index::SHARE;
+use limits::DEEPEST;
+use limits::HALFSPACES;
+use region::Header;
+use region::HeaderOf;
+use trial::Setting;
+use trial::Trial;
+use trial::TrialOf;
+use trial::Tried;
+ghost use mathlib.Core.Path.{_≡_};
+ghost use mathlib.Core.Bool.{true};
+ghost use mathlib.Core.List.{List};
+ghost use Prim.Native.Nat.{ℕ, _+_, _*_, _^_, _≤_};
+ghost use lib.Dec.{leb};
+ghost use lib.ListN.{length};
+ghost use Rattle.answer.specs.Lent.{put};
+ghost use Rattle.region.specs.Budgets.{budgetOf};
+ghost use Rattle.index.specs.Exposures.{isOwner};
+ghost use Rattle.index.specs.Entries.{Least};
+ghost use Rattle.cutting_walk.specs.Walk.{SomeRows};
+ghost use Rattle.cutting_cover.specs.Decoded.{Decoded};
+ghost use Rattle.frames_calls.specs.Searches.{FileIs};
+ghost use Rattle.trial.specs.Trials.{choiceOf};
+ghost use Rattle.trial.specs.Answers.{trialAnswer, firstAfter, secondAfter, trialGiven, trialList, counted, fitting, partBy, partOf};
+ghost use Rattle.trial_calls.specs.Tries.{Settles, Checks, outcomeOf, trialBy, TriesRows, Answers};
+
+// What one setting comes to, and the share of the sky that its outer list spans, in identifiers of depth 12.
+pub struct Outcome {
+    pub tried: Tried,
+    pub sky: u64,
+}
+
+// 5 or 6, where the setting is none; else 0.
+pub fn unsettled(s: Setting) -> u32
+    ensures { λ r. ⌜ Settles s r ⌝ }
+{
+    let deep = limits::is_depth(s.depth);
+    let paid = limits::is_budget(s.budget);
+    if !deep {
+        return DEPTH;
+    }
+    if !paid {
+        return BUDGET;
+    }
+    0
+}
+
+// Whether n elements are room for both lists of a setting.
+fn has_room(s: Setting, n: usize) -> bool
+    ensures { λ t. ⌜ t ≡ leb (4 * budgetOf (s .budget)) n ⌝ }
+{
+    4 * limits::budget_of(s.budget) <= n
+}
+
+// The number of the first check that fails, of those behind the file's; else 0. The lists are given by their lengths.
+fn refusal(index: usize, s: Setting, t: Setting, first: usize, second: usize) -> u32
+    ensures { λ r. ⌜ Checks index s t first second r ⌝ }
+{
+    let one = unsettled(s);
+    if one != 0 {
+        return one;
+    }
+    let two = unsettled(t);
+    if two != 0 {
+        return two;
+    }
+    if !has_room(s, first) {
+        return SPACE;
+    }
+    if !has_room(t, second) {
+        return SPACE;
+    }
+    if index < LEAST {
+        return SPACE;
+    }
+    0
+}
+
+// What a search at a depth comes to.
+fn outcome_of(depth: u32, made: Searched) -> Outcome
+    requires { ⌜ (1 ≤ depth) × (depth ≤ 12) × (made .counts .full + made .counts .partial + made .counts .swallowed ≤ 2 ^ 25) ⌝ }
+    ensures { λ r. ⌜ r ≡ outcomeOf depth made ⌝ }
+{
+    let span = cutting_cover::power(DEEPEST - depth);
+    Outcome {
+        tried: Tried {
+            unchecked: made.tests.unchecked,
+            held: made.tests.held,
+            discarded: made.tests.discarded,
+            outer: made.counts.outer,
+            inner: made.counts.inner,
+        },
+        sky: (made.counts.full + made.counts.partial + made.counts.swallowed) * span,
+    }
+}
+
+// One setting on the region of `count` rows: its lists in its buffer, and what it comes to.
+fn tried(
+    index: &[i64],
+    owner: u32,
+    s: Setting,
+    rows: &[i32; 5 * HALFSPACES],
+    count: usize,
+    ranges: &mut [u64],
+) -> Outcome
+    requires { ⌜ (1 ≤ s .depth) × (s .depth ≤ 12) × SomeRows count (now rows) ⌝ }
+    requires { ⌜ (4 * budgetOf (s .budget) ≤ length (now ranges)) × (Least ≤ length (now index)) ⌝ }
+    ensures { λ r. ⌜ TriesRows owner (now (index .entry)) s (now (rows .entry)) count (now (ranges .entry)) r (now (ranges .exit)) ⌝ }
+{
+    let mut numbers = [0u32; SHARE];
+    let made = frames_calls::search(
+        index,
+        owner,
+        s.depth,
+        limits::budget_of(s.budget),
+        rows,
+        count,
+        ranges,
+        &mut numbers,
+    );
+    outcome_of(s.depth, made)
+}
+
+// 1 where the first share is the smaller one or they are equal, else 2.
+fn choice(first: u64, second: u64) -> u32
+    ensures { λ r. ⌜ r ≡ choiceOf first second ⌝ }
+{
+    if first <= second { 1 } else { 2 }
+}
+
+// What both settings come to, and the choice.
+fn compared(a: Outcome, b: Outcome) -> Trial
+    ensures { λ r. ⌜ r ≡ trialBy a b ⌝ }
+{
+    let first = a.tried;
+    let second = b.tried;
+    Trial {
+        first: first,
+        second: second,
+        choice: choice(a.sky, b.sky),
+    }
+}
+
+// The trial of a decoded file; refusals 5, 6, 5, 6, 10.
+fn trial_in(
+    index: &[i64],
+    owner: u32,
+    h: Header,
+    rows: &[i32; 5 * HALFSPACES],
+    s: Setting,
+    t: Setting,
+    first: &mut [u64],
+    second: &mut [u64],
+) -> TrialOf
+    requires { ⌜ FileIs h (now rows) ⌝ }
+    requires { ⌜ isOwner owner ≡ true ⌝ }
+    ensures { λ r. ⌜ ((f : List ℕ) → Decoded f h (now (rows .entry)) → Answers owner (now (index .entry)) f s t (now (first .entry)) (now (second .entry)) r (now (first .exit)) (now (second .exit))) ⌝ }
+{
+    let refused = refusal(index.len(), s, t, first.len(), second.len());
+    if refused != 0 {
+        return TrialOf::Refused(refused);
+    }
+    let one = tried(index, owner, s, rows, h.count as usize, first);
+    let two = tried(index, owner, t, rows, h.count as usize, second);
+    TrialOf::Gives(compared(one, two))
+}
+
+// A trial: the two lists of each setting in its buffer, what both settings come to, and the choice; refusals 18, the file's, 5, 6, 5, 6, then 10.
+pub fn trial(
+    index: &[i64],
+    owner: u32,
+    file: &[u8],
+    s: Setting,
+    t: Setting,
+    first: &mut [u64],
+    second: &mut [u64],
+) -> TrialOf
+    ensures { λ r. ⌜ trialGiven r ≡ trialAnswer owner (now (index .entry)) (now (file .entry)) s t (now (first .entry)) (now (second .entry)) ⌝ }
+    ensures { λ r. ⌜ now (first .exit) ≡ firstAfter owner (now (index .entry)) (now (file .entry)) s t (now (first .entry)) (now (second .entry)) ⌝ }
+    ensures { λ r. ⌜ now (second .exit) ≡ secondAfter owner (now (index .entry)) (now (file .entry)) s t (now (first .entry)) (now (second .entry)) ⌝ }
+{
+    if OWNERS <= owner {
+        return TrialOf::Refused(OWNER);
+    }
+    let mut rows = [0i32; 5 * HALFSPACES];
+    let said = region_reader::decode(file, &mut rows);
+    match said {
+        HeaderOf::Gives(h) => trial_in(index, owner, h, &rows, s, t, first, second),
+        HeaderOf::Refused(n) => TrialOf::Refused(n),
+    }
+}
+
+// The first n pairs of a list, where it has so many; else none.
+fn front<'a>(n: u64, list: &'a [u64]) -> &'a [u64]
+    ensures { λ r. ⌜ now r ≡ fitting (2 * n) (now (list .entry)) ⌝ }
+{
+    if n <= (list.len() as u64) / 2 {
+        return &list[..2 * (n as usize)];
+    }
+    &list[..0]
+}
+
+// The outer list of the setting chosen, in its buffer.
+fn part_by<'a>(t: Trial, first: &'a [u64], second: &'a [u64]) -> &'a [u64]
+    ensures { λ r. ⌜ now r ≡ partBy t (now (first .entry)) (now (second .entry)) ⌝ }
+{
+    if t.choice == 1 {
+        return front(t.first.outer, first);
+    }
+    if t.choice == 2 {
+        return front(t.second.outer, second);
+    }
+    &first[..0]
+}
+
+// Of the two buffers of a trial the chosen one's outer list, itself and not a copy; the empty part after a refusal, or where the buffer is shorter.
+pub fn chosen<'a>(result: TrialOf, first: &'a [u64], second: &'a [u64]) -> &'a [u64]
+    ensures { λ r. ⌜ now r ≡ partOf result (now (first .entry)) (now (second .entry)) ⌝ }
+{
+    match result {
+        TrialOf::Gives(t) => part_by(t, first, second),
+        TrialOf::Refused(_) => &first[..0],
+    }
+}
+
+// What both settings come to, at the beginning of a list.
+pub fn put_trial(numbers: &mut [u64], r: Trial)
+    requires { ⌜ counted ≤ length (now numbers) ⌝ }
+    ensures { λ _. ⌜ now (numbers .exit) ≡ put 0 (trialList r) (now (numbers .entry)) ⌝ }
+{
+    numbers[0] = r.first.unchecked;
+    numbers[1] = r.first.held;
+    numbers[2] = r.first.discarded;
+    numbers[3] = r.first.outer;
+    numbers[4] = r.first.inner;
+    numbers[5] = r.second.unchecked;
+    numbers[6] = r.second.held;
+    numbers[7] = r.second.discarded;
+    numbers[8] = r.second.outer;
+    numbers[9] = r.second.inner;
+    numbers[10] = r.choice as u64;
+}
