@@ -4,8 +4,7 @@
 --   SameHeld n r       under both settings of the trial r, what is delivered unchecked plus what is tested and held is n
 --   Trials             of the rules: of every index, owner, accepted file and pair of good settings
 --   chosenOf n s t     the setting that the choice n names; Smaller n s t g: its outer list spans no more than either, and the first is chosen if they are equal
---   Tries ..           of a trial's answer and the two buffers afterwards: the same, and the part that the second call hands back of these buffers has the
---                      chosen setting's outer list
+--   Tries ..           of a trial's answer and the part that the second call hands back: the same, and the part has the chosen setting's outer list
 --   TrialsOfAnswers, TrialsOfCalls   of what the calls answer; of values that meet their contracts
 -- All are proved: proofs/TrialsKept.
 use Prim.Native.Nat.{ℕ, _+_, _≤_, _<_}
@@ -50,7 +49,7 @@ pub record Smaller (n : ℕ) (s t : Setting) (g : Region) : Type 0 where
 
 -- ---- of the answers and of the calls
 
--- r is what the trial answered, one and two are the buffers afterwards, and part is what the second call hands back
+-- r is what the trial answered, and part is what the second call hands back of the two buffers as the trial left them
 pub record Tries (o : ℕ) (l : List ℤ) (f : List ℕ) (s t : Setting) (r : Trial) (part : List ℕ) : Type 0 where
   pub file : File
   pub accepted : Accepted f file
