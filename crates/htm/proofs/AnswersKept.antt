@@ -22,7 +22,14 @@ use Rattle.cutting.specs.Cover.{cover, countsOf}
 use Rattle.cutting.specs.declared.Counts.{Counts}
 use Rattle.cutting.proofs.ListedLaws.{outer-back, inner-back}
 use Rattle.htm.specs.Answers.{coverInto, coverAnswer, bothLists, coverAfter, outerIn, innerIn}
-use Rattle.htm.specs.Promise.{Kept, PromiseOfAnswers, PromiseOfCalls}
+use Rattle.htm.specs.Promise.{Kept, PromiseOfAnswers, PromiseOfCalls, Demand3, DemandThree}
+use borrow.Author.Tests.{le-leb}
+use Rattle.answer.specs.Answer.{refused}
+use Rattle.region.specs.declared.HeldOf.{HeldOf}
+use Rattle.region.specs.Answers.{heldGiven}
+use Rattle.mesh.specs.Lookup.{lookup}
+use Rattle.htm.specs.declared.CoverOf.{CoverOf}
+use Rattle.htm.specs.Answers.{coverGiven}
 use Rattle.htm.proofs.PromiseKept.{promise-kept}
 
 -- ---- the three answers
@@ -92,3 +99,42 @@ calls-kept p f before after c h cov left tst =
     let k = answers-kept p f before c h (sym cov) (sym tst) in
     let B = budgetOf (k .0 .budget) in
     (k .0, k .1, k .2, λ found e. found-is found (k .2) (e ∙ k .3), subst (λ l. Kept (k .2) (outerIn c l) (innerIn B c l) B h) (sym left) (k .4))
+
+-- ---- undivided
+
+cover-gives : (f before : List ℕ) (x : File) → Accepted f x → 4 * budgetOf (x .budget) ≤ length before → coverAnswer f before ≡ gives (countsOf (cover x))
+unfolding coverAnswer
+cover-gives f before x r l = rw (r, le-leb (4 * budgetOf (x .budget)) (length before) l)
+
+test-gives : (f : List ℕ) (p : Vec3) (x : File) → isVector p ≡ true → Accepted f x → pointTest f p ≡ gives (holds (x .region) p)
+unfolding pointTest
+test-gives f p x v r = rw (r, v)
+
+held-is : (r : HeldOf) (h : Bool) → heldGiven r ≡ gives h → r ≡ HeldOf.Gives h
+held-is (HeldOf.Gives b) h e = ap HeldOf.Gives (same-value b h e)
+held-is (HeldOf.Refused n) h e = refused-gives n h e
+
+covered-is : (r : CoverOf) (c : Counts) → coverGiven r ≡ gives c → r ≡ CoverOf.Gives c
+covered-is (CoverOf.Gives b) c e = ap CoverOf.Gives (same-value b c e)
+covered-is (CoverOf.Refused n) c e = refused-gives n c e
+
+pub demand-three : DemandThree
+demand-three p f before x v r l =
+    let k = promise-kept p f x v r in
+    let cov = cover-gives f before x r l in
+    let tst = test-gives f p x v r in
+    let c = covered f before (countsOf (cover x)) cov in
+    let same : c .file ≡ x = same-value (c .file) x (sym (c .accepted) ∙ r) in
+    let B = budgetOf (x .budget) in
+    let few = k .2 .outer-list .few in
+    let left : bothLists x before ≡ coverAfter f before = subst (λ y. bothLists y before ≡ coverAfter f before) same (c .lists) in (
+      k .0,
+      record {
+        rules = k .2;
+        answers = subst (λ s. Kept (k .0) (outerIn (countsOf (cover x)) s) (innerIn B (countsOf (cover x)) s) B (holds (x .region) p)) left
+            (subst₂ (λ o n. Kept (k .0) o n B (holds (x .region) p)) (sym (outer-back B (cover x) before l few)) (sym (inner-back B (cover x) before l few)) (k .2));
+        locates = λ found e. found-is found (k .0) (e ∙ k .1);
+        tests = λ q e. held-is q (holds (x .region) p) (e ∙ tst);
+        covers = λ q e. covered-is q (countsOf (cover x)) (e ∙ cov);
+      },
+    )

@@ -12,3 +12,5 @@ pub mod FramesCLaws
 pub mod FramesKept
 pub mod TrialsKept
 pub mod TrialCLaws
+pub mod HistoriesKept
+pub mod ReadBack

@@ -9,3 +9,4 @@ pub mod Tightest
 pub mod Frames
 pub mod Trials
 pub mod TrialFromC
+pub mod Histories

@@ -5,10 +5,11 @@
 --   outer-list, inner-list   each list ascends, leaves at least one identifier between neighbours, and has at most the budget of ranges
 -- `Promise` says so of the rules, `PromiseOfAnswers` of what the calls answer and of the lists that stand in the lent list afterwards,
 -- `PromiseOfCalls` of values that meet the calls' contracts. All are proved: proofs/PromiseKept, proofs/AnswersKept.
-use Prim.Native.Nat.{ℕ}
+use Prim.Native.Nat.{ℕ, _*_, _≤_}
 use mathlib.Core.Path.{_≡_}
 use mathlib.Core.Bool.{Bool, true}
 use mathlib.Core.List.{List}
+use lib.ListN.{length}
 use Rattle.answer.specs.declared.Number.{Number}
 use Rattle.answer.specs.Answer.{gives}
 use Rattle.answer.specs.Calls.{numberOf}
@@ -21,7 +22,7 @@ use Rattle.region.specs.Reader.{File, Accepted}
 use Rattle.region.specs.declared.HeldOf.{HeldOf}
 use Rattle.region.specs.Answers.{pointTest, heldGiven}
 use Rattle.ranges.specs.Ranges.{Range, inSome, timesIn, Proper}
-use Rattle.cutting.specs.Cover.{cover}
+use Rattle.cutting.specs.Cover.{cover, countsOf}
 use Rattle.cutting.specs.declared.Counts.{Counts}
 use Rattle.htm.specs.declared.CoverOf.{CoverOf}
 use Rattle.htm.specs.Answers.{coverAnswer, coverAfter, coverGiven, outerIn, innerIn}
@@ -56,3 +57,16 @@ PromiseOfCalls =
     → heldGiven (HeldOf.Gives held) ≡ pointTest f p
     → (x : File) × Accepted f x × (i : ℕ) × ((found : Number) → numberOf found ≡ lookup p (x .depth) → found ≡ Number.Gives i)
     × Kept i (outerIn c after) (innerIn (budgetOf (x .budget)) c after) (budgetOf (x .budget)) held
+
+-- Demand 3, undivided: of a vector, an accepted file and a list that is long enough, and of nothing else. The three calls give, and what they give is kept.
+pub record Demand3 (p : Vec3) (f before : List ℕ) (x : File) (i : ℕ) (held : Bool) (c : Counts) : Type 0 where
+  pub rules : Kept i (cover x .outer) (cover x .inner) (budgetOf (x .budget)) (holds (x .region) p)
+  pub answers : Kept i (outerIn c (coverAfter f before)) (innerIn (budgetOf (x .budget)) c (coverAfter f before)) (budgetOf (x .budget)) held
+  pub locates : (found : Number) → numberOf found ≡ lookup p (x .depth) → found ≡ Number.Gives i
+  pub tests : (r : HeldOf) → heldGiven r ≡ pointTest f p → r ≡ HeldOf.Gives held
+  pub covers : (r : CoverOf) → coverGiven r ≡ coverAnswer f before → r ≡ CoverOf.Gives c
+
+abbrev pub DemandThree : Type 0
+DemandThree =
+    (p : Vec3) (f before : List ℕ) (x : File) → isVector p ≡ true → Accepted f x → 4 * budgetOf (x .budget) ≤ length before
+    → (i : ℕ) × Demand3 p f before x i (holds (x .region) p) (countsOf (cover x))

@@ -5,7 +5,9 @@
 --   trialForC .., firstAfterC, secondAfterC, trialAfterC   what both settings come to; the two buffers and the list of numbers afterwards (`trialList`)
 --   chosenForC ..       which buffer, and how many of its elements are the part that is handed back (`partBy`); refusal 10 where the list of numbers has
 --                       fewer than eleven elements, or that for the answer fewer than two; chosenAfterC: the list for the answer afterwards
+--   ReadBack            what `htm_trial` left is what `htm_chosen` reads: the same result
 use Prim.Native.Nat.{ℕ}
+use mathlib.Core.Path.{_≡_}
 use mathlib.Core.Bool.{cond}
 use mathlib.Core.List.{List, [], _∷_}
 use lib.Dec.{leb}
@@ -52,3 +54,7 @@ chosenForC ns first second part = check Space (leb counted (length ns)) (check S
 
 unfoldable pub chosenAfterC : List ℕ → List ℕ → List ℕ → List ℕ → List ℕ
 chosenAfterC ns first second part = stored (put 0) (chosenForC ns first second part) part
+
+abbrev pub ReadBack : Type 0
+ReadBack = (o : ℕ) (l : List ℤ) (f ss first second numbers : List ℕ) (r : Trial) → trialForC o l f ss first second numbers ≡ gives r
+    → trialIn (trialAfterC o l f ss first second numbers) ≡ r

@@ -95,13 +95,13 @@ other-way x a d e =
     below-other (b .id) (a .id) (byNumber b a) (byNumber a b)
     (λ i. below-other (b .number) (a .number) (ltZ (b .owner) (a .owner)) (ltZ (a .owner) (b .owner)) (λ s. ltZ-other (b .owner) (a .owner) (owners s))) e
 
-goes-on : (a b c : Entry) → precedes a b ≡ true → precedes b c ≡ true → precedes a c ≡ true
+pub goes-on : (a b c : Entry) → precedes a b ≡ true → precedes b c ≡ true → precedes a c ≡ true
 goes-on a b c e f =
     below-on (a .id) (b .id) (c .id) (byNumber a b) (byNumber b c) (byNumber a c)
     (below-on (a .number) (b .number) (c .number) (ltZ (a .owner) (b .owner)) (ltZ (b .owner) (c .owner)) (ltZ (a .owner) (c .owner)) (ltZ-trans (a .owner) (b .owner) (c .owner))) e f
 
 -- what precedes the first of entries that ascend precedes all
-precedes-all : (e x : Entry) (es : List Entry) → Ascends (x ∷ es) → precedes e x ≡ true → every (precedes e) (x ∷ es) ≡ true
+pub precedes-all : (e x : Entry) (es : List Entry) → Ascends (x ∷ es) → precedes e x ≡ true → every (precedes e) (x ∷ es) ≡ true
 unfolding every
 precedes-all e x [] a p = and-both p refl
 precedes-all e x (y ∷ es) a p = and-both p (precedes-all e y es (a .1) (goes-on e x y p (a .0)))
@@ -140,7 +140,7 @@ module _ (n : Exposure) where
 
 -- ---- one entry less
 
-tail-ascends : (x : Entry) (es : List Entry) → Ascends (x ∷ es) → Ascends es
+pub tail-ascends : (x : Entry) (es : List Entry) → Ascends (x ∷ es) → Ascends es
 tail-ascends x [] a = tt
 tail-ascends x (y ∷ es) a = a .1
 

@@ -16,10 +16,11 @@ use Rattle.index.specs.declared.Change.{Change}
 use Rattle.index.specs.Exposures.{Share, isOwner, Exposure, Key, keyOf, hasOwner, hasKey, only, hasPlace, Call, adds, removes, without, giving, leaving, answered, contentFrom, contentOf, answersFrom}
 use Rattle.index.specs.Entries.{entryOf, isOwned, entriesIn}
 use Rattle.index.specs.Kept.{Leaves}
-use Rattle.index.specs.Apart.{ownerOf, callsOf, answersTo, Ran, Apart, OwnEntries}
+use Rattle.index.specs.Apart.{ownerOf, callsOf, answersTo, Ran, Apart, OwnEntries, SameEntries}
 use Rattle.index.proofs.TallyLaws.{some-tally, only-tally}
 use Rattle.index.proofs.OrderLaws.{only-ascends}
 use Rattle.index.proofs.HistoryKept.{history-kept}
+use Rattle.index.proofs.OneList.{one-list}
 
 -- ---- answers
 
@@ -183,3 +184,10 @@ own-entries o h rs n r =
           ∙ sym (only-tally (λ x. f (entryOf x)) (hasOwner o) xs)
           ∙ ap (tally (λ x. f (entryOf x))) (content-alone o h []);
     }
+
+pub same-entries : SameEntries
+same-entries o h g rs qs m n r q e =
+    let a = own-entries o h rs m r in
+    let b = own-entries o g qs n q in
+    one-list (only (isOwned o) (entriesIn m)) (only (isOwned o) (entriesIn n)) (a .ascends) (b .ascends)
+    (λ f. a .exactly f ∙ ap (λ k. tally (λ x. f (entryOf x)) (contentOf Share k)) e ∙ sym (b .exactly f))

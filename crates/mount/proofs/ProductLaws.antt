@@ -19,7 +19,8 @@ use Rattle.answer.specs.Answer as answer
 use Rattle.answer.specs.Answer.{Answer, gives, check}
 use Rattle.vector.specs.Numbers.{signed}
 use Rattle.mount.specs.Floats.{componentOf}
-use Rattle.mount.proofs.ValueLaws.{byValue, float-by-value}
+use Rattle.mount.proofs.ValueLaws.{float-by-value}
+use Rattle.mount.specs.Values as values
 
 -- the rule by float operations: v * 2^20, cut to a whole number, where -1 ≤ v ≤ 1
 abbrev pub byProduct : Format → Float → Answer ℤ
@@ -150,7 +151,7 @@ inside true m e =
     ∙ or-le a b (eqb b a) (λ q. eq-eqb b a (sym q)) (λ l. ne-eqb b a (λ q. omega arith))
     ∙ (λ i. leb (mul-one (m * up e) i) (one-mul (down e) i)))
 
-product-by-value : (f : Format) (v : Float) → T (fits f v) → byProduct f v ≡ byValue v
+product-by-value : (f : Format) (v : Float) → T (fits f v) → byProduct f v ≡ values.componentOf v
 unfolding Ieee.le Ieee.lt Ieee.eq
 product-by-value f nan t = refl
 product-by-value f (inf true) t = refl
@@ -158,7 +159,7 @@ product-by-value f (inf false) t = refl
 product-by-value f (fin s m e) t =
     ap (λ u. check answer.Float u (gives (toSigned 63 (mul f (fin s m e) (fin false 1 (pos 20)))))) (inside s m e) ∙ go (leb (m * up e) (down e)) refl
   where
-    go : (u : Bool) → leb (m * up e) (down e) ≡ u → check answer.Float (leb (m * up e) (down e)) (gives (toSigned 63 (mul f (fin s m e) (fin false 1 (pos 20))))) ≡ byValue (fin s m e)
+    go : (u : Bool) → leb (m * up e) (down e) ≡ u → check answer.Float (leb (m * up e) (down e)) (gives (toSigned 63 (mul f (fin s m e) (fin false 1 (pos 20))))) ≡ values.componentOf (fin s m e)
     go true q = ap (λ z. check answer.Float (leb (m * up e) (down e)) (gives z)) (product f s m e t (leb-true (m * up e) (down e) q))
     go false q = rw q
 

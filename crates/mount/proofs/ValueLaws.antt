@@ -19,13 +19,8 @@ use Rattle.answer.specs.Answer as answer
 use Rattle.answer.specs.Answer.{Answer, refused, gives, check}
 use Rattle.vector.specs.Numbers.{signed}
 use Rattle.mount.specs.Floats.{widthOf, negative, field, fraction, denominator, usable, component, componentOf}
+use Rattle.mount.specs.Values as values
 use Rattle.mount.proofs.WidthLaws.{component-is}
-
--- the rule on the number that a float is, by the language's own account of floats: m * 2^e, which is m * up e / down e
-abbrev pub byValue : Float → Answer ℤ
-byValue nan = refused answer.Float
-byValue (inf s) = refused answer.Float
-byValue (fin s m e) = check answer.Float (leb (m * up e) (down e)) (gives (signed s (m * up e * 2 ^ 20 / down e)))
 
 -- ---- a float of the size a / c
 
@@ -46,7 +41,7 @@ module _ (n d a c : ℕ) (D : 0 < d) (C : 0 < c) (v : n * c ≡ a * d) where
   same-cut : n * 2 ^ 20 / d ≡ a * 2 ^ 20 / c
   same-cut = div-same (n * 2 ^ 20) d (a * 2 ^ 20) c D C (mul-right-comm n (2 ^ 20) c ∙ ap (λ k. k * 2 ^ 20) v ∙ mul-right-comm a d (2 ^ 20))
 
-valued : (x : Float) (s : Bool) (a c : ℕ) → 0 < c → HasValue x s a c → byValue x ≡ check answer.Float (leb a c) (gives (signed s (a * 2 ^ 20 / c)))
+valued : (x : Float) (s : Bool) (a c : ℕ) → 0 < c → HasValue x s a c → values.componentOf x ≡ check answer.Float (leb a c) (gives (signed s (a * 2 ^ 20 / c)))
 valued nan s a c C h = absurd h
 valued (inf t) s a c C h = absurd h
 valued (fin t m e) s a c C h =
@@ -75,7 +70,7 @@ module _ (f : Format) (s : Bool) (t : ℕ) where
   some : 0 < c
   some = mul-pos (pow-pos (low f)) (omega arith)
 
-  read : (x : ℕ) → eqb 0 (ones f) ≡ false → byValue (ofFields f s x t) ≡ answerAt (hid f) (ones f) c s x t
+  read : (x : ℕ) → eqb 0 (ones f) ≡ false → values.componentOf (ofFields f s x t) ≡ answerAt (hid f) (ones f) c s x t
   unfolding ofFields
   read zero o =
       valued (odd (prec f) s t 0 (low f)) s (t * 2 ^ 0 * 2) c some (doubled (odd (prec f) s t 0 (low f)) s (t * 2 ^ 0) (2 ^ low f) (odd-sign (prec f) s t 0 (low f)))
@@ -95,7 +90,7 @@ module _ (f : Format) (s : Bool) (t : ℕ) where
       lead : q * 2 ^ k * 2 ≡ n
       lead = rw (eqb·suc-zero k, max-eq-right (one-le k), pow-suc 2 k) (mul-assoc q (2 ^ k) 2)
 
-      go : (a b : Bool) → byValue (cond a (cond b (inf s) nan) v) ≡ check answer.Float (not a && leb n c) (gives (signed s (n * 2 ^ 20 / c)))
+      go : (a b : Bool) → values.componentOf (cond a (cond b (inf s) nan) v) ≡ check answer.Float (not a && leb n c) (gives (signed s (n * 2 ^ 20 / c)))
       go true true = refl
       go true false = refl
       go false b =
@@ -122,7 +117,7 @@ hid-is binary32 = refl
 hid-is binary64 = refl
 
 -- every pattern of bits, also a NaN's
-pub bits-by-value : (f : Format) (b : ℕ) → component (widthOf f) b ≡ byValue (ofBits f b)
+pub bits-by-value : (f : Format) (b : ℕ) → component (widthOf f) b ≡ values.componentOf (ofBits f b)
 unfolding usable ofBits
 bits-by-value f b =
     let w = widthOf f in
@@ -134,5 +129,5 @@ bits-by-value f b =
     ∙ ap (λ x. answerAt (2 ^ w .fraction) (2 ^ w .exponent - 1) (denominator w) (negative w b) x (fraction w b)) (pow.field b (w .exponent) (w .fraction)))
 
 -- every float of a format
-pub float-by-value : (f : Format) (v : Float) → T (fits f v) → componentOf f v ≡ byValue v
-float-by-value f v h = bits-by-value f (toBits f v) ∙ ap byValue (ofBits-toBits f v h)
+pub float-by-value : (f : Format) (v : Float) → T (fits f v) → componentOf f v ≡ values.componentOf v
+float-by-value f v h = bits-by-value f (toBits f v) ∙ ap values.componentOf (ofBits-toBits f v h)

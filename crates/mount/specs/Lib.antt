@@ -1,3 +1,4 @@
 pub mod Floats
 pub mod Widths
+pub mod Values
 pub mod Reports

@@ -5,11 +5,10 @@ use vector::Vec3;
 use vector::VectorOf;
 ghost use mathlib.Core.Path.{_≡_};
 ghost use Prim.Native.Nat.{_^_, _≤_, _<_};
-ghost use lib.Ieee.{binary32, binary64};
 ghost use Rattle.vector.specs.Numbers.{signed};
 ghost use Rattle.vector.specs.Answers.{vectorGiven};
 ghost use Rattle.mount.specs.Floats as floats;
-ghost use Rattle.mount.specs.Floats.{componentOf};
+ghost use Rattle.mount.specs.Values.{componentOf};
 ghost use Rattle.mount.specs.Widths.{Usual};
 ghost use Rattle.mount.specs.Reports as reports;
 ghost use Rattle.mount.specs.Reports.{componentGiven, threeOf};
@@ -70,7 +69,7 @@ fn component(bits: u64, w: Width) -> ComponentOf
 
 // The component of an f32. Every NaN is refused, whatever its bits.
 pub fn of_single(s: f32) -> ComponentOf
-    ensures { λ r. ⌜ componentGiven r ≡ componentOf binary32 s ⌝ }
+    ensures { λ r. ⌜ componentGiven r ≡ componentOf s ⌝ }
 {
     if s != s {
         return ComponentOf::Refused(FLOAT);
@@ -86,7 +85,7 @@ pub fn of_single(s: f32) -> ComponentOf
 
 // The component of an f64.
 pub fn of_double(d: f64) -> ComponentOf
-    ensures { λ r. ⌜ componentGiven r ≡ componentOf binary64 d ⌝ }
+    ensures { λ r. ⌜ componentGiven r ≡ componentOf d ⌝ }
 {
     if d != d {
         return ComponentOf::Refused(FLOAT);

@@ -9,6 +9,7 @@
 --   fitting n l        the first n elements of l, where it has so many; else none
 --   partBy t first second   of the two buffers the chosen one's first 2 × outer count elements; none where it is shorter, or where the choice is neither
 --   partOf r first second   the same of what a trial answered; none after a refusal
+--   bufferOf r first second  of two things, one for each buffer, that of the buffer which the part is of: of the first unless the second is chosen
 use Prim.Native.Nat.{ℕ, _*_}
 use mathlib.Core.Bool.{cond}
 use mathlib.Core.List.{List, [], _∷_}
@@ -80,3 +81,10 @@ partBy t first second =
 abbrev pub partOf : TrialOf → List ℕ → List ℕ → List ℕ
 partOf (TrialOf.Gives t) first second = partBy t first second
 partOf (TrialOf.Refused n) first second = []
+
+abbrev pub bufferBy : {A : Type 0} → Trial → A → A → A
+bufferBy t first second = cond (eqb (t .choice) 1) first (cond (eqb (t .choice) 2) second first)
+
+abbrev pub bufferOf : {A : Type 0} → TrialOf → A → A → A
+bufferOf (TrialOf.Gives t) first second = bufferBy t first second
+bufferOf (TrialOf.Refused n) first second = first

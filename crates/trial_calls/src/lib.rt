@@ -22,6 +22,7 @@ ghost use mathlib.Core.List.{List};
 ghost use Prim.Native.Nat.{ℕ, _+_, _*_, _^_, _≤_};
 ghost use lib.Dec.{leb};
 ghost use lib.ListN.{length};
+ghost use denote.Ref.{ptr};
 ghost use Rattle.answer.specs.Lent.{put};
 ghost use Rattle.region.specs.Budgets.{budgetOf};
 ghost use Rattle.index.specs.Exposures.{isOwner};
@@ -30,7 +31,7 @@ ghost use Rattle.cutting_walk.specs.Walk.{SomeRows};
 ghost use Rattle.cutting_cover.specs.Decoded.{Decoded};
 ghost use Rattle.frames_calls.specs.Searches.{FileIs};
 ghost use Rattle.trial.specs.Trials.{choiceOf};
-ghost use Rattle.trial.specs.Answers.{trialAnswer, firstAfter, secondAfter, trialGiven, trialList, counted, fitting, partBy, partOf};
+ghost use Rattle.trial.specs.Answers.{trialAnswer, firstAfter, secondAfter, trialGiven, trialList, counted, fitting, partBy, partOf, bufferBy, bufferOf};
 ghost use Rattle.trial_calls.specs.Tries.{Settles, Checks, outcomeOf, trialBy, TriesRows, Answers};
 
 // What one setting comes to, and the share of the sky that its outer list spans, in identifiers of depth 12.
@@ -201,7 +202,7 @@ pub fn trial(
 
 // The first n pairs of a list, where it has so many; else none.
 fn front<'a>(n: u64, list: &'a [u64]) -> &'a [u64]
-    ensures { λ r. ⌜ now r ≡ fitting (2 * n) (now (list .entry)) ⌝ }
+    ensures { λ r. ⌜ (now r ≡ fitting (2 * n) (now (list .entry))) × (ptr r ≡ ptr (list .entry)) ⌝ }
 {
     if n <= (list.len() as u64) / 2 {
         return &list[..2 * (n as usize)];
@@ -211,7 +212,7 @@ fn front<'a>(n: u64, list: &'a [u64]) -> &'a [u64]
 
 // The outer list of the setting chosen, in its buffer.
 fn part_by<'a>(t: Trial, first: &'a [u64], second: &'a [u64]) -> &'a [u64]
-    ensures { λ r. ⌜ now r ≡ partBy t (now (first .entry)) (now (second .entry)) ⌝ }
+    ensures { λ r. ⌜ (now r ≡ partBy t (now (first .entry)) (now (second .entry))) × (ptr r ≡ bufferBy t (ptr (first .entry)) (ptr (second .entry))) ⌝ }
 {
     if t.choice == 1 {
         return front(t.first.outer, first);
@@ -224,7 +225,7 @@ fn part_by<'a>(t: Trial, first: &'a [u64], second: &'a [u64]) -> &'a [u64]
 
 // Of the two buffers of a trial the chosen one's outer list, itself and not a copy; the empty part after a refusal, or where the buffer is shorter.
 pub fn chosen<'a>(result: TrialOf, first: &'a [u64], second: &'a [u64]) -> &'a [u64]
-    ensures { λ r. ⌜ now r ≡ partOf result (now (first .entry)) (now (second .entry)) ⌝ }
+    ensures { λ r. ⌜ (now r ≡ partOf result (now (first .entry)) (now (second .entry))) × (ptr r ≡ bufferOf result (ptr (first .entry)) (ptr (second .entry))) ⌝ }
 {
     match result {
         TrialOf::Gives(t) => part_by(t, first, second),

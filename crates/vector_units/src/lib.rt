@@ -1,4 +1,4 @@
-// Unit and Scale in code: one reciprocal for three quotients, signed all through. The rules are `unit` and `scale` of vector/specs/Vectors.
+// Unit and Scale in code: signed division, truncating toward zero. The rules are `unit` and `scale` of vector/specs/Vectors.
 use limits::K;
 use vector::Vec3;
 ghost use mathlib.Core.Path.{_≡_};
@@ -27,22 +27,18 @@ pub fn unit_two(s: Vec3) -> Vec3
     let q = vector_products::square_length(s);
     let n = vector_roots::near_two(q);
     if vector_roots::is_root(q, n) {
-        return divided_short(s, n);
+        return divided(s, n);
     }
     unit(s)
 }
 
-// Scale(c): K times c, divided by the largest absolute component, which is large for the product of two corners.
+// Scale(c): K times c, divided by the largest absolute component.
 pub fn scale(c: Vec3) -> Vec3
     requires { ⌜ AtMost (2 ^ 41) c ⌝ }
     ensures { λ r. ⌜ r ≡ rule.scale c ⌝ }
     ensures { λ r. ⌜ Small r ⌝ }
 {
-    let n = largest(c);
-    if 2097152 < n {
-        return divided_long(c, n);
-    }
-    divided(c, n)
+    divided(c, largest(c))
 }
 
 // The largest absolute component of c.
@@ -67,74 +63,27 @@ pub fn size(a: i64) -> u64
     if a < 0 { -a as u64 } else { a as u64 }
 }
 
-// K times s, divided by n: each component truncated toward zero, and all zero if n is 0. One division serves the three: no component is beyond n.
+// K times s, divided by n: each component truncated toward zero, and all zero if n is 0.
 fn divided(s: Vec3, n: u64) -> Vec3
+    requires { ⌜ AtMost (2 ^ 41) s ⌝ }
     requires { ⌜ n ≤ 2 ^ 41 ⌝ }
-    requires { ⌜ AtMost n s ⌝ }
     ensures { λ r. ⌜ r ≡ rule.dividedBy n s ⌝ }
 {
     if n == 0 {
         return Vec3 { x: 0, y: 0, z: 0 };
     }
-    if n <= 2097152 {
-        divided_short(s, n)
-    } else {
-        divided_long(s, n)
-    }
-}
-
-// By 2⁶² / n, rounded up.
-fn divided_short(s: Vec3, n: u64) -> Vec3
-    requires { ⌜ (0 < n) × (n ≤ 2 ^ 21) ⌝ }
-    requires { ⌜ AtMost n s ⌝ }
-    ensures { λ r. ⌜ r ≡ rule.dividedBy n s ⌝ }
-{
-    let r = 4611686018427387903 / n + 1;
     Vec3 {
-        x: part_short(s.x, r),
-        y: part_short(s.y, r),
-        z: part_short(s.z, r),
+        x: part(s.x, n),
+        y: part(s.y, n),
+        z: part(s.z, n),
     }
 }
 
-// a r / 2⁴², truncated toward zero.
-fn part_short(a: i64, r: u64) -> i64
-    requires { ⌜ r ≤ 2 ^ 62 ⌝ }
-    requires { ⌜ Upto (2 ^ 63 - 1) (a *ℤ pos r) ⌝ }
-    ensures { λ q. ⌜ q ≡ quot (a *ℤ pos r) (pos 4398046511104) ⌝ }
-{
-    a * (r as i64) / 4398046511104
-}
-
-// By 2⁶³ − 1 over n, rounded down: with 2⁶³ itself a product by it would not fit where n is a power of two.
-fn divided_long(s: Vec3, n: u64) -> Vec3
+// K times a, divided by n, truncated toward zero.
+fn part(a: i64, n: u64) -> i64
+    requires { ⌜ Upto (2 ^ 41) a ⌝ }
     requires { ⌜ (0 < n) × (n ≤ 2 ^ 41) ⌝ }
-    requires { ⌜ AtMost n s ⌝ }
-    ensures { λ r. ⌜ r ≡ rule.dividedBy n s ⌝ }
+    ensures { λ r. ⌜ r ≡ quot (K *ℤ a) (pos n) ⌝ }
 {
-    let r = 9223372036854775807 / n;
-    Vec3 {
-        x: part_long(s.x, n, r),
-        y: part_long(s.y, n, r),
-        z: part_long(s.z, n, r),
-    }
-}
-
-// K times a, divided by n, truncated toward zero: it is a r / 2⁴³, or one step further from zero where n or more is left.
-fn part_long(a: i64, n: u64, r: u64) -> i64
-    requires { ⌜ (0 < n) × (n ≤ 2 ^ 41) ⌝ }
-    requires { ⌜ Upto n a ⌝ }
-    requires { ⌜ r ≡ 9223372036854775807 / n ⌝ }
-    ensures { λ q. ⌜ q ≡ quot (K *ℤ a) (pos n) ⌝ }
-{
-    let m = n as i64;
-    let q = a * (r as i64) / 8796093022208;
-    let left = K * a - q * m;
-    if m <= left {
-        return q + 1;
-    }
-    if left <= -m {
-        return q - 1;
-    }
-    q
+    K * a / (n as i64)
 }

@@ -1,8 +1,8 @@
 -- `trial_calls::chosen` takes the part by what the trial gave, and none after a refusal. Assumes nothing.
 use mathlib.Core.Path.{sym, ap, _∙_}
-use denote.Ref.{now}
+use denote.Ref.{now, ptr}
 use borrow.Author.Needs.{needs}
-use Rattle.trial.specs.Answers.{partOf}
+use Rattle.trial.specs.Answers.{partOf, bufferOf}
 use Rattle.trial_calls.proofs.chosen.Statement.{statement}
 use Rattle.trial_calls.proofs.chosen.Tie as tie
 
@@ -10,7 +10,8 @@ given : tie.Need-returns
 given c =
     let r = c .before .before in
     let a = r .before .before .before .before .args in
-    c .part-by .ensures ∙ sym (ap (λ x. partOf x (now (a .first)) (now (a .second))) (r .result .given .1))
+    let e = sym (r .result .given .1) in
+    (c .part-by .ensures .0 ∙ ap (λ x. partOf x (now (a .first)) (now (a .second))) e, c .part-by .ensures .1 ∙ ap (λ x. bufferOf x (ptr (a .first)) (ptr (a .second))) e)
 
 pub chosen-spec : {M : Type 1} → statement M
 chosen-spec =

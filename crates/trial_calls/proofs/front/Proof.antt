@@ -14,6 +14,6 @@ front-spec =
     (tie.spec
     (λ c. search needs)
     (λ c. let a = c .before .before .args in sym (length-take-le (2 * a .n) (now (a .list)) (half-holds (a .n) (now (a .list)) (c .before .if1 .taken))))
-    (λ c. let a = c .before .before .args in whole-front (a .n) (now (a .list)) (c .before .if1 .taken))
+    (λ c. let a = c .before .before .args in (whole-front (a .n) (now (a .list)) (c .before .if1 .taken), search needs))
     (λ c. search needs)
-    (λ c. let a = c .before .before .args in no-front (a .n) (now (a .list)) (c .before .if1 .left)))
+    (λ c. let a = c .before .before .args in (no-front (a .n) (now (a .list)) (c .before .if1 .left), search needs)))

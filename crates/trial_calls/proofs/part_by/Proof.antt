@@ -17,7 +17,7 @@ neither : tie.Need-returns-3
 neither c =
     let e = c .before .before .before in
     let t = e .before .before .before .before .args .t in
-    simp (ne-eqb (t .choice) 1 (e .if1 .left), ne-eqb (t .choice) 2 (c .before .if2 .left))
+    simp (ne-eqb (t .choice) 1 (e .if1 .left), ne-eqb (t .choice) 2 (c .before .if2 .left)) (search needs)
 
 pub part-by-spec : {M : Type 1} → statement M
 part-by-spec =

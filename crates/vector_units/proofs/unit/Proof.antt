@@ -1,10 +1,11 @@
 -- `vector_units::unit` is Unit: K times the components, divided by the root of the square length. Assumes nothing.
 use mathlib.Core.Path.{_≡_, ap, _∙_}
 use native.Mathlib.Omega.{arith}
+use lib.Dec.{lit≤}
 use lib.IntN.{natAbs}
 use Rattle.vector.specs.Numbers.{root}
 use Rattle.vector.specs.Vectors.{dot}
-use Rattle.vector.proofs.SizeLaws.{at-most-root, unit-by}
+use Rattle.vector.proofs.SizeLaws.{at-most-mono, unit-by}
 use Rattle.vector_units.proofs.unit.Statement.{statement}
 use Rattle.vector_units.proofs.unit.Tie as tie
 
@@ -17,5 +18,5 @@ unit-spec =
     (tie.spec
     (λ c κs. c .pre)
     (λ c κs. omega (arith, c .square-length .ensures .1))
-    (λ c κs. (omega (arith, c .isqrt .ensures .1), at-most-root (c .before .before .args .s) (length c)))
+    (λ c κs. (at-most-mono (lit≤ tt) (c .before .before .pre), omega (arith, c .isqrt .ensures .1)))
     (λ c. unit-by (c .before .before .before .args .s) (length (c .before)) (c .divided .ensures)))

@@ -1,0 +1,93 @@
+-- Frames and trials after every history: the list that a history leaves is an index (`history-kept`), with the owner's own entries (`own-entries`). Assumes nothing.
+use Prim.Native.Nat.{ℕ}
+use mathlib.Core.Path.{_≡_, refl, sym, ap, _∙_}
+use mathlib.Core.Bool.{Bool, true}
+use lib.Dec.{leb}
+use lib.ListN.{length, take}
+use borrow.Author.Tests.{le-leb}
+use Prim.Native.Nat.{_*_}
+use mathlib.Core.List.{List}
+use lib.IntN.{ℤ}
+use Rattle.index.specs.declared.Change.{Change}
+use Rattle.algebra.specs.Lists.{tally}
+use Rattle.answer.specs.Answer.{Answer, gives, check, then, with-value, Space, Owner}
+use Rattle.answer.specs.Lent.{put, stored}
+use Rattle.region.specs.Regions.{Region, holds}
+use Rattle.region.specs.Budgets.{budgetOf}
+use Rattle.region.specs.Reader.{File, read}
+use Rattle.cutting.specs.Cover.{cover, bothListed}
+use Rattle.index.specs.declared.Entry.{Entry}
+use Rattle.index.specs.Entries.{Least}
+use Rattle.index.specs.Exposures.{Call, Share, isOwner}
+use Rattle.frames.specs.Walk.{Met, walk, isUnchecked, isHeld, isDiscarded, deliveredBy}
+use Rattle.frames.specs.Answers.{framesBy, walkOf, framesAnswer, rangesAfter, numbersAfter}
+use Rattle.trial.specs.declared.Setting.{Setting}
+use Rattle.trial.specs.declared.Tried.{Tried}
+use Rattle.trial.specs.declared.Trial.{Trial}
+use Rattle.trial.specs.Trials.{coverBy, walkBy, skyOf, choiceOf, trialOf}
+use Rattle.trial.specs.Answers.{settled, roomFor, listsBy, trialAnswer, firstAfter, secondAfter}
+use Rattle.index.specs.Kept.{IsIndex}
+use Rattle.index.specs.Apart.{Ran}
+use Rattle.index.proofs.HistoryKept.{history-kept}
+use Rattle.index.proofs.OwnersApart.{own-entries, same-entries}
+use Rattle.htm.specs.Histories.{FramesOfHistories, TrialsOfHistories, FramesApart, TrialsApart}
+use Rattle.htm.proofs.FramesKept.{frames-calls}
+use Rattle.htm.proofs.TrialsKept.{trials-answers}
+
+left-index : (h : List Call) (rs : List Change) (l : List ℤ) → Ran h rs l → IsIndex l
+left-index h rs l r = history-kept .kept (r .start) l h rs (r .empty) (r .numbered) (r .runs) .index
+
+pub frames-histories : FramesOfHistories
+frames-histories o h rs l f ranges numbers lists left r ran e a b =
+    (own-entries o h rs l ran, frames-calls o l f ranges numbers lists left r (left-index h rs l ran) e a b)
+
+pub trials-histories : TrialsOfHistories
+trials-histories o h rs l f s t first second r ran e =
+    let k = trials-answers o l f s t first second r (sym e) in
+    (own-entries o h rs l ran, (k .file, k .accepted, k .same-held (left-index h rs l ran)))
+
+-- ---- apart
+
+-- both lists are long enough to be an index
+both-long : (m n : List ℤ) → IsIndex m → IsIndex n → leb Least (length m) ≡ leb Least (length n)
+both-long m n i j = le-leb Least (length m) (i .long) ∙ sym (le-leb Least (length n) (j .long))
+
+pub frames-apart : FramesApart
+unfolding framesAnswer rangesAfter numbersAfter walkOf
+frames-apart o h g rs qs m n r q e f ranges numbers =
+    let long = both-long m n (left-index h rs m r) (left-index g qs n q) in
+    let own = same-entries o h g rs qs m n r q e in
+    let into : Bool → Answer File = λ b. check Owner (isOwner o) (then (read f) (λ x.
+    check Space (leb (4 * budgetOf (x .budget)) (length ranges)) (check Space (leb Share (length numbers)) (check Space b (gives x))))) in
+    let met : List Entry → File → List Met = λ es x. walk (x .depth) (holds (x .region)) (cover x .outer) (cover x .inner) (take Share es) in
+    record {
+      answer = λ i. with-value (λ x. framesBy (met (own i) x)) (into (long i));
+      lists = λ i. stored (λ x before. bothListed (budgetOf (x .budget)) (cover x) before) (into (long i)) ranges;
+      left = λ i. stored (λ x before. put 0 (deliveredBy (met (own i) x)) before) (into (long i)) numbers;
+    }
+
+tried-by : List Met → Region → Setting → Tried
+tried-by ms g s = record {
+  unchecked = tally (λ m. isUnchecked (m .fate)) ms;
+  held = tally (λ m. isHeld (m .fate)) ms;
+  discarded = tally (λ m. isDiscarded (m .fate)) ms;
+  outer = length (coverBy s g .outer);
+  inner = length (coverBy s g .inner);
+}
+
+trial-by : List Entry → Region → Setting → Setting → Trial
+trial-by es g s t =
+    let w : Setting → List Met = λ u. walk (u .depth) (holds g) (coverBy u g .outer) (coverBy u g .inner) (take Share es) in
+    record { first = tried-by (w s) g s; second = tried-by (w t) g t; choice = choiceOf (skyOf s g) (skyOf t g) }
+
+pub trials-apart : TrialsApart
+unfolding trialAnswer firstAfter secondAfter trialOf walkBy tried-by trial-by
+trials-apart o h g rs qs m n r q e f s t first second =
+    let long = both-long m n (left-index h rs m r) (left-index g qs n q) in
+    let own = same-entries o h g rs qs m n r q e in
+    let into : Bool → Answer File = λ b. check Owner (isOwner o) (then (read f) (λ x. settled s (settled t (roomFor s first (roomFor t second (check Space b (gives x))))))) in
+    record {
+      answer = λ i. with-value (λ x. trial-by (own i) (x .region) s t) (into (long i));
+      one = λ i. stored (listsBy s) (into (long i)) first;
+      two = λ i. stored (listsBy t) (into (long i)) second;
+    }
