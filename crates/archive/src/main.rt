@@ -15,15 +15,15 @@
 // The index begins empty. A line of another shape is answered `usage`. Words are parted by one blank; numbers are decimal, X Y Z with an optional minus, the
 // others without a sign, all of 32 bits. A line ends with a line feed; the last line may do without. A line of more than 65536 bytes is of another shape.
 // Where a read or a write fails, standard error says so and no line more is answered.
-use index::LEAST;
+use index::INDEX_LENGTH;
 
 fn main() {
-    let mut index = [0i64; LEAST];
+    let mut index = [0i64; INDEX_LENGTH];
     let mut line = io::large_buffer();
     let mut out = io::large_buffer();
-    let n = archive_lines::answer_lines(&mut index, &mut line, &mut out);
+    let n = archive_commands::answer_lines(&mut index, &mut line, &mut out);
     if 0 < n {
-        let at = archive_lines::answer_line(&mut index, &line, n, &mut out, 0);
+        let at = archive_commands::answer_line(&mut index, &line, n, &mut out, 0);
         print::flush(&out, at);
     }
 }

@@ -18,12 +18,12 @@ use Rattle.vector.proofs.Sizes.{Small}
 use Rattle.vector.proofs.SizeLaws.{dot-upto, dot-self-positive}
 use Rattle.vector.proofs.VectorLaws.{v3}
 use Rattle.mesh.specs.declared.Trixel.{Trixel}
-use Rattle.classify_measures.specs.declared.PreparedHalfspace.{PreparedHalfspace}
+use Rattle.classify_prepared.specs.declared.PreparedHalfspace.{PreparedHalfspace}
 use Rattle.classify.specs.Shape.{positive, beyondEdge}
-use Rattle.classify_measures.specs.Measures.{SoundHalfspace, Rest}
-use Rattle.classify_middle.proofs.CapLaws.{sound-beside}
+use Rattle.classify_prepared.specs.Measures.{SoundHalfspace, Rest}
+use Rattle.classify_cap.proofs.CapLaws.{sound-beside}
 use Rattle.classify_halfspace.specs.Halfspaces.{classApart, edgesClass}
-use Rattle.classify_halfspace.proofs.JudgedLaws.{is-beyond, not-beyond}
+use Rattle.classify_halfspace.proofs.ClassLaws.{is-beyond, not-beyond}
 use Rattle.classify.specs.declared.Class.the-variants.{Partial}
 
 -- ---- of numbers: a = f·P, N = P·P, c = f·f

@@ -20,9 +20,9 @@ use Rattle.vector.specs.declared.Vec3.{Vec3}
 use Rattle.vector.specs.Vectors.{dot}
 use Rattle.vector.proofs.VectorLaws.{v3}
 use Rattle.mesh.specs.declared.Trixel.{Trixel}
-use Rattle.classify_measures.specs.declared.PreparedHalfspace.{PreparedHalfspace}
+use Rattle.classify_prepared.specs.declared.PreparedHalfspace.{PreparedHalfspace}
 use Rattle.classify.specs.Shape.{square, positive, ray0, ray1, ray2, fOf, DOf, GOf, ahead, bOf, EOf}
-use Rattle.classify_measures.specs.Measures.{SoundHalfspace}
+use Rattle.classify_prepared.specs.Measures.{SoundHalfspace}
 use Rattle.classify.proofs.RaysFirst.{passes, allPass, D-below-G, passes-far, by-rays}
 use Rattle.classify_halfspace.specs.Halfspaces.{enclosed}
 use Rattle.classify.proofs.WithinApart.{E-reaches}

@@ -9,15 +9,15 @@ use Rattle.algebra.proofs.Sizes.{Upto}
 use Rattle.algebra.proofs.Tests.{and-both, and-then, and-no-left, and-no-right, le-yes, yes-lt, no-lt, no-le, not-le, le-not-lt}
 use Rattle.vector.specs.Vectors.{dot}
 use Rattle.mesh.specs.declared.Trixel.{Trixel}
-use Rattle.classify_measures.specs.declared.PreparedHalfspace.{PreparedHalfspace}
-use Rattle.classify_middle.specs.declared.BoundingCap.{BoundingCap}
+use Rattle.classify_prepared.specs.declared.PreparedHalfspace.{PreparedHalfspace}
+use Rattle.classify_cap.specs.declared.BoundingCap.{BoundingCap}
 use Rattle.classify.specs.Shape.{square, positive, bOf, EOf, far}
-use Rattle.classify_measures.specs.Measures.{SoundHalfspace, Rest}
-use Rattle.classify_middle.specs.Middle.{IsBoundingCap}
+use Rattle.classify_prepared.specs.Measures.{SoundHalfspace, Rest}
+use Rattle.classify_cap.specs.Middle.{IsBoundingCap}
 use Rattle.classify_halfspace.specs.Halfspaces.{enclosed}
-use Rattle.classify_measures.proofs.PreparedLaws.{sound-high}
-use Rattle.classify_middle.proofs.ClearanceLaws.{Beyond, beyond-clearance, clearance-upto, clearance-sign}
-use Rattle.classify_middle.proofs.CapLaws.{unsigned-upto, sound-beside, cap-beside, beside-size}
+use Rattle.classify_prepared.proofs.PreparedLaws.{sound-high}
+use Rattle.classify_cap.proofs.ClearanceLaws.{Beyond, beyond-clearance, clearance-upto, clearance-sign}
+use Rattle.classify_cap.proofs.CapLaws.{unsigned-upto, sound-beside, cap-beside, beside-size}
 
 -- ---- what is left of a square length
 

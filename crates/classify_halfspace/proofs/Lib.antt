@@ -1,4 +1,4 @@
 pub mod EdgeLaws
 pub mod Enclosing
 pub mod FarLaws
-pub mod JudgedLaws
+pub mod ClassLaws

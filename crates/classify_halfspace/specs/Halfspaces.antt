@@ -1,5 +1,5 @@
 -- The class of a trixel for one halfspace, by what was prepared of it. Document 01, 'Classifying', and document 02, F-8.
---   judged q t           the class of t for the halfspace that q was prepared from (proofs/JudgedLaws: it is halfspaceClass)
+--   judged q t           the class of t for the halfspace that q was prepared from (proofs/ClassLaws: it is halfspaceClass)
 --   enclosed f D G b E               the cap of b and E lies in that of f and G, by a test that is enough (proofs/Enclosing)
 --   classWithin d, classApart d      the class where within holds, and where apart holds
 --   apartClass q t                   the class where within does not hold
@@ -20,7 +20,7 @@ use Rattle.mesh.specs.declared.Trixel.{Trixel}
 use Rattle.mesh_trixels.specs.Corners.{SmallTrixel}
 use Rattle.classify.specs.declared.Class.{Class}
 use Rattle.classify.specs.declared.Class.the-variants.{Outside, Partial, Full}
-use Rattle.classify_measures.specs.declared.PreparedHalfspace.{PreparedHalfspace}
+use Rattle.classify_prepared.specs.declared.PreparedHalfspace.{PreparedHalfspace}
 use Rattle.classify.specs.Shape.{square, positive, withinBy, beyond, apartBy}
 
 unfoldable pub judged : PreparedHalfspace → Trixel → Class

@@ -1,9 +1,9 @@
 // The class of a trixel for one halfspace: by the bounding cap, by the rays where that does not tell, and by the edges where these do not tell. The rule
 // is `halfspaceClass` of classify/specs/Classes, the tests on the way stand in specs/Halfspaces.
 use classify::Class;
-use classify_measures::PreparedHalfspace;
-use classify_measures::TrixelRays;
-use classify_middle::BoundingCap;
+use classify_cap::BoundingCap;
+use classify_prepared::PreparedHalfspace;
+use classify_prepared::TrixelRays;
 use mesh::Trixel;
 ghost use mathlib.Core.Path.{_≡_};
 ghost use mathlib.Core.Bool.{true, _&&_};
@@ -18,8 +18,8 @@ ghost use lib.ListN.{length};
 ghost use Rattle.classify.specs.Shape as rule;
 ghost use Rattle.classify.specs.Shape.{positive, ahead, bOf, EOf, volume};
 ghost use Rattle.classify_halfspace.specs.Halfspaces.{enclosed, judged, classWithin, classApart, apartClass, edgesClass, raysClass, NormalsIn};
-ghost use Rattle.classify_measures.specs.Measures.{SoundHalfspace, Rest, RaysOf};
-ghost use Rattle.classify_middle.specs.Middle.{IsBoundingCap};
+ghost use Rattle.classify_prepared.specs.Measures.{SoundHalfspace, Rest, RaysOf};
+ghost use Rattle.classify_cap.specs.Middle.{IsBoundingCap};
 
 // Whether m² > p q, in two words.
 fn square_passes_exactly(m: u64, p: u64, q: u64) -> bool
@@ -50,7 +50,7 @@ fn square_passes(m: u64, p: u64, q: u64) -> bool
 }
 
 // Whether x > 0 and x² > p q.
-fn beyond(x: i64, p: i64, q: i64) -> bool
+fn square_exceeds(x: i64, p: i64, q: i64) -> bool
     requires { ⌜ Upto (2 ^ 63 - 1) x ⌝ }
     requires { ⌜ Rest p × Rest q ⌝ }
     ensures { λ t. ⌜ t ≡ positive x && ltZ (p *ℤ q) (x *ℤ x) ⌝ }
@@ -76,7 +76,7 @@ pub fn far(q: PreparedHalfspace, t: Trixel, m: BoundingCap) -> bool
     if m.clearance <= past {
         return true;
     }
-    beyond(past, q.rest, m.rest)
+    square_exceeds(past, q.rest, m.rest)
 }
 
 // Whether b is ahead of the rays and its cap by E lies in that of f and G, by a test that is enough: with M = f·b − G·E and S = b·b − E² it asks that
@@ -101,7 +101,7 @@ pub fn encloses(q: PreparedHalfspace, t: Trixel, m: BoundingCap) -> bool
     if inward * m.reach < m.rest * q.high {
         return false;
     }
-    beyond(inward, q.rest, m.rest)
+    square_exceeds(inward, q.rest, m.rest)
 }
 
 // The class where within holds.
@@ -133,7 +133,7 @@ fn beyond_edge(q: PreparedHalfspace, ps: &[i64], k: usize) -> bool
     let f = q.f;
     let p = vector_products::vec_in(ps, k);
     let behind = -vector_products::dot(f, p);
-    beyond(behind, q.rest, vector_products::dot(p, p))
+    square_exceeds(behind, q.rest, vector_products::dot(p, p))
 }
 
 // The class by the edges, where within does not hold, nor apart by the bounding cap. The normals are read from the numbers of the trixel, so that these
@@ -157,7 +157,7 @@ pub fn class_by_edges(t: Trixel, ps: &[i64], q: PreparedHalfspace) -> Class
 
 // The class by the rays, where apart does not hold by the bounding cap, and by the edges where not all rays pass. A great circle is beyond no edge.
 fn class_by_rays(t: Trixel, s: TrixelRays, ps: &[i64], q: PreparedHalfspace) -> Class
-    requires { ⌜ RaysOf t s × (s .solid ≡ true) ⌝ }
+    requires { ⌜ RaysOf t s × (s .oriented ≡ true) ⌝ }
     requires { ⌜ NormalsIn t (now ps) ⌝ }
     requires { ⌜ SoundHalfspace q ⌝ }
     ensures { λ r. ⌜ r ≡ raysClass q t ⌝ }
@@ -190,14 +190,20 @@ pub fn class_by_middle(t: Trixel, m: BoundingCap, ps: &[i64], q: PreparedHalfspa
 }
 
 // The class of t for the halfspace that q was prepared from. Of many halfspaces most are far from the trixel or enclose it; rays and edges are for the others.
-pub fn judge(t: Trixel, s: TrixelRays, m: BoundingCap, ps: &[i64], q: PreparedHalfspace) -> Class
+pub fn classify_one(
+    t: Trixel,
+    s: TrixelRays,
+    m: BoundingCap,
+    ps: &[i64],
+    q: PreparedHalfspace,
+) -> Class
     requires { ⌜ RaysOf t s ⌝ }
     requires { ⌜ IsBoundingCap t m ⌝ }
     requires { ⌜ NormalsIn t (now ps) ⌝ }
     requires { ⌜ SoundHalfspace q ⌝ }
     ensures { λ r. ⌜ r ≡ judged q t ⌝ }
 {
-    if !s.solid {
+    if !s.oriented {
         return class_by_edges(t, ps, q);
     }
     if far(q, t, m) {

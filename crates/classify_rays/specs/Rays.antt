@@ -11,12 +11,12 @@ use Rattle.vector.specs.declared.Vec3.{Vec3}
 use Rattle.mesh.specs.declared.Trixel.{Trixel}
 use Rattle.classify_rays.specs.declared.Passed.{Passed}
 use Rattle.classify_rays.specs.declared.Passed.the-variants.{None, Some, All}
-use Rattle.classify_rays.specs.declared.Told.{Told}
-use Rattle.classify_rays.specs.declared.Told.the-variants.{Yes, No, Unsure}
+use Rattle.classify_rays.specs.declared.FilterResult.{FilterResult}
+use Rattle.classify_rays.specs.declared.FilterResult.the-variants.{Yes, No, Unsure}
 use Rattle.classify.specs.Shape.{ray0, ray1, ray2}
 use Rattle.classify.proofs.RaysFirst.{passes}
 
-abbrev pub toldReach : ℕ → ℕ → ℕ → Told
+abbrev pub toldReach : ℕ → ℕ → ℕ → FilterResult
 toldReach x h g =
     cond (leb ((g * g / 1024 + 1) * (h + 5)) (x / 2147483648 * (x / 2147483648))) Yes
     (cond (leb ((x / 2147483648 + 1) * (x / 2147483648 + 1)) (g * g / 1024 * h)) No Unsure)

@@ -1,7 +1,7 @@
 // A halfspace against the rays of a trixel: squares compared by their upper bits in one word, and exactly in two words where these do not tell. The rule
 // is `passes` of classify/proofs/RaysFirst; what the filter tells stands in specs/Rays.
-use classify_measures::Ray;
-use classify_measures::TrixelRays;
+use classify_prepared::Ray;
+use classify_prepared::TrixelRays;
 use vector::Vec3;
 use wide::Wide;
 ghost use mathlib.Core.Path.{_≡_};
@@ -13,7 +13,7 @@ ghost use Rattle.algebra.proofs.Sizes.{Upto};
 ghost use Rattle.wide.specs.Value.{valueOf};
 ghost use Rattle.vector.proofs.Sizes.{AtMost, Small};
 ghost use Rattle.vector.specs.Vectors as vectors;
-ghost use Rattle.classify_measures.specs.Measures.{squareOf, IsRay, OwnRays};
+ghost use Rattle.classify_prepared.specs.Measures.{squareOf, IsRay, OwnRays};
 ghost use Rattle.classify.proofs.RaysFirst as rule;
 ghost use Rattle.classify_rays.specs.Rays.{passedOf, toldReach};
 
@@ -25,7 +25,7 @@ pub enum Passed {
 }
 
 // What a filter tells of a test.
-pub enum Told {
+pub enum FilterResult {
     Yes,
     No,
     Unsure,
@@ -76,19 +76,19 @@ fn reaches_exactly(x: u64, r: Vec3, g: u64) -> bool
 
 // Whether x² ≥ g² (r·r) for the ray r of height h, by a filter. With p = g² / 2^10 and q = x / 2^31 it is sure where (p + 1)(h + 5) ≤ q², and sure not
 // to be where (q + 1)² ≤ p h.
-fn filtered(x: u64, h: u64, g: u64) -> Told
+fn filtered(x: u64, h: u64, g: u64) -> FilterResult
     requires { ⌜ (x ≤ 3 * 2 ^ 61) × (g ≤ 2 ^ 21) × (h + 5 < 2 ^ 32) ⌝ }
     ensures { λ r. ⌜ r ≡ toldReach x h g ⌝ }
 {
     let p = g * g / 1024;
     let q = x / 2147483648;
     if product_within(p + 1, h + 5, q) {
-        return Told::Yes;
+        return FilterResult::Yes;
     }
     if square_within(q + 1, p, h) {
-        return Told::No;
+        return FilterResult::No;
     }
-    Told::Unsure
+    FilterResult::Unsure
 }
 
 // Whether x² ≥ g² (r·r) for the ray r: by the filter, and in two words where it does not tell.
@@ -99,9 +99,9 @@ pub fn reaches(x: u64, y: Ray, g: u64) -> bool
     let r = y.r;
     let told = filtered(x, y.height, g);
     match told {
-        Told::Yes => true,
-        Told::No => false,
-        Told::Unsure => reaches_exactly(x, r, g),
+        FilterResult::Yes => true,
+        FilterResult::No => false,
+        FilterResult::Unsure => reaches_exactly(x, r, g),
     }
 }
 
@@ -122,9 +122,9 @@ pub fn passes(f: Vec3, g: i64, y: Ray) -> bool
     let k = vector_units::size(g);
     let told = filtered(n, y.height, k);
     match told {
-        Told::Yes => true,
-        Told::No => false,
-        Told::Unsure => reaches_exactly(n, r, k),
+        FilterResult::Yes => true,
+        FilterResult::No => false,
+        FilterResult::Unsure => reaches_exactly(n, r, k),
     }
 }
 

@@ -1,2 +1,1 @@
-pub mod PreparingLaws
 pub mod ScanLaws

@@ -19,12 +19,13 @@ use Rattle.region.proofs.GoodRegions.{goodHalfspace, goodConvex, good}
 use Rattle.region.proofs.FilledLaws.{Filled}
 use Rattle.classify.specs.declared.Class.{Class}
 use Rattle.classify.specs.declared.Class.the-variants.{Outside, Partial, Full}
-use Rattle.classify_measures.specs.declared.PreparedHalfspace.{PreparedHalfspace}
+use Rattle.classify_prepared.specs.declared.PreparedHalfspace.{PreparedHalfspace}
 use Rattle.classify.specs.Classes.{isOutside, isFull, halfspaceClass, convexClass, regionClass}
-use Rattle.classify_measures.specs.Measures.{prepared, SoundHalfspace}
+use Rattle.classify_prepared.specs.Measures.{prepared, SoundHalfspace}
 use Rattle.classify_halfspace.specs.Halfspaces.{judged}
-use Rattle.classify_region.specs.PreparedLists.{seven, preparedIn, convexSevens, sevens, endsFrom, Prepared, ConvexAt, RegionAt, meet, join}
-use Rattle.classify_halfspace.proofs.JudgedLaws.{judged-is}
+use Rattle.classify_prepared.specs.PreparedLists.{seven, preparedIn, convexSevens, sevens, endsFrom, Prepared, ConvexAt, RegionAt, meet, join}
+use Rattle.classify_halfspace.proofs.ClassLaws.{judged-is}
+use Rattle.classify_prepared.proofs.PreparingLaws.{length-sevens, region-good, convex-good}
 
 -- ---- classes put together
 
@@ -88,11 +89,6 @@ region-cons c cs t = join-cons (convexClass c t) (some (λ x. isFull (convexClas
 next : {A : Type 0} (k : ℕ) (l : List A) → drop (suc k) l ≡ drop 1 (drop k l)
 next k l = let e : suc k ≡ k + 1 = omega arith in ap (λ m. drop m l) e ∙ sym (drop-drop 1 k l)
 
-pub length-sevens : (c : Convex) → length (convexSevens c) ≡ 7 * length c
-unfolding convexSevens
-length-sevens [] = refl
-length-sevens (h ∷ hs) = omega (arith, length-sevens hs)
-
 convex-numbers : (h : Halfspace) (hs : Convex) (l : List ℤ) → convexSevens (h ∷ hs) ++ l ≡ seven (prepared h) ++ (convexSevens hs ++ l)
 unfolding convexSevens
 convex-numbers h hs l = refl
@@ -104,14 +100,6 @@ region-numbers c cs l = append-assoc (convexSevens c) (sevens cs) l
 region-ends : (n : ℕ) (c : Convex) (cs : Region) (l : List ℕ) → endsFrom n (c ∷ cs) ++ l ≡ (n + length c) ∷ (endsFrom (n + length c) cs ++ l)
 unfolding endsFrom
 region-ends n c cs l = refl
-
-pub region-good : (c : Convex) (cs : Region) → good (c ∷ cs) ≡ true → (goodConvex c ≡ true) × (good cs ≡ true)
-unfolding good every
-region-good c cs e = (and-left (goodConvex c) (every goodConvex cs) e, and-right (goodConvex c) (every goodConvex cs) e)
-
-pub convex-good : (h : Halfspace) (hs : Convex) → goodConvex (h ∷ hs) ≡ true → (goodHalfspace h ≡ true) × (goodConvex hs ≡ true)
-unfolding goodConvex every
-convex-good h hs e = (and-left (goodHalfspace h) (every goodHalfspace hs) e, and-right (goodHalfspace h) (every goodHalfspace hs) e)
 
 pub no-convex : (hs : Convex) (t : Trixel) → length hs ≡ 0 → convexClass hs t ≡ Full
 unfolding convexClass some every

@@ -1,10 +1,10 @@
-// The cover of the region file on standard input, as lines on standard output (crate print_cover has their shape). A file that cannot be read to its
+// The cover of the region file on standard input, as lines on standard output (crate print::covers has their shape). A file that cannot be read to its
 // end has no answer.
-use limits::LONGEST;
+use limits::MAX_FILE_BYTES;
 use streams::Input;
 
 // One byte more than the longest region file has, so that a longer one is seen to be longer.
-const BYTES: usize = LONGEST + 1;
+const BYTES: usize = MAX_FILE_BYTES + 1;
 
 fn main() {
     let mut file = [0u8; BYTES];
@@ -12,6 +12,6 @@ fn main() {
         return;
     };
     let mut out = io::large_buffer();
-    let at = print_cover::lines(&mut out, 0, &file[..n], b'\n');
+    let at = print::covers::lines(&mut out, 0, &file[..n], b'\n');
     print::flush(&out, at);
 }

@@ -21,8 +21,8 @@ use Rattle.index.specs.Exposures.{only}
 use Rattle.index.specs.Entries.{byNumber, precedes}
 use Rattle.index.proofs.OrderLaws.{eqZ-eq}
 use Rattle.vector.specs.Numbers.{eqZ}
-use Rattle.index.specs.Kept as index
-use Rattle.frames.specs.declared.Fate.{Fate}
+use Rattle.index.specs.HistoryCorrect as index
+use Rattle.frames.specs.declared.Disposition.{Disposition}
 use Rattle.frames.specs.Walk.{whole, shortened, numberOf, ahead, begins, fateOf, Met, met, walk, isDelivered, isTested, deliveredBy, testsOf}
 use Rattle.frames.proofs.AheadLaws.{ahead-ascends, ahead-same, ahead-begins}
 
@@ -58,7 +58,7 @@ rising d (e ∷ es) a = rising-from d 0 e es (omega arith) a
 -- ---- by the ranges that an identifier is in
 
 -- what becomes of the entry e beside the outer ranges os and the inner ranges ns
-abbrev pub fateIn : ℕ → (Vec3 → Bool) → List Range → List Range → Entry → Fate
+abbrev pub fateIn : ℕ → (Vec3 → Bool) → List Range → List Range → Entry → Disposition
 fateIn d held os ns e = fateOf held (inSome (shortened d e) ns) (inSome (shortened d e) os) (e .pointing)
 
 -- from i on an identifier is in a range of xs where it is in one of rs
@@ -82,7 +82,7 @@ module _ (d : ℕ) (held : Vec3 → Bool) (os ns : List Range) where
   walk-all es a b c = walk-from 0 es os ns (rising d es a) b c (λ j h. refl) (λ j h. refl)
 
   -- what is delivered and tested, entry by entry
-  module _ (F : Entry → Fate) where
+  module _ (F : Entry → Disposition) where
     pub delivered-only : (es : List Entry) → deliveredBy (map (λ e. met e (F e)) es) ≡ map numberOf (only (λ e. isDelivered (F e)) es)
     unfolding only
     delivered-only [] = refl
@@ -96,7 +96,7 @@ module _ (d : ℕ) (held : Vec3 → Bool) (os ns : List Range) where
         by-test true r = ap (λ l. numberOf e ∷ l) r
         by-test false r = r
 
-    pub tallied : (f : Fate → Bool) (es : List Entry) → tally (λ m. f (m .fate)) (map (λ e. met e (F e)) es) ≡ tally (λ e. f (F e)) es
+    pub tallied : (f : Disposition → Bool) (es : List Entry) → tally (λ m. f (m .fate)) (map (λ e. met e (F e)) es) ≡ tally (λ e. f (F e)) es
     unfolding tally
     tallied f [] = refl
     tallied f (e ∷ es) = ap (λ n. cond (f (F e)) (suc n) n) (tallied f es)

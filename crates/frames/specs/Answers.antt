@@ -3,7 +3,7 @@
 -- to be one is refused as space too.
 --   framesInto o l f ranges numbers   the file whose frames are delivered, or the refusal: 18, the file's, 10
 --   walkOf o l x        the walk over the entries of the owner o in the list l beside the cover of the file x
---   framesBy ms         how many numbers a walk delivers, and how many tests it makes; framesList: as numbers, `counted` of them
+--   framesBy ms         how many numbers a walk delivers, and how many tests it makes; framesList: as numbers, `frameCounts` of them
 --   framesAnswer        the same of the call
 --   rangesAfter         the range list afterwards: as the cover leaves it
 --   numbersAfter        the list of numbers afterwards: those delivered, from element 0 on; the other elements stay
@@ -18,8 +18,8 @@ use Rattle.answer.specs.Lent.{put, stored}
 use Rattle.region.specs.Regions.{holds}
 use Rattle.region.specs.Budgets.{budgetOf}
 use Rattle.region.specs.Reader.{File, read}
-use Rattle.cutting.specs.Cover.{cover, bothListed}
-use Rattle.index.specs.Exposures.{Share, isOwner}
+use Rattle.covering.specs.Cover.{cover, bothListed}
+use Rattle.index.specs.Exposures.{OwnerCapacity, isOwner}
 use Rattle.index.specs.Answers.{inList}
 use Rattle.frames.specs.declared.Frames.{Frames}
 use Rattle.frames.specs.declared.FramesOf.{FramesOf}
@@ -30,7 +30,7 @@ framesInto o l f ranges numbers =
     check Owner (isOwner o)
     (then (read f) (λ x.
     check Space (leb (4 * budgetOf (x .budget)) (length ranges))
-    (check Space (leb Share (length numbers))
+    (check Space (leb OwnerCapacity (length numbers))
     (inList l (gives x)))))
 
 unfoldable pub walkOf : ℕ → List ℤ → File → List Met
@@ -43,8 +43,8 @@ framesBy ms = record { delivered = length (deliveredBy ms); tests = testsOf ms }
 abbrev pub framesList : Frames → List ℕ
 framesList r = r .delivered ∷ r .tests ∷ []
 
-abbrev pub counted : ℕ
-counted = 2
+abbrev pub frameCounts : ℕ
+frameCounts = 2
 
 unfoldable pub framesAnswer : ℕ → List ℤ → List ℕ → List ℕ → List ℕ → Answer Frames
 framesAnswer o l f ranges numbers = with-value (λ x. framesBy (walkOf o l x)) (framesInto o l f ranges numbers)

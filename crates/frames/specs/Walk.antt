@@ -23,10 +23,10 @@ use Rattle.vector.specs.declared.Vec3.{Vec3}
 use Rattle.vector.specs.Vectors.{isVector}
 use Rattle.ranges.specs.Ranges.{Range}
 use Rattle.index.specs.declared.Entry.{Entry}
-use Rattle.index.specs.Exposures.{Share, isNumber, only}
+use Rattle.index.specs.Exposures.{OwnerCapacity, isNumber, only}
 use Rattle.index.specs.Entries.{isOwned, entriesIn}
-use Rattle.frames.specs.declared.Fate.{Fate}
-use Rattle.frames.specs.declared.Fate.the-variants.{Skipped, Unchecked, Held, Discarded}
+use Rattle.frames.specs.declared.Disposition.{Disposition}
+use Rattle.frames.specs.declared.Disposition.the-variants.{Skipped, Unchecked, Held, Discarded}
 
 -- ---- entries
 
@@ -41,7 +41,7 @@ abbrev pub numberOf : Entry → ℕ
 numberOf e = cond (isNumber (whole (e .number))) (whole (e .number)) 0
 
 abbrev pub entriesOf : ℕ → List ℤ → List Entry
-entriesOf o l = take Share (only (isOwned o) (entriesIn l))
+entriesOf o l = take OwnerCapacity (only (isOwned o) (entriesIn l))
 
 -- ---- ranges
 
@@ -55,14 +55,14 @@ begins i (r ∷ rs) = leb (r .low) i
 
 -- ---- the walk
 
-abbrev pub fateOf : (Vec3 → Bool) → Bool → Bool → Vec3 → Fate
+abbrev pub fateOf : (Vec3 → Bool) → Bool → Bool → Vec3 → Disposition
 fateOf held inner outer p = cond inner Unchecked (cond outer (cond (isVector p && held p) Held Discarded) Skipped)
 
 pub record Met : Type 0 where
   pub entry : Entry
-  pub fate : Fate
+  pub fate : Disposition
 
-abbrev pub met : Entry → Fate → Met
+abbrev pub met : Entry → Disposition → Met
 met e f = record { entry = e; fate = f }
 
 unfoldable pub walk : ℕ → (Vec3 → Bool) → List Range → List Range → List Entry → List Met
@@ -73,28 +73,28 @@ walk d held os ns (e ∷ es) =
 
 -- ---- what it delivers and counts
 
-abbrev pub isUnchecked : Fate → Bool
+abbrev pub isUnchecked : Disposition → Bool
 isUnchecked Skipped = false
 isUnchecked Unchecked = true
 isUnchecked Held = false
 isUnchecked Discarded = false
 
-abbrev pub isHeld : Fate → Bool
+abbrev pub isHeld : Disposition → Bool
 isHeld Skipped = false
 isHeld Unchecked = false
 isHeld Held = true
 isHeld Discarded = false
 
-abbrev pub isDiscarded : Fate → Bool
+abbrev pub isDiscarded : Disposition → Bool
 isDiscarded Skipped = false
 isDiscarded Unchecked = false
 isDiscarded Held = false
 isDiscarded Discarded = true
 
-abbrev pub isDelivered : Fate → Bool
+abbrev pub isDelivered : Disposition → Bool
 isDelivered f = isUnchecked f || isHeld f
 
-abbrev pub isTested : Fate → Bool
+abbrev pub isTested : Disposition → Bool
 isTested f = isHeld f || isDiscarded f
 
 abbrev pub deliveredBy : List Met → List ℕ

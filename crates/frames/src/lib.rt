@@ -1,7 +1,7 @@
 // The frames of a region in a single pass: the rules in specs/, the laws in proofs/, and the types that they name. Document 02, F-12.
 
 // What becomes of an entry: in no outer range, in an inner range, and in an outer range only, where the point test tells.
-pub enum Fate {
+pub enum Disposition {
     Skipped,
     Unchecked,
     Held,
@@ -9,7 +9,7 @@ pub enum Fate {
 }
 
 // How many counts the call gives.
-pub const COUNTED: usize = 2;
+pub const FRAME_COUNTS: usize = 2;
 
 // How many numbers were delivered, and how many point tests made.
 pub struct Frames {

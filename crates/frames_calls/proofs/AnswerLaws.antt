@@ -17,11 +17,11 @@ use Rattle.region.specs.Regions.{holds}
 use Rattle.region.specs.Budgets.{budgetOf}
 use Rattle.region.specs.Reader.{File, read}
 use Rattle.region.specs.Answers.{headerOf}
-use Rattle.cutting.specs.Cover.{cutting, listed, cover, bothListed}
-use Rattle.cutting_cover.specs.Decoded.{Decoded}
-use Rattle.cutting_cover.proofs.DecodedLaws.{budget-same, cover-same}
-use Rattle.index.specs.Exposures.{Share, isOwner}
-use Rattle.index.specs.Entries.{Least}
+use Rattle.covering.specs.Cover.{cutting, listed, cover, bothListed}
+use Rattle.covering_calls.specs.Decoded.{Decoded}
+use Rattle.covering_calls.proofs.DecodedLaws.{budget-same, cover-same}
+use Rattle.index.specs.Exposures.{OwnerCapacity, isOwner}
+use Rattle.index.specs.Entries.{IndexLength}
 use Rattle.index.specs.Answers.{inList}
 use Rattle.frames.specs.declared.Frames.{Frames}
 use Rattle.frames.specs.declared.FramesOf.{FramesOf}
@@ -47,7 +47,7 @@ module _ (o : ℕ) (l : List ℤ) (f ranges numbers : List ℕ) where
 
   -- behind the owner's check and the file's
   abbrev rest : File → Answer File
-  rest x = check Space (leb (4 * budgetOf (x .budget)) (length ranges)) (check Space (leb Share (length numbers)) (inList l (gives x)))
+  rest x = check Space (leb (4 * budgetOf (x .budget)) (length ranges)) (check Space (leb OwnerCapacity (length numbers)) (inList l (gives x)))
 
   pub no-owner : isOwner o ≡ false → Answers o l f ranges numbers (FramesOf.Refused Owner) ranges numbers
   no-owner e = refuses Owner (ap (λ t. check Owner t (then (read f) rest)) e)
@@ -66,7 +66,7 @@ module _ (o : ℕ) (l : List ℤ) (f ranges numbers : List ℕ) where
       into : framesInto o l f ranges numbers ≡ rest x
       into = ap (λ t. check Owner t (then (read f) rest)) own ∙ ap (λ a. then a rest) (k .accepted)
 
-      module _ {a b c : Bool} (p : leb (4 * B) (length ranges) ≡ a) (q : leb Share (length numbers) ≡ b) (r : leb Least (length l) ≡ c) where
+      module _ {a b c : Bool} (p : leb (4 * B) (length ranges) ≡ a) (q : leb OwnerCapacity (length numbers) ≡ b) (r : leb IndexLength (length l) ≡ c) where
         checked : framesInto o l f ranges numbers ≡ check Space a (check Space b (check Space c (gives x)))
         checked = into ∙ (λ i. check Space (p i) (check Space (q i) (check Space (r i) (gives x))))
 
@@ -77,19 +77,19 @@ module _ (o : ℕ) (l : List ℤ) (f ranges numbers : List ℕ) where
         roomy : leb (4 * B) (length ranges) ≡ true
         roomy = le-leb (4 * B) (length ranges) (omega (arith, budget-same k))
 
-        pub no-numbers : length numbers < Share → Answers o l f ranges numbers (FramesOf.Refused Space) ranges numbers
-        no-numbers t = refuses Space (checked roomy (lt-leb Share (length numbers) t) refl)
+        pub no-numbers : length numbers < OwnerCapacity → Answers o l f ranges numbers (FramesOf.Refused Space) ranges numbers
+        no-numbers t = refuses Space (checked roomy (lt-leb OwnerCapacity (length numbers) t) refl)
 
-        pub no-index : Share ≤ length numbers → length l < Least → Answers o l f ranges numbers (FramesOf.Refused Space) ranges numbers
-        no-index t u = refuses Space (checked roomy (le-leb Share (length numbers) t) (lt-leb Least (length l) u))
+        pub no-index : OwnerCapacity ≤ length numbers → length l < IndexLength → Answers o l f ranges numbers (FramesOf.Refused Space) ranges numbers
+        no-index t u = refuses Space (checked roomy (le-leb OwnerCapacity (length numbers) t) (lt-leb IndexLength (length l) u))
 
-        pub delivered : Share ≤ length numbers → Least ≤ length l → (r : Searched) (lists left : List ℕ)
+        pub delivered : OwnerCapacity ≤ length numbers → IndexLength ≤ length l → (r : Searched) (lists left : List ℕ)
             → SearchesRows o l (h .depth) (budgetOf (h .budget)) rs (h .count) ranges numbers r lists left
             → Answers o l f ranges numbers (FramesOf.Gives (deliveryOf (r .tests))) lists left
         unfolding framesAnswer rangesAfter numbersAfter walkOf
         delivered t u r lists left w =
             let v = w (x .region) (k .rows) in
-            let e = checked roomy (le-leb Share (length numbers) t) (le-leb Least (length l) u) in
+            let e = checked roomy (le-leb OwnerCapacity (length numbers) t) (le-leb IndexLength (length l) u) in
             let C = cover-same k in
             let hd = sym (k .header) in
             let walked : walkBeside o l (h .depth) (x .region) (listed (budgetOf (h .budget)) (cutting (h .depth) (x .region))) ≡ walkOf o l x = λ i. walkBeside o l (hd i .depth) (x .region) (C i) in

@@ -15,12 +15,12 @@ use Rattle.region_points.specs.Points.{rowsHold}
 use Rattle.region_points.proofs.PointLaws.{rows-hold}
 use Rattle.ranges.specs.Ranges.{Range, rangesIn}
 use Rattle.ranges.proofs.Sound.{outer-few, inner-few}
-use Rattle.cutting.specs.declared.Counts.{Counts}
-use Rattle.cutting.specs.Cover.{Cover, cutting, listed, countsOf, bothListed}
-use Rattle.cutting.proofs.ListedLaws.{outer-back, inner-back}
-use Rattle.cutting_walk.specs.Walk.{RowsOf, CoversRows}
+use Rattle.covering.specs.declared.Counts.{Counts}
+use Rattle.covering.specs.Cover.{Cover, cutting, listed, countsOf, bothListed}
+use Rattle.covering.proofs.ListedLaws.{outer-back, inner-back}
+use Rattle.covering_walk.specs.Walk.{RowsOf, CoversRows}
 use Rattle.index.specs.declared.Entry.{Entry}
-use Rattle.index.specs.Exposures.{Share, only}
+use Rattle.index.specs.Exposures.{OwnerCapacity, only}
 use Rattle.index.specs.Entries.{isOwned, entriesIn}
 use Rattle.frames.specs.Walk.{entriesOf, walk, deliveredBy}
 use Rattle.frames_walk.specs.declared.Lists.{Lists}
@@ -40,11 +40,11 @@ unfolding walk
 walk-length d held os ns [] = refl
 walk-length d held os ns (e ∷ es) = ap suc (walk-length d held _ _ es)
 
-few-met : (d : ℕ) (held : Vec3 → _) (os ns : List Range) (o : ℕ) (l : List ℤ) → counting (countsBy (walk d held os ns (entriesOf o l))) ≤ Share
+few-met : (d : ℕ) (held : Vec3 → _) (os ns : List Range) (o : ℕ) (l : List ℤ) → counting (countsBy (walk d held os ns (entriesOf o l))) ≤ OwnerCapacity
 few-met d held os ns o l =
     let es = only (isOwned o) (entriesIn l) in
     let ms = walk d held os ns (entriesOf o l) in
-    omega (arith, few-counted ms, walk-length d held os ns (entriesOf o l), length-take Share es, min-le-left Share (length es))
+    omega (arith, few-counted ms, walk-length d held os ns (entriesOf o l), length-take OwnerCapacity es, min-le-left OwnerCapacity (length es))
 
 -- ---- the point test of the rows
 
@@ -90,5 +90,5 @@ module _ (d b : ℕ) (g : Region) (one : 1 ≤ b) (ranges lists : List ℕ) (spa
         lists-left = list;
         tests = v .tests ∙ ap countsBy same;
         numbers-left = v .numbers ∙ ap (λ ms. put 0 (deliveredBy ms) numbers) same;
-        few = subst (λ q. counting q ≤ Share) (sym (v .tests ∙ ap countsBy same)) (few-met d (holds g) (C .outer) (C .inner) o l);
+        few = subst (λ q. counting q ≤ OwnerCapacity) (sym (v .tests ∙ ap countsBy same)) (few-met d (holds g) (C .outer) (C .inner) o l);
       }

@@ -10,16 +10,16 @@ use lib.IntN.{ℤ}
 use Rattle.answer.specs.Lent.{put}
 use Rattle.region.specs.Regions.{Region, holds}
 use Rattle.region.specs.declared.Header.{Header}
-use Rattle.cutting.specs.Cover.{Cover, cutting, listed, countsOf, bothListed}
-use Rattle.index.specs.Exposures.{Share}
+use Rattle.covering.specs.Cover.{Cover, cutting, listed, countsOf, bothListed}
+use Rattle.index.specs.Exposures.{OwnerCapacity}
 use Rattle.frames.specs.declared.Frames.{Frames}
 use Rattle.frames.specs.declared.FramesOf.{FramesOf}
 use Rattle.frames.specs.Walk.{entriesOf, Met, walk, deliveredBy}
 use Rattle.frames.specs.Answers.{framesAnswer, rangesAfter, numbersAfter, framesGiven}
 use Rattle.frames_walk.specs.declared.Tests.{Tests}
 use Rattle.frames_walk.specs.Steps.{countsBy}
-use Rattle.cutting_walk.specs.Walk.{RowsOf}
-use Rattle.cutting_cover.specs.Decoded.{Decoded}
+use Rattle.covering_walk.specs.Walk.{RowsOf}
+use Rattle.covering_calls.specs.Decoded.{Decoded}
 use Rattle.frames_calls.specs.declared.Searched.{Searched}
 
 -- the walk beside the lists of a cover c of the region g at the depth d
@@ -31,7 +31,7 @@ pub record Leaves (o : ℕ) (l : List ℤ) (d b : ℕ) (g : Region) (ranges numb
   pub lists-left : lists ≡ bothListed b (listed b (cutting d g)) ranges
   pub tests : r .tests ≡ countsBy (walkBeside o l d g (listed b (cutting d g)))
   pub numbers-left : left ≡ put 0 (deliveredBy (walkBeside o l d g (listed b (cutting d g)))) numbers
-  pub few : r .tests .unchecked + r .tests .held + r .tests .discarded ≤ Share
+  pub few : r .tests .unchecked + r .tests .held + r .tests .discarded ≤ OwnerCapacity
 
 abbrev pub SearchesRows : ℕ → List ℤ → ℕ → ℕ → List ℤ → ℕ → List ℕ → List ℕ → Searched → List ℕ → List ℕ → Type 0
 SearchesRows o l d b rs n ranges numbers r lists left = (g : Region) → RowsOf g n rs → Leaves o l d b g ranges numbers r lists left

@@ -2,29 +2,28 @@
 // test on the decoded rows. The rules are those of frames/specs/Answers.
 use answer::OWNER;
 use answer::SPACE;
-use cutting::Counts;
+use covering::Counts;
 use frames::Frames;
 use frames::FramesOf;
 use frames_walk::Lists;
 use frames_walk::Tests;
-use index::LEAST;
+use index::INDEX_LENGTH;
+use index::OWNER_CAPACITY;
 use index::OWNERS;
-use index::SHARE;
-use limits::DEEPEST;
 use limits::HALFSPACES;
+use limits::MAX_DEPTH;
 use region::Header;
 use region::HeaderOf;
 ghost use mathlib.Core.Path.{_≡_};
 ghost use mathlib.Core.Bool.{true};
 ghost use mathlib.Core.List.{List};
-ghost use Prim.Native.Nat.{ℕ, _+_, _*_, _^_, _-_, _≤_, _<_};
+ghost use Prim.Native.Nat.{ℕ, _+_, _*_, _-_, _≤_, _<_};
 ghost use lib.ListN.{length};
-ghost use Rattle.index.specs.Exposures.{Share, isOwner};
-ghost use Rattle.index.specs.Entries.{Least};
-ghost use Rattle.answer.specs.Lent.{put};
-ghost use Rattle.frames.specs.Answers.{framesList, counted, framesAnswer, rangesAfter, numbersAfter, framesGiven};
-ghost use Rattle.cutting_walk.specs.Walk.{SomeRows};
-ghost use Rattle.cutting_cover.specs.Decoded.{Decoded};
+ghost use Rattle.index.specs.Exposures.{OwnerCapacity, isOwner};
+ghost use Rattle.index.specs.Entries.{IndexLength};
+ghost use Rattle.frames.specs.Answers.{framesAnswer, rangesAfter, numbersAfter, framesGiven};
+ghost use Rattle.covering_walk.specs.Walk.{SomeRows};
+ghost use Rattle.covering_calls.specs.Decoded.{Decoded};
 ghost use Rattle.frames_calls.specs.Searches.{SearchesRows, FileIs, Answers, deliveryOf};
 
 // What a search gives: the counts of the cover, and what became of the entries.
@@ -46,15 +45,15 @@ pub fn search(
 ) -> Searched
     requires { ⌜ (1 ≤ depth) × (depth ≤ 12) × SomeRows count (now rows) ⌝ }
     requires { ⌜ (1 ≤ budget) × (4 * budget ≤ length (now ranges)) ⌝ }
-    requires { ⌜ (Least ≤ length (now index)) × (Share ≤ length (now numbers)) ⌝ }
+    requires { ⌜ (IndexLength ≤ length (now index)) × (OwnerCapacity ≤ length (now numbers)) ⌝ }
     ensures { λ r. ⌜ SearchesRows owner (now (index .entry)) depth budget (now (rows .entry)) count (now (ranges .entry)) (now (numbers .entry)) r (now (ranges .exit)) (now (numbers .exit)) ⌝ }
 {
-    let counts = cutting_cover::cover(depth, rows, count, budget, ranges);
+    let counts = covering_calls::cover(depth, rows, count, budget, ranges);
     let lists = Lists {
         outer: counts.outer as usize,
         inner: counts.inner as usize,
         from: 2 * budget,
-        span: cutting_cover::power(DEEPEST - depth),
+        span: covering_calls::power(MAX_DEPTH - depth),
     };
     let tests = frames_walk::walk(index, owner, ranges, lists, rows, count, numbers);
     Searched {
@@ -65,7 +64,7 @@ pub fn search(
 
 // How many numbers were delivered, and how many tests made.
 fn delivery(t: Tests) -> Frames
-    requires { ⌜ t .unchecked + t .held + t .discarded ≤ Share ⌝ }
+    requires { ⌜ t .unchecked + t .held + t .discarded ≤ OwnerCapacity ⌝ }
     ensures { λ r. ⌜ r ≡ deliveryOf t ⌝ }
 {
     Frames {
@@ -91,10 +90,10 @@ fn frames_in(
     if ranges.len() < 4 * budget {
         return FramesOf::Refused(SPACE);
     }
-    if numbers.len() < SHARE {
+    if numbers.len() < OWNER_CAPACITY {
         return FramesOf::Refused(SPACE);
     }
-    if index.len() < LEAST {
+    if index.len() < INDEX_LENGTH {
         return FramesOf::Refused(SPACE);
     }
     let made = search(
@@ -132,13 +131,4 @@ pub fn frames(
         HeaderOf::Gives(h) => frames_in(index, owner, h, &rows, ranges, numbers),
         HeaderOf::Refused(n) => FramesOf::Refused(n),
     }
-}
-
-// The two counts, at the beginning of a list.
-pub fn put_frames(counts: &mut [u64], r: Frames)
-    requires { ⌜ counted ≤ length (now counts) ⌝ }
-    ensures { λ _. ⌜ now (counts .exit) ≡ put 0 (framesList r) (now (counts .entry)) ⌝ }
-{
-    counts[0] = r.delivered;
-    counts[1] = r.tests;
 }

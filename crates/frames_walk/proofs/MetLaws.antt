@@ -13,8 +13,8 @@ use Rattle.answer.specs.Lent.{put}
 use Rattle.answer.proofs.PutLaws.{put-put}
 use Rattle.index.specs.declared.Entry.{Entry}
 use Rattle.index.specs.Exposures.{only}
-use Rattle.frames.specs.declared.Fate.{Fate}
-use Rattle.frames.specs.declared.Fate.the-variants.{Skipped, Unchecked, Held, Discarded}
+use Rattle.frames.specs.declared.Disposition.{Disposition}
+use Rattle.frames.specs.declared.Disposition.the-variants.{Skipped, Unchecked, Held, Discarded}
 use Rattle.frames.specs.Walk.{Met, met, isUnchecked, isHeld, isDiscarded, isDelivered, isTested, numberOf, deliveredBy, testsOf}
 use Rattle.frames_walk.specs.declared.Tests.{Tests}
 use Rattle.frames_walk.specs.Steps.{tests, noted, countsBy}
@@ -32,11 +32,11 @@ tally-last f (y ∷ xs) x = by-test (f y) (f x) (tally-last f xs x)
     by-test true false h = omega arith
     by-test false u h = h
 
-pub counts-more : (ms : List Met) (e : Entry) (f : Fate) → countsBy (ms ++ met e f ∷ []) ≡ noted (countsBy ms) f
+pub counts-more : (ms : List Met) (e : Entry) (f : Disposition) → countsBy (ms ++ met e f ∷ []) ≡ noted (countsBy ms) f
 counts-more ms e f = (λ i. tests (tally-last (λ m. isUnchecked (m .fate)) ms (met e f) i) (tally-last (λ m. isHeld (m .fate)) ms (met e f) i) (tally-last (λ m. isDiscarded (m .fate)) ms (met e f) i))
     ∙ by-fate f
   where
-    by-fate : (g : Fate) → tests
+    by-fate : (g : Disposition) → tests
         (cond (isUnchecked g) (countsBy ms .unchecked + 1) (countsBy ms .unchecked))
         (cond (isHeld g) (countsBy ms .held + 1) (countsBy ms .held))
         (cond (isDiscarded g) (countsBy ms .discarded + 1) (countsBy ms .discarded)) ≡ noted (countsBy ms) g
@@ -46,7 +46,7 @@ counts-more ms e f = (λ i. tests (tally-last (λ m. isUnchecked (m .fate)) ms (
     by-fate Discarded = refl
 
 -- no more than one more
-pub noted-most : (t : Tests) (f : Fate) → noted t f .unchecked + noted t f .held + noted t f .discarded ≤ t .unchecked + t .held + t .discarded + 1
+pub noted-most : (t : Tests) (f : Disposition) → noted t f .unchecked + noted t f .held + noted t f .discarded ≤ t .unchecked + t .held + t .discarded + 1
 noted-most t Skipped = omega arith
 noted-most t Unchecked = omega arith
 noted-most t Held = omega arith
@@ -70,7 +70,7 @@ unfolding tally
 few-counted [] = omega arith
 few-counted (m ∷ ms) = by-fate (m .fate) (few-counted ms)
   where
-    by-fate : (g : Fate) → u ms + h ms + x ms ≤ length ms
+    by-fate : (g : Disposition) → u ms + h ms + x ms ≤ length ms
         → cond (isUnchecked g) (suc (u ms)) (u ms) + cond (isHeld g) (suc (h ms)) (h ms) + cond (isDiscarded g) (suc (x ms)) (x ms) ≤ suc (length ms)
     by-fate Skipped e = omega arith
     by-fate Unchecked e = omega arith
@@ -82,7 +82,7 @@ unfolding tally
 tests-counted [] = refl
 tests-counted (m ∷ ms) = by-fate (m .fate) (tests-counted ms)
   where
-    by-fate : (g : Fate) → testsOf ms ≡ h ms + x ms
+    by-fate : (g : Disposition) → testsOf ms ≡ h ms + x ms
         → cond (isTested g) (suc (testsOf ms)) (testsOf ms) ≡ cond (isHeld g) (suc (h ms)) (h ms) + cond (isDiscarded g) (suc (x ms)) (x ms)
     by-fate Skipped e = e
     by-fate Unchecked e = e
@@ -94,7 +94,7 @@ tests-counted (m ∷ ms) = by-fate (m .fate) (tests-counted ms)
 abbrev own : Entry → Bool → List ℕ
 own e t = cond t (numberOf e ∷ []) []
 
-delivered-more : (ms : List Met) (e : Entry) (f : Fate) → deliveredBy (ms ++ met e f ∷ []) ≡ deliveredBy ms ++ own e (isDelivered f)
+delivered-more : (ms : List Met) (e : Entry) (f : Disposition) → deliveredBy (ms ++ met e f ∷ []) ≡ deliveredBy ms ++ own e (isDelivered f)
 unfolding only
 delivered-more [] e f = split (isDelivered f) (λ t. rw t) (λ t. rw t)
 delivered-more (m ∷ ms) e f =
@@ -107,7 +107,7 @@ unfolding only tally
 length-delivered [] = refl
 length-delivered (m ∷ ms) = by-fate (m .fate) (length-delivered ms)
   where
-    by-fate : (g : Fate) → length (deliveredBy ms) ≡ countsBy ms .unchecked + countsBy ms .held
+    by-fate : (g : Disposition) → length (deliveredBy ms) ≡ countsBy ms .unchecked + countsBy ms .held
         → length (map (λ x. numberOf (x .entry)) (cond (isDelivered g) (m ∷ only (λ x. isDelivered (x .fate)) ms) (only (λ x. isDelivered (x .fate)) ms)))
         ≡ cond (isUnchecked g) (suc (countsBy ms .unchecked)) (countsBy ms .unchecked) + cond (isHeld g) (suc (countsBy ms .held)) (countsBy ms .held)
     by-fate Skipped h = h
@@ -116,7 +116,7 @@ length-delivered (m ∷ ms) = by-fate (m .fate) (length-delivered ms)
     by-fate Discarded h = h
 
 -- a number stored behind those delivered, where the entry is delivered
-pub numbers-more : (ms : List Met) (e : Entry) (f : Fate) (before : List ℕ) → cond (isDelivered f)
+pub numbers-more : (ms : List Met) (e : Entry) (f : Disposition) (before : List ℕ) → cond (isDelivered f)
     (put (countsBy ms .unchecked + countsBy ms .held) (numberOf e ∷ []) (put 0 (deliveredBy ms) before)) (put 0 (deliveredBy ms) before)
     ≡ put 0 (deliveredBy (ms ++ met e f ∷ [])) before
 numbers-more ms e f before =

@@ -13,22 +13,22 @@ use Rattle.answer.specs.Lent.{put}
 use Rattle.answer.proofs.PutLaws.{put-none}
 use Rattle.vector.specs.declared.Vec3.{Vec3}
 use Rattle.index.specs.declared.Entry.{Entry}
-use Rattle.index.specs.Exposures.{Share, only}
+use Rattle.index.specs.Exposures.{OwnerCapacity, only}
 use Rattle.index.specs.Entries.{isOwned, Width, entryAt, entriesFrom, countIn, entriesIn}
 use Rattle.index_entries.proofs.EntryLaws.{entry-drop}
 use Rattle.region_points.specs.Points.{rowsHold}
-use Rattle.frames.specs.declared.Fate.{Fate}
+use Rattle.frames.specs.declared.Disposition.{Disposition}
 use Rattle.frames.specs.Walk.{whole, numberOf, entriesOf, ahead, begins, fateOf, Met, met, walk, isDelivered, deliveredBy}
 use Rattle.frames_walk.specs.declared.Lists.{Lists}
-use Rattle.frames_walk.specs.declared.Place.{Place}
+use Rattle.frames_walk.specs.declared.WalkState.{WalkState}
 use Rattle.frames_walk.specs.Steps.{tests, noted, countsBy, outerOf, innerOf, left, Walking, Meets, Goes, Walks}
 use Rattle.frames_walk.proofs.MetLaws.{counts-more, numbers-more}
 
 -- ---- an entry of the owner
 
-module _ (l : Lists) (ls : List ℕ) (rs : List ℤ) (n : ℕ) (e : Entry) (a : Place) (now : List ℕ) (b : Place) (then : List ℕ) where
+module _ (l : Lists) (ls : List ℕ) (rs : List ℤ) (n : ℕ) (e : Entry) (a : WalkState) (now : List ℕ) (b : WalkState) (then : List ℕ) where
   -- what the code does with it
-  pub record Turn (i : ℕ) (inside within : Bool) (f : Fate) : Type 0 where
+  pub record Turn (i : ℕ) (inside within : Bool) (f : Disposition) : Type 0 where
     pub id : i ≡ whole (e .id) / l .span
     pub outer : drop (b .outer) (outerOf l ls) ≡ ahead i (drop (a .outer) (outerOf l ls))
     pub inner : drop (b .inner) (innerOf l ls) ≡ ahead i (drop (a .inner) (innerOf l ls))
@@ -39,7 +39,7 @@ module _ (l : Lists) (ls : List ℕ) (rs : List ℤ) (n : ℕ) (e : Entry) (a : 
     pub tests : b .tests ≡ noted (a .tests) f
     pub numbers : then ≡ cond (isDelivered f) (put (a .tests .unchecked + a .tests .held) (numberOf e ∷ []) now) now
 
-  pub turned : (k : ℕ) (inside within : Bool) (f : Fate) → Turn k inside within f → Meets l ls rs n e a now b then
+  pub turned : (k : ℕ) (inside within : Bool) (f : Disposition) → Turn k inside within f → Meets l ls rs n e a now b then
   unfolding walk
   turned k inside within f t d s all es before h =
       let held : Vec3 → Bool = λ p. rowsHold p n rs in
@@ -72,27 +72,27 @@ module _ (o : ℕ) (e : Entry) (m : ℕ) (es : List Entry) where
 
   left-other : isOwned o e ≡ false → left o m (e ∷ es) ≡ left o m es
   unfolding only
-  left-other t = ap (λ x. take (Share - m) (chosen x)) t
+  left-other t = ap (λ x. take (OwnerCapacity - m) (chosen x)) t
 
-  left-full : Share ≤ m → left o m (e ∷ es) ≡ left o m es
+  left-full : OwnerCapacity ≤ m → left o m (e ∷ es) ≡ left o m es
   left-full h =
-      let z : Share - m ≡ 0 = omega arith in
+      let z : OwnerCapacity - m ≡ 0 = omega arith in
       ap (λ k. take k (only (isOwned o) (e ∷ es))) z ∙ sym (ap (λ k. take k (only (isOwned o) es)) z)
 
-  left-own : isOwned o e ≡ true → m < Share → left o m (e ∷ es) ≡ e ∷ left o (m + 1) es
+  left-own : isOwned o e ≡ true → m < OwnerCapacity → left o m (e ∷ es) ≡ e ∷ left o (m + 1) es
   unfolding only
   left-own t h =
-      let s : Share - m ≡ suc (Share - (m + 1)) = omega arith in
+      let s : OwnerCapacity - m ≡ suc (OwnerCapacity - (m + 1)) = omega arith in
       λ j. take (s j) (chosen (t j))
 
-module _ (o : ℕ) (l : Lists) (ls : List ℕ) (rs : List ℤ) (n : ℕ) (e : Entry) (a : Place) (now : List ℕ) where
+module _ (o : ℕ) (l : Lists) (ls : List ℕ) (rs : List ℤ) (n : ℕ) (e : Entry) (a : WalkState) (now : List ℕ) where
   pub passes-other : isOwned o e ≡ false → Goes o l ls rs n e a now a now
   passes-other t d s all es before h = subst (λ xs. Walking l ls rs n d all xs before a now) (left-other o e (a .met) es t) h
 
-  pub passes-full : Share ≤ a .met → Goes o l ls rs n e a now a now
+  pub passes-full : OwnerCapacity ≤ a .met → Goes o l ls rs n e a now a now
   passes-full f d s all es before h = subst (λ xs. Walking l ls rs n d all xs before a now) (left-full o e (a .met) es f) h
 
-  pub passes-own : (b : Place) (then : List ℕ) → isOwned o e ≡ true → a .met < Share → b .met ≡ a .met + 1 → Meets l ls rs n e a now b then → Goes o l ls rs n e a now b then
+  pub passes-own : (b : WalkState) (then : List ℕ) → isOwned o e ≡ true → a .met < OwnerCapacity → b .met ≡ a .met + 1 → Meets l ls rs n e a now b then → Goes o l ls rs n e a now b then
   passes-own b then t f m meets d s all es before h =
       let own : Walking l ls rs n d all (e ∷ left o (b .met) es) before a now =
       subst (λ xs. Walking l ls rs n d all xs before a now) (left-own o e (a .met) es t f ∙ ap (λ k. e ∷ left o k es) (sym m)) h in
@@ -105,7 +105,7 @@ module _ (o : ℕ) (index : List ℤ) (l : Lists) (ls : List ℕ) (rs : List ℤ
   from i = entriesFrom (countIn index - i) (drop (1 + Width * i) index)
 
   -- past i entries
-  abbrev pub Past : ℕ → Place → List ℕ → Type 0
+  abbrev pub Past : ℕ → WalkState → List ℕ → Type 0
   Past i a now =
       (d : ℕ) → l .span ≡ 4 ^ (12 - d)
       → Walking l ls rs n d (walk d (λ p. rowsHold p n rs) (outerOf l ls) (innerOf l ls) (entriesOf o index)) (left o (a .met) (from i)) before a now
@@ -116,7 +116,7 @@ module _ (o : ℕ) (index : List ℤ) (l : Lists) (ls : List ℕ) (rs : List ℤ
       let z : countIn index - 0 ≡ countIn index = omega arith in
       record {
         behind = [];
-        parts = ap (λ k. walk d (λ p. rowsHold p n rs) (outerOf l ls) (innerOf l ls) (take Share (only (isOwned o) (entriesFrom k (drop 1 index))))) z;
+        parts = ap (λ k. walk d (λ p. rowsHold p n rs) (outerOf l ls) (innerOf l ls) (take OwnerCapacity (only (isOwned o) (entriesFrom k (drop 1 index))))) z;
         met = refl;
         tests = refl;
         numbers = sym (put-none 0 before);
@@ -131,19 +131,19 @@ module _ (o : ℕ) (index : List ℤ) (l : Lists) (ls : List ℕ) (rs : List ℤ
       ap (λ k. entriesFrom k (drop (1 + Width * i) index)) s
       ∙ (λ j. entry-drop (1 + Width * i) index j ∷ entriesFrom (countIn index - (i + 1)) (r j))
 
-  pub past-next : (i : ℕ) (e : Entry) (a b : Place) (now then : List ℕ) → i < countIn index → e ≡ entryAt index (1 + Width * i)
+  pub past-next : (i : ℕ) (e : Entry) (a b : WalkState) (now then : List ℕ) → i < countIn index → e ≡ entryAt index (1 + Width * i)
       → Goes o l ls rs n e a now b then → Past i a now → Past (i + 1) b then
   past-next i e a b now then h is goes past d s =
       let all = walk d (λ p. rowsHold p n rs) (outerOf l ls) (innerOf l ls) (entriesOf o index) in
       goes d s all (from (i + 1)) before
       (subst (λ xs. Walking l ls rs n d all (left o (a .met) xs) before a now) (next i h ∙ ap (λ x. x ∷ from (i + 1)) (sym is)) (past d s))
 
-  pub past-all : (i : ℕ) (a : Place) (now : List ℕ) → countIn index ≤ i → Past i a now → Walks o index l ls rs n before (a .tests) now
+  pub past-all : (i : ℕ) (a : WalkState) (now : List ℕ) → countIn index ≤ i → Past i a now → Walks o index l ls rs n before (a .tests) now
   unfolding entriesFrom only walk
   past-all i a now h past d s =
       let p = past d s in
       let z : countIn index - i ≡ 0 = omega arith in
-      let none : left o (a .met) (from i) ≡ [] = ap (λ k. left o (a .met) (entriesFrom k (drop (1 + Width * i) index))) z ∙ take-nil (Share - a .met) in
+      let none : left o (a .met) (from i) ≡ [] = ap (λ k. left o (a .met) (entriesFrom k (drop (1 + Width * i) index))) z ∙ take-nil (OwnerCapacity - a .met) in
       let all = sym (append-nil (p .behind))
       ∙ ap (λ xs. p .behind ++ walk d (λ q. rowsHold q n rs) (drop (a .outer) (outerOf l ls)) (drop (a .inner) (innerOf l ls)) xs) (sym none)
       ∙ p .parts in

@@ -1,8 +1,8 @@
 // The walk over one owner's entries beside the two lists of a cover in lent memory, each gone through once. The rule is `walk` of frames/specs/Walk; specs/Steps
 // says how far a walk is.
-use frames::Fate;
+use frames::Disposition;
 use index::Entry;
-use index::SHARE;
+use index::OWNER_CAPACITY;
 use index::WIDTH;
 use limits::HALFSPACES;
 use vector::Vec3;
@@ -13,8 +13,8 @@ ghost use Prim.Native.Nat.{_+_, _*_, _/_, _^_, _≤_, _<_};
 ghost use lib.ListN.{length, drop};
 ghost use Rattle.answer.specs.Lent.{put};
 ghost use Rattle.ranges.specs.Ranges.{rangesIn};
-ghost use Rattle.index.specs.Exposures.{Share};
-ghost use Rattle.index.specs.Entries.{Least};
+ghost use Rattle.index.specs.Exposures.{OwnerCapacity};
+ghost use Rattle.index.specs.Entries.{IndexLength};
 ghost use Rattle.region_points.specs.Points.{rowsHold};
 ghost use Rattle.frames.specs.Walk as rule;
 ghost use Rattle.frames.specs.Walk.{fateOf, isDelivered, numberOf};
@@ -37,7 +37,7 @@ pub struct Tests {
 }
 
 // How far a walk is: how many of the owner's entries it has met, how many ranges of each list it has left behind, and what it has counted.
-pub struct Place {
+pub struct WalkState {
     pub met: usize,
     pub outer: usize,
     pub inner: usize,
@@ -91,44 +91,50 @@ fn begins(list: &[u64], n: usize, k: usize, id: u64) -> bool
 }
 
 // What becomes of an entry with the pointing p, by whether it is in an inner and in an outer range; the point test is made where only the second is so.
-fn fate_of(inner: bool, outer: bool, rows: &[i32; 5 * HALFSPACES], count: usize, p: Vec3) -> Fate
+fn disposition_of(
+    inner: bool,
+    outer: bool,
+    rows: &[i32; 5 * HALFSPACES],
+    count: usize,
+    p: Vec3,
+) -> Disposition
     requires { ⌜ 5 * count ≤ 2560 ⌝ }
     ensures { λ r. ⌜ r ≡ fateOf (λ q. rowsHold q count (now (rows .entry))) inner outer p ⌝ }
 {
     if inner {
-        return Fate::Unchecked;
+        return Disposition::Unchecked;
     }
     if !outer {
-        return Fate::Skipped;
+        return Disposition::Skipped;
     }
     if !vector_products::is_vector(p) {
-        return Fate::Discarded;
+        return Disposition::Discarded;
     }
     if region_points::array_holds(rows, count, p) {
-        Fate::Held
+        Disposition::Held
     } else {
-        Fate::Discarded
+        Disposition::Discarded
     }
 }
 
 // One entry more with its fate.
-fn count_fate(t: Tests, fate: Fate) -> Tests
-    requires { ⌜ t .unchecked + t .held + t .discarded ≤ Share ⌝ }
+fn count_disposition(t: Tests, fate: Disposition) -> Tests
+    requires { ⌜ t .unchecked + t .held + t .discarded ≤ OwnerCapacity ⌝ }
     ensures { λ r. ⌜ r ≡ noted t fate ⌝ }
 {
     match fate {
-        Fate::Skipped => t,
-        Fate::Unchecked => Tests {
+        Disposition::Skipped => t,
+        Disposition::Unchecked => Tests {
             unchecked: t.unchecked + 1,
             held: t.held,
             discarded: t.discarded,
         },
-        Fate::Held => Tests {
+        Disposition::Held => Tests {
             unchecked: t.unchecked,
             held: t.held + 1,
             discarded: t.discarded,
         },
-        Fate::Discarded => Tests {
+        Disposition::Discarded => Tests {
             unchecked: t.unchecked,
             held: t.held,
             discarded: t.discarded + 1,
@@ -137,33 +143,33 @@ fn count_fate(t: Tests, fate: Fate) -> Tests
 }
 
 // Stores the number of an entry at place k, where it is delivered.
-fn deliver(numbers: &mut [u32], k: usize, e: Entry, fate: Fate)
+fn deliver(numbers: &mut [u32], k: usize, e: Entry, fate: Disposition)
     requires { ⌜ k < length (now numbers) ⌝ }
     ensures { λ _. ⌜ now (numbers .exit) ≡ cond (isDelivered fate) (put k (numberOf e ∷ []) (now (numbers .entry))) (now (numbers .entry)) ⌝ }
 {
     match fate {
-        Fate::Skipped => {}
-        Fate::Unchecked => {
+        Disposition::Skipped => {}
+        Disposition::Unchecked => {
             numbers[k] = number_of(e);
         }
-        Fate::Held => {
+        Disposition::Held => {
             numbers[k] = number_of(e);
         }
-        Fate::Discarded => {}
+        Disposition::Discarded => {}
     }
 }
 
 // The next entry of the owner: both lists go on to its identifier, and its fate is counted.
-fn meet(
+fn visit_entry(
     e: Entry,
-    at: Place,
+    at: WalkState,
     ranges: &[u64],
     lists: Lists,
     rows: &[i32; 5 * HALFSPACES],
     count: usize,
     numbers: &mut [u32],
-) -> Place
-    requires { ⌜ Lent lists (now ranges) × Fits lists at × (at .met < Share) × (Share ≤ length (now numbers)) ⌝ }
+) -> WalkState
+    requires { ⌜ Lent lists (now ranges) × Fits lists at × (at .met < OwnerCapacity) × (OwnerCapacity ≤ length (now numbers)) ⌝ }
     requires { ⌜ 5 * count ≤ 2560 ⌝ }
     ensures { λ r. ⌜ Meets lists (now (ranges .entry)) (now (rows .entry)) count e at (now (numbers .entry)) r (now (numbers .exit)) ⌝ }
     ensures { λ r. ⌜ Fits lists r × (r .met ≡ at .met + 1) × (length (now (numbers .exit)) ≡ length (now (numbers .entry))) ⌝ }
@@ -172,7 +178,7 @@ fn meet(
     let from = lists.from;
     let outer = ahead(ranges, lists.outer, at.outer, id);
     let inner = ahead(&ranges[from..], lists.inner, at.inner, id);
-    let fate = fate_of(
+    let fate = disposition_of(
         begins(&ranges[from..], lists.inner, inner, id),
         begins(ranges, lists.outer, outer, id),
         rows,
@@ -181,26 +187,26 @@ fn meet(
     );
     let tests = at.tests;
     deliver(numbers, (tests.unchecked + tests.held) as usize, e, fate);
-    Place {
+    WalkState {
         met: at.met + 1,
         outer: outer,
         inner: inner,
-        tests: count_fate(tests, fate),
+        tests: count_disposition(tests, fate),
     }
 }
 
 // The next entry, whoever's it is; the owner's are met as far as a share goes.
-fn pass(
+fn visit_if_owned(
     e: Entry,
     owner: u32,
-    at: Place,
+    at: WalkState,
     ranges: &[u64],
     lists: Lists,
     rows: &[i32; 5 * HALFSPACES],
     count: usize,
     numbers: &mut [u32],
-) -> Place
-    requires { ⌜ Lent lists (now ranges) × Fits lists at × (Share ≤ length (now numbers)) ⌝ }
+) -> WalkState
+    requires { ⌜ Lent lists (now ranges) × Fits lists at × (OwnerCapacity ≤ length (now numbers)) ⌝ }
     requires { ⌜ 5 * count ≤ 2560 ⌝ }
     ensures { λ r. ⌜ Goes owner lists (now (ranges .entry)) (now (rows .entry)) count e at (now (numbers .entry)) r (now (numbers .exit)) ⌝ }
     ensures { λ r. ⌜ Fits lists r × (length (now (numbers .exit)) ≡ length (now (numbers .entry))) ⌝ }
@@ -208,10 +214,10 @@ fn pass(
     if !index_entries::is_owned(e, owner) {
         return at;
     }
-    if SHARE <= at.met {
+    if OWNER_CAPACITY <= at.met {
         return at;
     }
-    meet(e, at, ranges, lists, rows, count, numbers)
+    visit_entry(e, at, ranges, lists, rows, count, numbers)
 }
 
 // The walk over the owner's entries: the numbers of those delivered, from element 0 of `numbers` on, and the counts.
@@ -224,12 +230,12 @@ pub fn walk(
     count: usize,
     numbers: &mut [u32],
 ) -> Tests
-    requires { ⌜ (Least ≤ length (now index)) × Lent lists (now ranges) × (Share ≤ length (now numbers)) ⌝ }
+    requires { ⌜ (IndexLength ≤ length (now index)) × Lent lists (now ranges) × (OwnerCapacity ≤ length (now numbers)) ⌝ }
     requires { ⌜ 5 * count ≤ 2560 ⌝ }
     ensures { λ r. ⌜ Walks owner (now (index .entry)) lists (now (ranges .entry)) (now (rows .entry)) count (now (numbers .entry)) r (now (numbers .exit)) ⌝ }
 {
     let n = index_entries::count_in(index);
-    let mut at = Place {
+    let mut at = WalkState {
         met: 0,
         outer: 0,
         inner: 0,
@@ -241,7 +247,7 @@ pub fn walk(
     };
     let mut i: usize = 0;
     while i < n {
-        at = pass(
+        at = visit_if_owned(
             index_entries::entry_at(index, 1 + WIDTH * i),
             owner,
             at,

@@ -18,11 +18,11 @@ use Rattle.region.specs.Regions.{holds}
 use Rattle.region.specs.Budgets.{budgetOf}
 use Rattle.region.specs.Reader.{File, read, Accepted}
 use Rattle.region.specs.Answers.{pointTest}
-use Rattle.cutting.specs.Cover.{cover, countsOf}
-use Rattle.cutting.specs.declared.Counts.{Counts}
-use Rattle.cutting.proofs.ListedLaws.{outer-back, inner-back}
+use Rattle.covering.specs.Cover.{cover, countsOf}
+use Rattle.covering.specs.declared.Counts.{Counts}
+use Rattle.covering.proofs.ListedLaws.{outer-back, inner-back}
 use Rattle.htm.specs.Answers.{coverInto, coverAnswer, bothLists, coverAfter, outerIn, innerIn}
-use Rattle.htm.specs.Promise.{Kept, PromiseOfAnswers, PromiseOfCalls, Demand3, DemandThree}
+use Rattle.htm.specs.Promise.{CoverSound, PromiseOfAnswers, PromiseOfCalls, Demand3, DemandThree}
 use borrow.Author.Tests.{le-leb}
 use Rattle.answer.specs.Answer.{refused}
 use Rattle.region.specs.declared.HeldOf.{HeldOf}
@@ -78,13 +78,13 @@ answers-kept p f before c h cov tst =
     let t = tested f p h x tst (v .accepted) in
     let k = promise-kept p f x (t .0) (v .accepted) in
     let few = k .2 .outer-list .few in
-    let lists : Kept (k .0) (outerIn (countsOf (cover x)) (bothLists x before)) (innerIn B (countsOf (cover x)) (bothLists x before)) B (holds (x .region) p) =
-    subst₂ (λ o n. Kept (k .0) o n B (holds (x .region) p)) (sym (outer-back B (cover x) before (v .space) few)) (sym (inner-back B (cover x) before (v .space) few)) (k .2) in (
+    let lists : CoverSound (k .0) (outerIn (countsOf (cover x)) (bothLists x before)) (innerIn B (countsOf (cover x)) (bothLists x before)) B (holds (x .region) p) =
+    subst₂ (λ o n. CoverSound (k .0) o n B (holds (x .region) p)) (sym (outer-back B (cover x) before (v .space) few)) (sym (inner-back B (cover x) before (v .space) few)) (k .2) in (
       x,
       v .accepted,
       k .0,
       k .1,
-      subst₃ (λ y l b. Kept (k .0) (outerIn y l) (innerIn B y l) B b) (v .counts) (v .lists) (t .1) lists,
+      subst₃ (λ y l b. CoverSound (k .0) (outerIn y l) (innerIn B y l) B b) (v .counts) (v .lists) (t .1) lists,
     )
 
 -- ---- of the calls
@@ -98,7 +98,7 @@ pub calls-kept : PromiseOfCalls
 calls-kept p f before after c h cov left tst =
     let k = answers-kept p f before c h (sym cov) (sym tst) in
     let B = budgetOf (k .0 .budget) in
-    (k .0, k .1, k .2, λ found e. found-is found (k .2) (e ∙ k .3), subst (λ l. Kept (k .2) (outerIn c l) (innerIn B c l) B h) (sym left) (k .4))
+    (k .0, k .1, k .2, λ found e. found-is found (k .2) (e ∙ k .3), subst (λ l. CoverSound (k .2) (outerIn c l) (innerIn B c l) B h) (sym left) (k .4))
 
 -- ---- undivided
 
@@ -131,8 +131,8 @@ demand-three p f before x v r l =
       k .0,
       record {
         rules = k .2;
-        answers = subst (λ s. Kept (k .0) (outerIn (countsOf (cover x)) s) (innerIn B (countsOf (cover x)) s) B (holds (x .region) p)) left
-            (subst₂ (λ o n. Kept (k .0) o n B (holds (x .region) p)) (sym (outer-back B (cover x) before l few)) (sym (inner-back B (cover x) before l few)) (k .2));
+        answers = subst (λ s. CoverSound (k .0) (outerIn (countsOf (cover x)) s) (innerIn B (countsOf (cover x)) s) B (holds (x .region) p)) left
+            (subst₂ (λ o n. CoverSound (k .0) o n B (holds (x .region) p)) (sym (outer-back B (cover x) before l few)) (sym (inner-back B (cover x) before l few)) (k .2));
         locates = λ found e. found-is found (k .0) (e ∙ k .1);
         tests = λ q e. held-is q (holds (x .region) p) (e ∙ tst);
         covers = λ q e. covered-is q (countsOf (cover x)) (e ∙ cov);

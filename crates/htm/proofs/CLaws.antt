@@ -29,13 +29,13 @@ use Rattle.region.specs.Answers.{headerOf, readInto, rowsInto, readAnswer, read
 use Rattle.region.proofs.ReaderLaws.{accepted-short}
 use Rattle.region.proofs.WriteBack.{write-back}
 use Rattle.region.proofs.ConvertLaws.{converted}
-use Rattle.cutting.specs.declared.Counts.{Counts}
-use Rattle.cutting.specs.Cover.{cover, countsOf, counted, countsList}
+use Rattle.covering.specs.declared.Counts.{Counts}
+use Rattle.covering.specs.Cover.{cover, countsOf, coverCounts, countsList}
 use Rattle.htm.specs.Answers.{coverInto, coverAnswer, bothLists, coverAfter}
 use Rattle.index.specs.declared.Entry.{Entry}
 use Rattle.index.specs.Entries.{Width, numbers}
 use Rattle.index.specs.Answers.{entryAnswer}
-use Rattle.htm_values.specs.Values.{statusOf, cornersList, headerList, refusalOf}
+use Rattle.htm_abi.specs.Values.{statusOf, cornersList, headerList, refusalOf}
 use Rattle.htm.specs.CalledFromC.{entryForC, entryAfterC, cornersForC, cornersAfterC, inBoth, readForC, rowsAfterC, headerAfterC, coverForC, coverAfterC, countsAfterC}
 
 -- ---- lengths are small: 32 bytes a name, 10508 a file
@@ -171,10 +171,10 @@ module _ (f out counts : List ℕ) where
   abbrev pub Covers : ℤ → List ℕ → List ℕ → Type 0
   Covers status xs ns = (status ≡ statusOf (coverForC f out counts)) × ((xs ≡ coverAfterC f out counts) × (ns ≡ countsAfterC f out counts))
 
-  pub short-counts : length counts < counted → Covers (statusOf (refusalOf f)) out counts
+  pub short-counts : length counts < coverCounts → Covers (statusOf (refusalOf f)) out counts
   unfolding coverForC coverAfterC countsAfterC
-  short-counts h = short-list (λ x. countsOf (cover x)) bothLists countsList out counted counts h (λ x. leb (4 * budgetOf (x .budget)) (length out)) (read f)
+  short-counts h = short-list (λ x. countsOf (cover x)) bothLists countsList out coverCounts counts h (λ x. leb (4 * budgetOf (x .budget)) (length out)) (read f)
 
-  pub covers : counted ≤ length counts → (a : Answer Counts) (xs : List ℕ) → a ≡ coverAnswer f out → xs ≡ coverAfter f out → Covers (statusOf a) xs (stored (λ v l. put 0 (countsList v) l) a counts)
+  pub covers : coverCounts ≤ length counts → (a : Answer Counts) (xs : List ℕ) → a ≡ coverAnswer f out → xs ≡ coverAfter f out → Covers (statusOf a) xs (stored (λ v l. put 0 (countsList v) l) a counts)
   unfolding coverForC coverAfterC countsAfterC coverAnswer coverAfter
-  covers h a xs e g = with-list (λ x. countsOf (cover x)) bothLists countsList out counted counts h (coverInto f out) a xs e g
+  covers h a xs e g = with-list (λ x. countsOf (cover x)) bothLists countsList out coverCounts counts h (coverInto f out) a xs e g

@@ -5,11 +5,11 @@ use Rattle.region.specs.Regions.{Region}
 use Rattle.region.specs.Budgets.{budgetOf}
 use Rattle.region.proofs.BudgetLaws.{budget-one}
 use Rattle.ranges.proofs.Sound.{outer-few}
-use Rattle.cutting.specs.Cover.{cutting, cover, coverOf, countsOf}
-use Rattle.cutting.proofs.ContentsLaws.{full-contains, accepted-contains, outer-contains}
+use Rattle.covering.specs.Cover.{cutting, cover, coverOf, countsOf}
+use Rattle.covering.proofs.ContentsLaws.{full-contains, accepted-contains, outer-contains}
 use Rattle.htm.specs.Answers.{bothLists, outerIn}
 use Rattle.htm.specs.Counted.{Contents, Counted, CountedOfAnswers}
-use Rattle.cutting.proofs.ListedLaws.{outer-back}
+use Rattle.covering.proofs.ListedLaws.{outer-back}
 use Rattle.htm.proofs.AnswersKept.{covered}
 
 -- of any depth, budget and region

@@ -16,11 +16,11 @@ use Rattle.region.specs.declared.Header.{Header}
 use Rattle.region.specs.Budgets.{budgetOf}
 use Rattle.region.specs.Reader.{File, read}
 use Rattle.region.specs.Answers.{headerOf}
-use Rattle.cutting.specs.declared.Counts.{Counts}
-use Rattle.cutting.specs.Cover.{cover, countsOf}
-use Rattle.cutting_walk.specs.Walk.{CoversRows}
-use Rattle.cutting_cover.specs.Decoded.{Decoded}
-use Rattle.cutting_cover.proofs.DecodedLaws.{budget-same, rows-cover}
+use Rattle.covering.specs.declared.Counts.{Counts}
+use Rattle.covering.specs.Cover.{cover, countsOf}
+use Rattle.covering_walk.specs.Walk.{CoversRows}
+use Rattle.covering_calls.specs.Decoded.{Decoded}
+use Rattle.covering_calls.proofs.DecodedLaws.{budget-same, rows-cover}
 use Rattle.htm.specs.Answers.{coverInto, coverAnswer, bothLists, coverAfter}
 
 module _ (f before : List ℕ) where

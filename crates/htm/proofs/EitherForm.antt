@@ -12,7 +12,7 @@ use Rattle.region.specs.Answers.{pointTest}
 use Rattle.region.specs.Converting.{convert}
 use Rattle.region.proofs.ConvertLaws.{converted}
 use Rattle.region.proofs.CallsBack.{file-given}
-use Rattle.cutting.specs.Cover.{cover, countsOf, counted, countsList}
+use Rattle.covering.specs.Cover.{cover, countsOf, coverCounts, countsList}
 use Rattle.htm.specs.Answers.{coverAnswer, bothLists, coverAfter}
 use Rattle.htm.specs.CalledFromC.{inBoth, coverForC, coverAfterC, countsAfterC}
 use Rattle.htm.specs.EitherForm.{SameCover, Alike, SameCoverOfAnswers, SameCoverOfCalls}
@@ -24,7 +24,7 @@ alike : (f h : List ℕ) → read h ≡ read f → Alike h f
 unfolding coverAnswer coverAfter coverForC coverAfterC countsAfterC pointTest
 alike f h e =
     let into : List ℕ → Answer File → Answer File = λ out a. then a (λ x. room (4 * budgetOf (x .budget)) out x) in
-    let both : List ℕ → List ℕ → Answer File → Answer File = λ out counts a. inBoth counted (into out a) counts in (
+    let both : List ℕ → List ℕ → Answer File → Answer File = λ out counts a. inBoth coverCounts (into out a) counts in (
       (λ out. (ap (λ a. with-value (λ x. countsOf (cover x)) (into out a)) e, ap (λ a. stored bothLists (into out a) out) e)),
       (λ out counts. (
         ap (λ a. with-value (λ x. countsOf (cover x)) (both out counts a)) e,

@@ -12,14 +12,14 @@ use Rattle.answer.specs.Answer.{Answer, refused, gives, check, then, with-value
 use Rattle.answer.specs.Lent.{put, stored}
 use Rattle.region.specs.Budgets.{budgetOf}
 use Rattle.region.specs.Reader.{File, read}
-use Rattle.index.specs.Exposures.{Share, isOwner}
-use Rattle.index.specs.Entries.{Least}
+use Rattle.index.specs.Exposures.{OwnerCapacity, isOwner}
+use Rattle.index.specs.Entries.{IndexLength}
 use Rattle.index.specs.Answers.{inList}
 use Rattle.frames.specs.declared.Frames as declared
 use Rattle.frames.specs.Walk.{deliveredBy}
-use Rattle.frames.specs.Answers.{framesInto, walkOf, framesBy, framesList, counted, framesAnswer, rangesAfter, numbersAfter}
+use Rattle.frames.specs.Answers.{framesInto, walkOf, framesBy, framesList, frameCounts, framesAnswer, rangesAfter, numbersAfter}
 use Rattle.htm.specs.Answers.{bothLists}
-use Rattle.htm_values.specs.Values.{statusOf, refusalOf}
+use Rattle.htm_abi.specs.Values.{statusOf, refusalOf}
 use Rattle.htm.specs.CalledFromC.{inBoth, framesIntoC, framesForC, rangesAfterC, numbersAfterC, framesAfterC}
 
 module _ (o : ℕ) (l : List ℤ) (f ranges numbers counts : List ℕ) where
@@ -42,13 +42,13 @@ module _ (o : ℕ) (l : List ℤ) (f ranges numbers counts : List ℕ) where
   }
 
   -- too few elements for the counts: a refusal in any case, and nothing is stored
-  module _ (h : length counts < counted) where
+  module _ (h : length counts < frameCounts) where
     abbrev refusing : Answer File → Answer File
     refusing a = then a (λ x. refused Space)
 
-    always : (a : Answer File) → inBoth counted a counts ≡ refusing a
+    always : (a : Answer File) → inBoth frameCounts a counts ≡ refusing a
     always (refused n) = refl
-    always (gives x) = ap (λ t. check Space t (gives x)) (lt-leb counted (length counts) h)
+    always (gives x) = ap (λ t. check Space t (gives x)) (lt-leb frameCounts (length counts) h)
 
     in-any-case : (x : File) (t u v : Bool) → refusing (check Space t (check Space u (check Space v (gives x)))) ≡ refused Space
     in-any-case x false u v = refl
@@ -57,11 +57,11 @@ module _ (o : ℕ) (l : List ℤ) (f ranges numbers counts : List ℕ) where
     in-any-case x true true true = refl
 
     refusals : (t : Bool) (a : Answer File)
-        → refusing (check Owner t (then a (λ x. check Space (leb (4 * budgetOf (x .budget)) (length ranges)) (check Space (leb Share (length numbers)) (inList l (gives x))))))
+        → refusing (check Owner t (then a (λ x. check Space (leb (4 * budgetOf (x .budget)) (length ranges)) (check Space (leb OwnerCapacity (length numbers)) (inList l (gives x))))))
         ≡ check Owner t (then a (λ x. refused Space))
     refusals false a = refl
     refusals true (refused n) = refl
-    refusals true (gives x) = in-any-case x (leb (4 * budgetOf (x .budget)) (length ranges)) (leb Share (length numbers)) (leb Least (length l))
+    refusals true (gives x) = in-any-case x (leb (4 * budgetOf (x .budget)) (length ranges)) (leb OwnerCapacity (length numbers)) (leb IndexLength (length l))
 
     pub short-frames : Frames (statusOf (check Owner (isOwner o) (refusalOf f))) ranges numbers counts
     short-frames = refused-frames (check Owner (isOwner o) (refusalOf f)) (always (framesInto o l f ranges numbers) ∙ refusals (isOwner o) (read f)) (never (isOwner o) (read f))
@@ -79,10 +79,10 @@ module _ (o : ℕ) (l : List ℤ) (f ranges numbers counts : List ℕ) where
         refused-frames a e n = subst (λ b. Frames (statusOf b) ranges numbers counts) (sym (n .1)) (frames-by (refused (n .0)) (e ∙ n .1))
 
   -- enough
-  module _ (h : counted ≤ length counts) where
-    enough-counts : (a : Answer File) → inBoth counted a counts ≡ a
+  module _ (h : frameCounts ≤ length counts) where
+    enough-counts : (a : Answer File) → inBoth frameCounts a counts ≡ a
     enough-counts (refused n) = refl
-    enough-counts (gives x) = ap (λ t. check Space t (gives x)) (le-leb counted (length counts) h)
+    enough-counts (gives x) = ap (λ t. check Space t (gives x)) (le-leb frameCounts (length counts) h)
 
     pub long-frames : (a : Answer declared.Frames) (xs ns : List ℕ) → a ≡ framesAnswer o l f ranges numbers → xs ≡ rangesAfter o l f ranges numbers → ns ≡ numbersAfter o l f ranges numbers
         → Frames (statusOf a) xs ns (stored (λ r before. put 0 (framesList r) before) a counts)

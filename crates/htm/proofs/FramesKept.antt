@@ -29,20 +29,20 @@ use Rattle.region.specs.Budgets.{budgetOf}
 use Rattle.region.specs.Reader.{File, read, Accepted}
 use Rattle.region.proofs.ReaderLaws.{read-depth}
 use Rattle.ranges.specs.Ranges.{Range, isIn, inSome, rangesIn}
-use Rattle.cutting.specs.Cover.{coverOf, cover, countsOf}
-use Rattle.cutting.proofs.ListedLaws.{outer-back, inner-back}
+use Rattle.covering.specs.Cover.{coverOf, cover, countsOf}
+use Rattle.covering.proofs.ListedLaws.{outer-back, inner-back}
 use Rattle.index.specs.declared.Entry.{Entry}
-use Rattle.index.specs.Exposures.{Share, isOwner, isNumber, only}
-use Rattle.index.specs.Entries.{Least, isOwned, entriesIn}
+use Rattle.index.specs.Exposures.{OwnerCapacity, isOwner, isNumber, only}
+use Rattle.index.specs.Entries.{IndexLength, isOwned, entriesIn}
 use Rattle.index.specs.Answers.{inList}
-use Rattle.index.specs.Kept.{Ascends, isFiled, IsIndex}
+use Rattle.index.specs.HistoryCorrect.{Ascends, isFiled, IsIndex}
 use Rattle.index.proofs.OrderLaws.{eqZ-eq, only-ascends}
 use Rattle.index.proofs.TallyLaws.{some-tally}
-use Rattle.frames.specs.declared.Fate.{Fate}
+use Rattle.frames.specs.declared.Disposition.{Disposition}
 use Rattle.frames.specs.Walk.{whole, shortened, numberOf, entriesOf, fateOf, Met, met, walk, isDelivered, isTested, deliveredBy, testsOf}
 use Rattle.frames.specs.Answers.{framesInto, walkOf, framesBy, framesAnswer, rangesAfter, numbersAfter}
 use Rattle.frames.proofs.WalkLaws.{fateIn, walk-all, delivered-only, tallied, only-same, tally-same, only-every, only-length}
-use Rattle.htm.specs.Promise.{Kept}
+use Rattle.htm.specs.Promise.{CoverSound}
 use Rattle.htm.specs.Answers.{coverInto, coverAnswer, bothLists, coverAfter}
 use Rattle.htm.specs.Frames.{entriesBy, outerOnly, Delivers, Frames, Delivered, FramesOfAnswers, FramesOfCalls}
 use Rattle.htm.proofs.PromiseKept.{outer-proper, inner-proper, kept}
@@ -92,15 +92,15 @@ once-some i rs e = some-tally (isIn i) rs ∙ ap (λ n. ltb 0 n) e
 delivered-held : (held : Vec3 → Bool) (p : Vec3) (n o h : Bool) → isVector p ≡ true → held p ≡ h → (n ≡ true → h ≡ true) → (h ≡ true → o ≡ true)
     → isDelivered (fateOf held n o p) ≡ h
 delivered-held held p true o h v e in-held held-out = sym (in-held refl)
-delivered-held held p false true true v e in-held held-out = ap (λ t. isDelivered (cond t Fate.Held Fate.Discarded)) (λ i. v i && e i)
-delivered-held held p false true false v e in-held held-out = ap (λ t. isDelivered (cond t Fate.Held Fate.Discarded)) (λ i. v i && e i)
+delivered-held held p false true true v e in-held held-out = ap (λ t. isDelivered (cond t Disposition.Held Disposition.Discarded)) (λ i. v i && e i)
+delivered-held held p false true false v e in-held held-out = ap (λ t. isDelivered (cond t Disposition.Held Disposition.Discarded)) (λ i. v i && e i)
 delivered-held held p false false true v e in-held held-out = absurd (false≢true (held-out refl))
 delivered-held held p false false false v e in-held held-out = refl
 
 tested-outer : (held : Vec3 → Bool) (p : Vec3) (n o : Bool) → isTested (fateOf held n o p) ≡ (o && not n)
 tested-outer held p true true = refl
 tested-outer held p true false = refl
-tested-outer held p false true = split (isVector p && held p) (λ e. ap (λ t. isTested (cond t Fate.Held Fate.Discarded)) e) (λ e. ap (λ t. isTested (cond t Fate.Held Fate.Discarded)) e)
+tested-outer held p false true = split (isVector p && held p) (λ e. ap (λ t. isTested (cond t Disposition.Held Disposition.Discarded)) e) (λ e. ap (λ t. isTested (cond t Disposition.Held Disposition.Discarded)) e)
 tested-outer held p false false = refl
 
 module _ (d b : ℕ) (g : Region) (low : 1 ≤ d) (high : d ≤ 12) where
@@ -115,12 +115,12 @@ module _ (d b : ℕ) (g : Region) (low : 1 ≤ d) (high : d ≤ 12) where
       let f = filed e h in
       let p = e .pointing in
       let s : shortened d e ≡ identifier p d = ap (λ z. whole z / 4 ^ (12 - d)) (f .id) ∙ shorter p d low high in
-      let k : Kept (shortened d e) os ns (budgetOf b) (holds g p) = subst (λ i. Kept i os ns (budgetOf b) (holds g p)) (sym s) (kept d b g p (vector-long p (f .vector))) in
+      let k : CoverSound (shortened d e) os ns (budgetOf b) (holds g p) = subst (λ i. CoverSound i os ns (budgetOf b) (holds g p)) (sym s) (kept d b g p (vector-long p (f .vector))) in
       delivered-held (holds g) p (inSome (shortened d e) ns) (inSome (shortened d e) os) (holds g p) (f .vector) refl (k .inner-held) (λ t. once-some (shortened d e) os (k .held-outer t))
 
   -- the walk over entries of an index
   module _ (es : List Entry) (up : Ascends es) (all : every isFiled es ≡ true) where
-    abbrev F : Entry → Fate
+    abbrev F : Entry → Disposition
     F e = fateIn d (holds g) os ns e
 
     each : walk d (holds g) os ns es ≡ map (λ e. met e (F e)) es
@@ -146,7 +146,7 @@ module _ (d b : ℕ) (g : Region) (low : 1 ≤ d) (high : d ≤ 12) where
 
 module _ (l : List ℤ) (i : IsIndex l) (o : ℕ) where
   pub share : entriesOf o l ≡ entriesBy o l
-  share = take-all Share (entriesBy o l) (omega (arith, only-length (isOwned o) (entriesIn l), i .share o))
+  share = take-all OwnerCapacity (entriesBy o l) (omega (arith, only-length (isOwned o) (entriesIn l), i .share o))
 
   own-ascends : Ascends (entriesBy o l)
   own-ascends = only-ascends (isOwned o) (entriesIn l) (i .ascends)
@@ -188,14 +188,14 @@ record Into (f ranges : List ℕ) (x : File) : Type 0 where
 into : (o : ℕ) (l : List ℤ) (f ranges numbers : List ℕ) (x : File) → framesInto o l f ranges numbers ≡ gives x → Into f ranges x
 into o l f ranges numbers x e =
     let third : File → Answer File = λ y. inList l (gives y) in
-    let second : File → Answer File = λ y. check Space (leb Share (length numbers)) (third y) in
+    let second : File → Answer File = λ y. check Space (leb OwnerCapacity (length numbers)) (third y) in
     let first : File → Answer File = λ y. check Space (leb (4 * budgetOf (y .budget)) (length ranges)) (second y) in
     let t = then-gives (read f) first x (check-gives Owner (isOwner o) (then (read f) first) x e) in
     let y = t .0 in
     let room = leb (4 * budgetOf (y .budget)) (length ranges) in
     let b = check-gives Space room (second y) x (t .2) in
-    let c = check-gives Space (leb Share (length numbers)) (third y) x b in
-    let same : y ≡ x = same-value y x (check-gives Space (leb Least (length l)) (gives y) x c) in
+    let c = check-gives Space (leb OwnerCapacity (length numbers)) (third y) x b in
+    let same : y ≡ x = same-value y x (check-gives Space (leb IndexLength (length l)) (gives y) x c) in
     record {
       accepted = t .1 ∙ ap gives same;
       long = subst (λ z. leb (4 * budgetOf (z .budget)) (length ranges) ≡ true) same (check-passed Space room (second y) x (t .2));

@@ -15,18 +15,18 @@ use Rattle.answer.specs.Lent.{put, stored}
 use Rattle.region.specs.Regions.{Region, holds}
 use Rattle.region.specs.Budgets.{budgetOf}
 use Rattle.region.specs.Reader.{File, read}
-use Rattle.cutting.specs.Cover.{cover, bothListed}
+use Rattle.covering.specs.Cover.{cover, bothListed}
 use Rattle.index.specs.declared.Entry.{Entry}
-use Rattle.index.specs.Entries.{Least}
-use Rattle.index.specs.Exposures.{Call, Share, isOwner}
+use Rattle.index.specs.Entries.{IndexLength}
+use Rattle.index.specs.Exposures.{Call, OwnerCapacity, isOwner}
 use Rattle.frames.specs.Walk.{Met, walk, isUnchecked, isHeld, isDiscarded, deliveredBy}
 use Rattle.frames.specs.Answers.{framesBy, walkOf, framesAnswer, rangesAfter, numbersAfter}
 use Rattle.trial.specs.declared.Setting.{Setting}
-use Rattle.trial.specs.declared.Tried.{Tried}
+use Rattle.trial.specs.declared.SettingResult.{SettingResult}
 use Rattle.trial.specs.declared.Trial.{Trial}
 use Rattle.trial.specs.Trials.{coverBy, walkBy, skyOf, choiceOf, trialOf}
 use Rattle.trial.specs.Answers.{settled, roomFor, listsBy, trialAnswer, firstAfter, secondAfter}
-use Rattle.index.specs.Kept.{IsIndex}
+use Rattle.index.specs.HistoryCorrect.{IsIndex}
 use Rattle.index.specs.Apart.{Ran}
 use Rattle.index.proofs.HistoryKept.{history-kept}
 use Rattle.index.proofs.OwnersApart.{own-entries, same-entries}
@@ -49,8 +49,8 @@ trials-histories o h rs l f s t first second r ran e =
 -- ---- apart
 
 -- both lists are long enough to be an index
-both-long : (m n : List ℤ) → IsIndex m → IsIndex n → leb Least (length m) ≡ leb Least (length n)
-both-long m n i j = le-leb Least (length m) (i .long) ∙ sym (le-leb Least (length n) (j .long))
+both-long : (m n : List ℤ) → IsIndex m → IsIndex n → leb IndexLength (length m) ≡ leb IndexLength (length n)
+both-long m n i j = le-leb IndexLength (length m) (i .long) ∙ sym (le-leb IndexLength (length n) (j .long))
 
 pub frames-apart : FramesApart
 unfolding framesAnswer rangesAfter numbersAfter walkOf
@@ -58,15 +58,15 @@ frames-apart o h g rs qs m n r q e f ranges numbers =
     let long = both-long m n (left-index h rs m r) (left-index g qs n q) in
     let own = same-entries o h g rs qs m n r q e in
     let into : Bool → Answer File = λ b. check Owner (isOwner o) (then (read f) (λ x.
-    check Space (leb (4 * budgetOf (x .budget)) (length ranges)) (check Space (leb Share (length numbers)) (check Space b (gives x))))) in
-    let met : List Entry → File → List Met = λ es x. walk (x .depth) (holds (x .region)) (cover x .outer) (cover x .inner) (take Share es) in
+    check Space (leb (4 * budgetOf (x .budget)) (length ranges)) (check Space (leb OwnerCapacity (length numbers)) (check Space b (gives x))))) in
+    let met : List Entry → File → List Met = λ es x. walk (x .depth) (holds (x .region)) (cover x .outer) (cover x .inner) (take OwnerCapacity es) in
     record {
       answer = λ i. with-value (λ x. framesBy (met (own i) x)) (into (long i));
       lists = λ i. stored (λ x before. bothListed (budgetOf (x .budget)) (cover x) before) (into (long i)) ranges;
       left = λ i. stored (λ x before. put 0 (deliveredBy (met (own i) x)) before) (into (long i)) numbers;
     }
 
-tried-by : List Met → Region → Setting → Tried
+tried-by : List Met → Region → Setting → SettingResult
 tried-by ms g s = record {
   unchecked = tally (λ m. isUnchecked (m .fate)) ms;
   held = tally (λ m. isHeld (m .fate)) ms;
@@ -77,7 +77,7 @@ tried-by ms g s = record {
 
 trial-by : List Entry → Region → Setting → Setting → Trial
 trial-by es g s t =
-    let w : Setting → List Met = λ u. walk (u .depth) (holds g) (coverBy u g .outer) (coverBy u g .inner) (take Share es) in
+    let w : Setting → List Met = λ u. walk (u .depth) (holds g) (coverBy u g .outer) (coverBy u g .inner) (take OwnerCapacity es) in
     record { first = tried-by (w s) g s; second = tried-by (w t) g t; choice = choiceOf (skyOf s g) (skyOf t g) }
 
 pub trials-apart : TrialsApart

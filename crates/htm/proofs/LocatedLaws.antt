@@ -12,7 +12,7 @@ use Rattle.vector.specs.Numbers.{isDepth}
 use Rattle.vector.specs.Vectors.{isVector}
 use Rattle.mount.specs.declared.Report.{Report}
 use Rattle.mount.specs.Reports.{pointing}
-use Rattle.lines.specs.Lines.{pointingIn}
+use Rattle.catalogue_line.specs.Lines.{pointingIn}
 use Rattle.mesh.specs.Lookup.{lookup}
 use Rattle.mesh.proofs.LookupLaws.{lookup-is, identifier-small}
 use Rattle.htm.specs.Answers.{located, lookupReport, locateLine}

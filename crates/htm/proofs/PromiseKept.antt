@@ -12,9 +12,9 @@ use Rattle.ranges.specs.Ranges.{Proper}
 use Rattle.ranges.specs.Lists.{outerOf, innerOf}
 use Rattle.ranges.proofs.Sound.{Has, outer-few, inner-few, inner-only, outer-separate, inner-separate, outer-all}
 use Rattle.ranges.proofs.ListLaws.{some-has, in-exactly-one, separate-proper}
-use Rattle.cutting.specs.Cover.{cutting, coverOf}
-use Rattle.htm.specs.Promise.{Kept, Promise}
-use Rattle.cutting.proofs.CuttingLaws.{accepted-ascends, full-ascends, cutting-accepts, cutting-holds}
+use Rattle.covering.specs.Cover.{cutting, coverOf}
+use Rattle.htm.specs.Promise.{CoverSound, Promise}
+use Rattle.covering.proofs.CoverLaws.{accepted-ascends, full-ascends, cutting-accepts, cutting-holds}
 
 -- ---- of any depth, budget and region
 
@@ -31,7 +31,7 @@ inner-proper d b g =
     let F = cutting d g .full in
     separate-proper (budgetOf b) (innerOf (budgetOf b) F) (inner-separate (budgetOf b) (budget-one b) F (full-ascends g d)) (inner-few (budgetOf b) (budget-one b) F)
 
-pub kept : (d b : ℕ) (g : Region) (p : Vec3) → Long p → Kept (identifier p d) (coverOf d b g .outer) (coverOf d b g .inner) (budgetOf b) (holds g p)
+pub kept : (d b : ℕ) (g : Region) (p : Vec3) → Long p → CoverSound (identifier p d) (coverOf d b g .outer) (coverOf d b g .inner) (budgetOf b) (holds g p)
 unfolding coverOf
 kept d b g p l =
     let i = identifier p d in

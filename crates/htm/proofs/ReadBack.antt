@@ -9,7 +9,7 @@ use Rattle.answer.proofs.AnswerLaws.{value-gives}
 use Rattle.trial.specs.declared.Trial.{Trial}
 use Rattle.trial.specs.Trials.{skyOf, trialOf}
 use Rattle.trial.specs.Answers.{trialList}
-use Rattle.trial_values.specs.Values.{settingAt, whichOf, trialIn}
+use Rattle.htm_abi.specs.TrialValues.{settingAt, whichOf, trialIn}
 use Rattle.htm.specs.TrialFromC.{trialIntoC, trialForC, trialAfterC, ReadBack}
 
 one-or-two : (b : Bool) → whichOf (cond b 1 2) ≡ cond b 1 2

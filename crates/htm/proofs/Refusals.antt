@@ -18,22 +18,22 @@ use Rattle.region.specs.Writer.{writeIn}
 use Rattle.region.specs.Converting.{convert}
 use Rattle.region.specs.Answers.{headerOf, rowsInto, readInto, readAnswer, readAfter, fileInto, fileAnswer, fileAfter}
 use Rattle.region.proofs.ConvertLaws.{refusal-stays}
-use Rattle.cutting.specs.Cover.{cover, countsOf, counted, countsList}
+use Rattle.covering.specs.Cover.{cover, countsOf, coverCounts, countsList}
 use Rattle.index.specs.Entries.{numbers, keeping}
-use Rattle.index.specs.Exposures.{Share, isOwner}
+use Rattle.index.specs.Exposures.{OwnerCapacity, isOwner}
 use Rattle.index.specs.Answers.{inList, beginning, adding, removing, beginAnswer, beginAfter, addAnswer, addAfter, removeAnswer, removeAfter}
 use Rattle.frames.specs.declared.Frames.{Frames}
 use Rattle.frames.specs.Walk.{deliveredBy}
 use Rattle.frames.specs.Answers.{framesInto, walkOf, framesBy, framesList, framesAnswer, rangesAfter, numbersAfter}
 use Rattle.htm.specs.Answers.{coverInto, coverAnswer, bothLists, coverAfter}
-use Rattle.htm_values.specs.Values.{cornersList, headerList, refusalOf}
+use Rattle.htm_abi.specs.Values.{cornersList, headerList, refusalOf}
 use Rattle.htm.specs.CalledFromC.{entryAfterC, cornersForC, cornersAfterC, inBoth, readForC, rowsAfterC, headerAfterC, coverForC, coverAfterC, countsAfterC, framesIntoC, framesForC, rangesAfterC, numbersAfterC, framesAfterC}
 use Rattle.trial.specs.declared.Setting.{Setting}
 use Rattle.trial.specs.declared.Trial.{Trial}
 use Rattle.trial.specs.Trials.{trialOf}
 use Rattle.trial.specs.Answers.{settled, roomFor, trialInto, trialAnswer, listsBy, firstAfter, secondAfter, trialList}
 use Rattle.trial.specs.Answers as trial
-use Rattle.trial_values.specs.Values.{settingAt}
+use Rattle.htm_abi.specs.TrialValues.{settingAt}
 use Rattle.htm.specs.TrialFromC.{trialIntoC, trialForC, firstAfterC, secondAfterC, trialAfterC, chosenAfterC}
 use Rattle.htm.specs.Refusals.{SpaceLast, LentListsStay}
 
@@ -44,7 +44,7 @@ check-then false a f = refl
 
 frames-refused : (o : ℕ) (l : List ℤ) (f ranges numbers : List ℕ) (n : ℕ) → check Owner (isOwner o) (read f) ≡ refused n → framesInto o l f ranges numbers ≡ refused n
 frames-refused o l f ranges numbers n e =
-    let rest : File → Answer File = λ x. check Space (leb (4 * budgetOf (x .budget)) (length ranges)) (check Space (leb Share (length numbers)) (inList l (gives x))) in
+    let rest : File → Answer File = λ x. check Space (leb (4 * budgetOf (x .budget)) (length ranges)) (check Space (leb OwnerCapacity (length numbers)) (inList l (gives x))) in
     check-then (isOwner o) (read f) rest ∙ ap (λ a. then a rest) e
 
 -- the same of a trial: the rooms come behind the settings
@@ -73,8 +73,8 @@ module _ (o : ℕ) (l : List ℤ) (f ss first second numbers : List ℕ) (n : �
   owner-or-file : (g : File → Answer File) → check Owner (isOwner o) (then (read f) g) ≡ refused n
   owner-or-file g = check-then (isOwner o) (read f) g ∙ ap (λ a. then a g) e
 
-  trial-c-refused : (b : Bool) → cond b (inBoth trial.counted (trialInto o l f (settingAt ss 0) (settingAt ss 2) first second) numbers) (check Owner (isOwner o) (refusalOf f)) ≡ refused n
-  trial-c-refused true = ap (λ a. inBoth trial.counted a numbers) (owner-or-file (λ x. settled (settingAt ss 0) (settled (settingAt ss 2) (rooms o l f first second (settingAt ss 0) (settingAt ss 2) x))))
+  trial-c-refused : (b : Bool) → cond b (inBoth trial.trialCounts (trialInto o l f (settingAt ss 0) (settingAt ss 2) first second) numbers) (check Owner (isOwner o) (refusalOf f)) ≡ refused n
+  trial-c-refused true = ap (λ a. inBoth trial.trialCounts a numbers) (owner-or-file (λ x. settled (settingAt ss 0) (settled (settingAt ss 2) (rooms o l f first second (settingAt ss 0) (settingAt ss 2) x))))
   trial-c-refused false = owner-or-file (λ x. refused Space)
 
 pub space-last : SpaceLast
@@ -105,7 +105,7 @@ lent-lists-stay = (
   λ f n before. not-stored (λ x. countsOf (cover x)) bothLists (coverInto f before) before n,
   λ i n out. ap (λ a. stored (λ c before. put 0 (cornersList c) before) a out),
   λ f n rows header e. (not-stored headerOf rowsInto (inBoth 3 (readInto f rows) header) rows n e, ap (λ a. stored (λ h before. put 0 (headerList h) before) a header) e),
-  λ f n out counts e. (not-stored (λ x. countsOf (cover x)) bothLists (inBoth counted (coverInto f out) counts) out n e, ap (λ a. stored (λ c before. put 0 (countsList c) before) a counts) e),
+  λ f n out counts e. (not-stored (λ x. countsOf (cover x)) bothLists (inBoth coverCounts (coverInto f out) counts) out n e, ap (λ a. stored (λ c before. put 0 (countsList c) before) a counts) e),
   λ n l. not-stored (λ _. tt) keeping (beginning l) l n,
   λ x n l. not-stored (λ _. tt) keeping (adding x l) l n,
   λ k n l. not-stored (λ _. tt) keeping (removing k l) l n,

@@ -20,11 +20,11 @@ use Rattle.ranges.specs.Lists.{outerOf}
 use Rattle.ranges.proofs.ListLaws.{some-has, Between, between-widen, between-low, between-high}
 use Rattle.ranges.proofs.ContentsLaws.{between-outer}
 use Rattle.ranges.proofs.Tightest.{outer-feasible, outer-tightest, outer-empty}
-use Rattle.cutting.specs.Cover.{cutting, cover, coverOf, countsOf}
-use Rattle.cutting.proofs.CuttingLaws.{Which, cutting-between}
+use Rattle.covering.specs.Cover.{cutting, cover, coverOf, countsOf}
+use Rattle.covering.proofs.CoverLaws.{Which, cutting-between}
 use Rattle.htm.specs.Answers.{bothLists, outerIn}
 use Rattle.htm.specs.Tightest.{TightestFor, TightestOf, Tightest, TightestOfAnswers, TightestOfCalls}
-use Rattle.cutting.proofs.ListedLaws.{outer-back}
+use Rattle.covering.proofs.ListedLaws.{outer-back}
 use Rattle.htm.proofs.AnswersKept.{covered}
 
 -- of any depth from 1 on, budget and region

@@ -14,14 +14,14 @@ use Rattle.vector.specs.Numbers.{isDepth}
 use Rattle.region.specs.Budgets.{isBudget, budgetOf}
 use Rattle.region.specs.Reader.{File, read}
 use Rattle.index.specs.Exposures.{isOwner}
-use Rattle.index.specs.Entries.{Least}
+use Rattle.index.specs.Entries.{IndexLength}
 use Rattle.index.specs.Answers.{inList}
 use Rattle.trial.specs.declared.Setting.{Setting}
 use Rattle.trial.specs.declared.Trial.{Trial}
 use Rattle.trial.specs.Trials.{trialOf}
-use Rattle.trial.specs.Answers.{settled, roomFor, trialInto, trialAnswer, listsBy, firstAfter, secondAfter, trialList, counted, partBy}
-use Rattle.trial_values.specs.Values.{settingAt, trialIn, unsettledOr, anywayRefused}
-use Rattle.htm_values.specs.Values.{statusOf, refusalOf}
+use Rattle.trial.specs.Answers.{settled, roomFor, trialInto, trialAnswer, listsBy, firstAfter, secondAfter, trialList, trialCounts, partBy}
+use Rattle.htm_abi.specs.TrialValues.{settingAt, trialIn, unsettledOr, anywayRefused}
+use Rattle.htm_abi.specs.Values.{statusOf, refusalOf}
 use Rattle.htm.specs.CalledFromC.{inBoth}
 use Rattle.htm.specs.TrialFromC.{trialIntoC, trialForC, firstAfterC, secondAfterC, trialAfterC, partList, chosenForC, chosenAfterC}
 
@@ -37,7 +37,7 @@ module _ (o : ℕ) (l : List ℤ) (f ss first second numbers : List ℕ) where
   abbrev value : File → Trial
   value x = trialOf o l (x .region) s t
 
-  pub record Tried (status : ℤ) (xs ys ns : List ℕ) : Type 0 where
+  pub record TrialLists (status : ℤ) (xs ys ns : List ℕ) : Type 0 where
     pub status-is : status ≡ statusOf (trialForC o l f ss first second numbers)
     pub first-left : xs ≡ firstAfterC o l f ss first second numbers
     pub second-left : ys ≡ secondAfterC o l f ss first second numbers
@@ -45,7 +45,7 @@ module _ (o : ℕ) (l : List ℤ) (f ss first second numbers : List ℕ) where
 
   -- what there is to write, or the refusal
   tried-by : (a : Answer File) → trialIntoC o l f ss first second numbers ≡ a
-      → Tried (statusOf (with-value value a)) (stored (listsBy s) a first) (stored (listsBy t) a second) (stored (λ r before. put 0 (trialList r) before) (with-value value a) numbers)
+      → TrialLists (statusOf (with-value value a)) (stored (listsBy s) a first) (stored (listsBy t) a second) (stored (λ r before. put 0 (trialList r) before) (with-value value a) numbers)
   unfolding trialForC firstAfterC secondAfterC trialAfterC
   tried-by a e = record {
     status-is = ap (λ b. statusOf (with-value value b)) (sym e);
@@ -54,7 +54,7 @@ module _ (o : ℕ) (l : List ℤ) (f ss first second numbers : List ℕ) where
     numbers-left = ap (λ b. stored (λ r before. put 0 (trialList r) before) (with-value value b) numbers) (sym e);
   }
 
-  pub refused-trial : (n : ℕ) → trialIntoC o l f ss first second numbers ≡ refused n → Tried (statusOf {A = File} (refused n)) first second numbers
+  pub refused-trial : (n : ℕ) → trialIntoC o l f ss first second numbers ≡ refused n → TrialLists (statusOf {A = File} (refused n)) first second numbers
   refused-trial n e = tried-by (refused n) e
 
   -- too few numbers for the settings
@@ -67,25 +67,25 @@ module _ (o : ℕ) (l : List ℤ) (f ss first second numbers : List ℕ) where
     never true (refused n) = (n, refl)
     never true (gives x) = (Space, refl)
 
-    pub short-settings : Tried (statusOf (check Owner (isOwner o) (refusalOf f))) first second numbers
+    pub short-settings : TrialLists (statusOf (check Owner (isOwner o) (refusalOf f))) first second numbers
     short-settings =
         let v = never (isOwner o) (read f) in
         let e : trialIntoC o l f ss first second numbers ≡ check Owner (isOwner o) (refusalOf f) =
-        ap (λ b. cond b (inBoth counted (trialInto o l f s t first second) numbers) (check Owner (isOwner o) (refusalOf f))) (lt-leb 4 (length ss) h) in
-        subst (λ a. Tried (statusOf a) first second numbers) (sym (v .1)) (refused-trial (v .0) (e ∙ v .1))
+        ap (λ b. cond b (inBoth trialCounts (trialInto o l f s t first second) numbers) (check Owner (isOwner o) (refusalOf f))) (lt-leb 4 (length ss) h) in
+        subst (λ a. TrialLists (statusOf a) first second numbers) (sym (v .1)) (refused-trial (v .0) (e ∙ v .1))
 
   module _ (h : 4 ≤ length ss) where
-    said : trialIntoC o l f ss first second numbers ≡ inBoth counted (trialInto o l f s t first second) numbers
-    said = ap (λ b. cond b (inBoth counted (trialInto o l f s t first second) numbers) (check Owner (isOwner o) (refusalOf f))) (le-leb 4 (length ss) h)
+    said : trialIntoC o l f ss first second numbers ≡ inBoth trialCounts (trialInto o l f s t first second) numbers
+    said = ap (λ b. cond b (inBoth trialCounts (trialInto o l f s t first second) numbers) (check Owner (isOwner o) (refusalOf f))) (le-leb 4 (length ss) h)
 
     -- too few elements for the result
-    module _ (k : length numbers < counted) where
+    module _ (k : length numbers < trialCounts) where
       abbrev refusing : Answer File → Answer File
       refusing a = then a (λ x. refused Space)
 
-      always : (a : Answer File) → inBoth counted a numbers ≡ refusing a
+      always : (a : Answer File) → inBoth trialCounts a numbers ≡ refusing a
       always (refused n) = refl
-      always (gives x) = ap (λ b. check Space b (gives x)) (lt-leb counted (length numbers) k)
+      always (gives x) = ap (λ b. check Space b (gives x)) (lt-leb trialCounts (length numbers) k)
 
       in-any-case : (x : File) (a b c d u v w : Bool)
           → refusing (check Depth a (check Budget b (check Depth c (check Budget d (check Space u (check Space v (check Space w (gives x))))))))
@@ -106,19 +106,19 @@ module _ (o : ℕ) (l : List ℤ) (f ss first second numbers : List ℕ) where
       refusals true (refused n) = refl
       refusals true (gives x) =
           in-any-case x (isDepth (s .depth)) (isBudget (s .budget)) (isDepth (t .depth)) (isBudget (t .budget))
-          (leb (4 * budgetOf (s .budget)) (length first)) (leb (4 * budgetOf (t .budget)) (length second)) (leb Least (length l))
+          (leb (4 * budgetOf (s .budget)) (length first)) (leb (4 * budgetOf (t .budget)) (length second)) (leb IndexLength (length l))
 
-      pub short-numbers : (n : ℕ) → anywayRefused o f s t ≡ refused n → Tried (statusOf {A = File} (refused n)) first second numbers
+      pub short-numbers : (n : ℕ) → anywayRefused o f s t ≡ refused n → TrialLists (statusOf {A = File} (refused n)) first second numbers
       short-numbers n e = refused-trial n (said ∙ always (trialInto o l f s t first second) ∙ refusals (isOwner o) (read f) ∙ e)
 
     -- enough
-    module _ (k : counted ≤ length numbers) where
-      enough : (a : Answer File) → inBoth counted a numbers ≡ a
+    module _ (k : trialCounts ≤ length numbers) where
+      enough : (a : Answer File) → inBoth trialCounts a numbers ≡ a
       enough (refused n) = refl
-      enough (gives x) = ap (λ b. check Space b (gives x)) (le-leb counted (length numbers) k)
+      enough (gives x) = ap (λ b. check Space b (gives x)) (le-leb trialCounts (length numbers) k)
 
       pub long-numbers : (a : Answer Trial) (xs ys : List ℕ) → a ≡ trialAnswer o l f s t first second → xs ≡ firstAfter o l f s t first second → ys ≡ secondAfter o l f s t first second
-          → Tried (statusOf a) xs ys (stored (λ r before. put 0 (trialList r) before) a numbers)
+          → TrialLists (statusOf a) xs ys (stored (λ r before. put 0 (trialList r) before) a numbers)
       unfolding trialAnswer firstAfter secondAfter
       long-numbers a xs ys e g q =
           let w = tried-by (trialInto o l f s t first second) (said ∙ enough (trialInto o l f s t first second)) in
@@ -136,19 +136,19 @@ module _ (ns first second part : List ℕ) where
   abbrev pub Chosen : ℤ → List ℕ → Type 0
   Chosen status xs = (status ≡ statusOf (chosenForC ns first second part)) × (xs ≡ chosenAfterC ns first second part)
 
-  chosen-by : {b c : Bool} → leb counted (length ns) ≡ b → leb 2 (length part) ≡ c
+  chosen-by : {b c : Bool} → leb trialCounts (length ns) ≡ b → leb 2 (length part) ≡ c
       → let a = check Space b (check Space c (gives (partList (trialIn ns) first second))) in
       Chosen (statusOf a) (stored (put 0) a part)
   unfolding chosenForC chosenAfterC
   chosen-by {b} {c} p q =
-      let e : check Space (leb counted (length ns)) (check Space (leb 2 (length part)) (gives (partList (trialIn ns) first second))) ≡ check Space b (check Space c (gives (partList (trialIn ns) first second))) = λ i. check Space (p i) (check Space (q i) (gives (partList (trialIn ns) first second))) in
+      let e : check Space (leb trialCounts (length ns)) (check Space (leb 2 (length part)) (gives (partList (trialIn ns) first second))) ≡ check Space b (check Space c (gives (partList (trialIn ns) first second))) = λ i. check Space (p i) (check Space (q i) (gives (partList (trialIn ns) first second))) in
       (ap statusOf (sym e), ap (λ a. stored (put 0) a part) (sym e))
 
-  pub few-numbers : length ns < counted → Chosen (statusOf {A = List ℕ} (refused Space)) part
-  few-numbers h = chosen-by (lt-leb counted (length ns) h) refl
+  pub few-numbers : length ns < trialCounts → Chosen (statusOf {A = List ℕ} (refused Space)) part
+  few-numbers h = chosen-by (lt-leb trialCounts (length ns) h) refl
 
-  pub no-room-for-part : counted ≤ length ns → length part < 2 → Chosen (statusOf {A = List ℕ} (refused Space)) part
-  no-room-for-part h k = chosen-by (le-leb counted (length ns) h) (lt-leb 2 (length part) k)
+  pub no-room-for-part : trialCounts ≤ length ns → length part < 2 → Chosen (statusOf {A = List ℕ} (refused Space)) part
+  no-room-for-part h k = chosen-by (le-leb trialCounts (length ns) h) (lt-leb 2 (length part) k)
 
-  pub part-put : counted ≤ length ns → 2 ≤ length part → Chosen (statusOf {A = List ℕ} (gives (partList (trialIn ns) first second))) (put 0 (partList (trialIn ns) first second) part)
-  part-put h k = chosen-by (le-leb counted (length ns) h) (le-leb 2 (length part) k)
+  pub part-put : trialCounts ≤ length ns → 2 ≤ length part → Chosen (statusOf {A = List ℕ} (gives (partList (trialIn ns) first second))) (put 0 (partList (trialIn ns) first second) part)
+  part-put h k = chosen-by (le-leb trialCounts (length ns) h) (le-leb 2 (length part) k)

@@ -20,14 +20,14 @@ use Rattle.region.specs.Regions.{Region, holds}
 use Rattle.region.specs.Budgets.{isBudget, budgetOf}
 use Rattle.region.specs.Reader.{File, read, Accepted}
 use Rattle.ranges.specs.Ranges.{pairs}
-use Rattle.cutting.specs.Cover.{coverOf, bothListed}
-use Rattle.cutting.proofs.ListedLaws.{outer-front}
+use Rattle.covering.specs.Cover.{coverOf, bothListed}
+use Rattle.covering.proofs.ListedLaws.{outer-front}
 use Rattle.index.specs.Exposures.{isOwner}
-use Rattle.index.specs.Entries.{Least}
+use Rattle.index.specs.Entries.{IndexLength}
 use Rattle.index.specs.Answers.{inList}
-use Rattle.index.specs.Kept.{IsIndex}
-use Rattle.frames.specs.declared.Fate.{Fate}
-use Rattle.frames.specs.declared.Fate.the-variants.{Skipped, Unchecked, Held, Discarded}
+use Rattle.index.specs.HistoryCorrect.{IsIndex}
+use Rattle.frames.specs.declared.Disposition.{Disposition}
+use Rattle.frames.specs.declared.Disposition.the-variants.{Skipped, Unchecked, Held, Discarded}
 use Rattle.frames.specs.Walk.{Met, isUnchecked, isHeld, isDelivered}
 use Rattle.trial.specs.declared.Setting.{Setting}
 use Rattle.trial.specs.declared.Trial.{Trial}
@@ -56,7 +56,7 @@ both-ways (m ∷ ms) = by-fate (m .fate) (both-ways ms)
     d : ℕ
     d = tally (λ k. isDelivered (k .fate)) ms
 
-    by-fate : (f : Fate) → u + h ≡ d → cond (isUnchecked f) (suc u) u + cond (isHeld f) (suc h) h ≡ cond (isDelivered f) (suc d) d
+    by-fate : (f : Disposition) → u + h ≡ d → cond (isUnchecked f) (suc u) u + cond (isHeld f) (suc h) h ≡ cond (isDelivered f) (suc d) d
     by-fate Skipped e = e
     by-fate Unchecked e = omega arith
     by-fate Held e = omega arith
@@ -117,7 +117,7 @@ into o l f s t first second x e =
     let e2 = check-gives Budget tb (a3 y) x (check-gives Depth td (check Budget tb (a3 y)) x e1) in
     let e3 = check-gives Space sr (a4 y) x e2 in
     let e4 = check-gives Space tr (a5 y) x e3 in
-    let same : y ≡ x = same-value y x (check-gives Space (leb Least (length l)) (gives y) x e4) in
+    let same : y ≡ x = same-value y x (check-gives Space (leb IndexLength (length l)) (gives y) x e4) in
     record {
       accepted = v .1 ∙ ap gives same;
       depths = (check-passed Depth sd (check Budget sb (a2 y)) x (v .2), check-passed Depth td (check Budget tb (a3 y)) x e1);

@@ -4,7 +4,7 @@
 --   located p d        the lookup of a pointing in another form: 5, then what p is refused with, then the ordinary lookup, which refuses 8
 --   lookupReport r d   the lookup of a mount's report: 5, 12, 8
 --   locateLine l d     the lookup of a catalogue line: 5, 13, 8
---   entry x y z d      the lookup from C: the identifier, or 0 for a refusal
+--   lookupForC x y z d   the lookup from C: the identifier, or 0 for a refusal
 --   coverInto f before     the file that is covered, or its refusal, with 10 after all other checks
 --   coverAnswer f before   the counts: both lists', seen, full, partial and swallowed
 --   coverAfter f before    the list afterwards: the outer list at element 0, the inner list at element 2 × budget
@@ -21,14 +21,14 @@ use Rattle.vector.specs.Numbers.{isDepth}
 use Rattle.vector.specs.Vectors.{vec}
 use Rattle.mount.specs.declared.Report.{Report}
 use Rattle.mount.specs.Reports.{pointing}
-use Rattle.lines.specs.Lines.{pointingIn}
+use Rattle.catalogue_line.specs.Lines.{pointingIn}
 use Rattle.mesh.specs.Lookup.{lookup}
 use Rattle.region.specs.Budgets.{budgetOf}
 use Rattle.region.specs.Reader.{File, read}
 use Rattle.ranges.specs.Ranges.{Range, rangesIn}
-use Rattle.cutting.specs.declared.Counts.{Counts}
-use Rattle.cutting.specs.Cover.{cover, countsOf, bothListed}
-use Rattle.htm_values.specs.Values.{orZero}
+use Rattle.covering.specs.declared.Counts.{Counts}
+use Rattle.covering.specs.Cover.{cover, countsOf, bothListed}
+use Rattle.htm_abi.specs.Values.{orZero}
 use Rattle.htm.specs.declared.CoverOf.{CoverOf}
 
 -- ---- the lookup of a pointing that comes in another form: it is a point like any other
@@ -44,8 +44,8 @@ locateLine l d = located (pointingIn l) d
 
 -- ---- lookup from C: the identifier, or 0 for a refusal
 
-unfoldable pub entry : ℤ → ℤ → ℤ → ℕ → ℕ
-entry x y z d = orZero (lookup (vec x y z) d)
+unfoldable pub lookupForC : ℤ → ℤ → ℤ → ℕ → ℕ
+lookupForC x y z d = orZero (lookup (vec x y z) d)
 
 -- ---- the cover: the counts; the outer list at element 0 and the inner list at element 2 × budget
 

@@ -1,7 +1,7 @@
 -- The calls for a host in C: a number instead of an answer. Document 01, 'What is sent back', 'Regions' and 'The two lists';
 -- document 02, F-10 to F-12.
 -- A refusal is minus its number, and comes before any list is written. The lookup and the identifier of a name give 0 instead: `entry` (Answers), `orZero`.
--- How an answer becomes a number, and a value the numbers of a list: htm_values/specs/Values. The lengths of `nameAnswer` (mesh) and `writeAnswer` (region) and
+-- How an answer becomes a number, and a value the numbers of a list: htm_abi/specs/Values. The lengths of `nameAnswer` (mesh) and `writeAnswer` (region) and
 -- the identifiers of `lookupReport` and `locateLine` (Answers) go by `numberForC`, the point test by `heldForC`.
 --   cornersForC i out, cornersAfterC   the corners or the refusal, 11, then 10; the lent list afterwards (`cornersList`)
 --   inBoth n a list      what a call has to write, or its refusal; then 10 where the second lent list has fewer than n elements
@@ -21,8 +21,8 @@ use Rattle.mesh.specs.Identifiers.{corners}
 use Rattle.region.specs.declared.Header.{Header}
 use Rattle.region.specs.Reader.{File}
 use Rattle.region.specs.Answers.{headerOf, readInto, rowsInto}
-use Rattle.cutting.specs.declared.Counts.{Counts}
-use Rattle.cutting.specs.Cover.{cover, countsOf, counted, countsList}
+use Rattle.covering.specs.declared.Counts.{Counts}
+use Rattle.covering.specs.Cover.{cover, countsOf, coverCounts, countsList}
 use Rattle.index.specs.declared.Entry.{Entry}
 use Rattle.index.specs.Entries.{Width, numbers}
 use Rattle.index.specs.Answers.{entryAnswer}
@@ -30,7 +30,7 @@ use Rattle.frames.specs.declared.Frames.{Frames}
 use Rattle.frames.specs.Walk.{deliveredBy}
 use Rattle.frames.specs.Answers.{framesInto, walkOf, framesBy, framesList}
 use Rattle.frames.specs.Answers as frames
-use Rattle.htm_values.specs.Values.{cornersList, headerList}
+use Rattle.htm_abi.specs.Values.{cornersList, headerList}
 use Rattle.htm.specs.Answers.{coverInto, bothLists}
 
 -- ---- corners
@@ -64,10 +64,10 @@ unfoldable pub headerAfterC : List ℕ → List ℤ → List ℕ → List ℕ
 headerAfterC f rows header = stored (λ h before. put 0 (headerList h) before) (readForC f rows header) header
 
 unfoldable pub coverForC : List ℕ → List ℕ → List ℕ → Answer Counts
-coverForC f out counts = with-value (λ x. countsOf (cover x)) (inBoth counted (coverInto f out) counts)
+coverForC f out counts = with-value (λ x. countsOf (cover x)) (inBoth coverCounts (coverInto f out) counts)
 
 unfoldable pub coverAfterC : List ℕ → List ℕ → List ℕ → List ℕ
-coverAfterC f out counts = stored bothLists (inBoth counted (coverInto f out) counts) out
+coverAfterC f out counts = stored bothLists (inBoth coverCounts (coverInto f out) counts) out
 
 unfoldable pub countsAfterC : List ℕ → List ℕ → List ℕ → List ℕ
 countsAfterC f out counts = stored (λ c before. put 0 (countsList c) before) (coverForC f out counts) counts
@@ -75,7 +75,7 @@ countsAfterC f out counts = stored (λ c before. put 0 (countsList c) before) (c
 -- ---- the frames of a region, with three lent lists
 
 abbrev pub framesIntoC : ℕ → List ℤ → List ℕ → List ℕ → List ℕ → List ℕ → Answer File
-framesIntoC o l f ranges numbers counts = inBoth frames.counted (framesInto o l f ranges numbers) counts
+framesIntoC o l f ranges numbers counts = inBoth frames.frameCounts (framesInto o l f ranges numbers) counts
 
 unfoldable pub framesForC : ℕ → List ℤ → List ℕ → List ℕ → List ℕ → List ℕ → Answer Frames
 framesForC o l f ranges numbers counts = with-value (λ x. framesBy (walkOf o l x)) (framesIntoC o l f ranges numbers counts)

@@ -11,8 +11,8 @@ use Rattle.answer.specs.Answer.{gives}
 use Rattle.region.specs.Reader.{File, Accepted}
 use Rattle.ranges.specs.Ranges.{Range}
 use Rattle.ranges.specs.Contents.{Contains}
-use Rattle.cutting.specs.declared.Counts.{Counts}
-use Rattle.cutting.specs.Cover.{Found, cutting, cover, countsOf}
+use Rattle.covering.specs.declared.Counts.{Counts}
+use Rattle.covering.specs.Cover.{Found, cutting, cover, countsOf}
 use Rattle.htm.specs.Answers.{coverAnswer, coverAfter, outerIn}
 
 -- of what a cutting found, a list of ranges and the counts

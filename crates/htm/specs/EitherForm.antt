@@ -14,7 +14,7 @@ use Rattle.region.specs.declared.Style.{Style}
 use Rattle.region.specs.Reader.{read}
 use Rattle.region.specs.Converting.{convert}
 use Rattle.region.specs.Answers.{fileAnswer, fileAfter, pointTest}
-use Rattle.cutting.specs.Cover.{cover}
+use Rattle.covering.specs.Cover.{cover}
 use Rattle.htm.specs.Answers.{coverAnswer, coverAfter}
 use Rattle.htm.specs.CalledFromC.{coverForC, coverAfterC, countsAfterC}
 

@@ -21,12 +21,12 @@ use Rattle.region.specs.Regions.{Region, holds}
 use Rattle.region.specs.Budgets.{budgetOf}
 use Rattle.region.specs.Reader.{File, Accepted}
 use Rattle.ranges.specs.Ranges.{Range, inSome}
-use Rattle.cutting.specs.declared.Counts.{Counts}
-use Rattle.cutting.specs.Cover.{cover}
+use Rattle.covering.specs.declared.Counts.{Counts}
+use Rattle.covering.specs.Cover.{cover}
 use Rattle.index.specs.declared.Entry.{Entry}
 use Rattle.index.specs.Exposures.{only}
 use Rattle.index.specs.Entries.{isOwned, entriesIn}
-use Rattle.index.specs.Kept.{IsIndex}
+use Rattle.index.specs.HistoryCorrect.{IsIndex}
 use Rattle.frames.specs.declared.Frames as declared
 use Rattle.frames.specs.declared.FramesOf.{FramesOf}
 use Rattle.frames.specs.Walk.{shortened, deliveredBy, testsOf}

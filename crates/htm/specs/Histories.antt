@@ -9,8 +9,8 @@ use mathlib.Core.Path.{_≡_}
 use mathlib.Core.List.{List}
 use lib.IntN.{ℤ}
 use Rattle.index.specs.declared.Change.{Change}
-use Rattle.index.specs.Exposures.{Share, Call, contentOf}
-use Rattle.index.specs.Kept.{Holds}
+use Rattle.index.specs.Exposures.{OwnerCapacity, Call, contentOf}
+use Rattle.index.specs.HistoryCorrect.{Holds}
 use Rattle.index.specs.Apart.{callsOf, Ran}
 use Rattle.frames.specs.declared.Frames as declared
 use Rattle.frames.specs.declared.FramesOf.{FramesOf}
@@ -24,7 +24,7 @@ use Rattle.htm.specs.Trials.{heldBy, SameHeld}
 use Rattle.region.specs.Reader.{File, Accepted}
 
 abbrev pub Own : ℕ → List Call → List ℤ → Type 0
-Own o h l = Holds (contentOf Share (callsOf o h)) (entriesBy o l)
+Own o h l = Holds (contentOf OwnerCapacity (callsOf o h)) (entriesBy o l)
 
 abbrev pub FramesOfHistories : Type 0
 FramesOfHistories =

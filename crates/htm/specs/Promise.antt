@@ -22,13 +22,13 @@ use Rattle.region.specs.Reader.{File, Accepted}
 use Rattle.region.specs.declared.HeldOf.{HeldOf}
 use Rattle.region.specs.Answers.{pointTest, heldGiven}
 use Rattle.ranges.specs.Ranges.{Range, inSome, timesIn, Proper}
-use Rattle.cutting.specs.Cover.{cover, countsOf}
-use Rattle.cutting.specs.declared.Counts.{Counts}
+use Rattle.covering.specs.Cover.{cover, countsOf}
+use Rattle.covering.specs.declared.Counts.{Counts}
 use Rattle.htm.specs.declared.CoverOf.{CoverOf}
 use Rattle.htm.specs.Answers.{coverAnswer, coverAfter, coverGiven, outerIn, innerIn}
 
 -- of an identifier i, two lists, the budget that is counted with, and whether the region holds the point
-pub record Kept (i : ℕ) (outer inner : List Range) (budget : ℕ) (held : Bool) : Type 0 where
+pub record CoverSound (i : ℕ) (outer inner : List Range) (budget : ℕ) (held : Bool) : Type 0 where
   pub inner-held : inSome i inner ≡ true → held ≡ true
   pub held-outer : held ≡ true → timesIn i outer ≡ 1
   pub outer-list : Proper budget outer
@@ -38,7 +38,7 @@ abbrev pub Promise : Type 0
 Promise =
     (p : Vec3) (f : List ℕ) (x : File) → isVector p ≡ true → Accepted f x
     → (i : ℕ) × (lookup p (x .depth) ≡ gives i)
-    × Kept i (cover x .outer) (cover x .inner) (budgetOf (x .budget)) (holds (x .region) p)
+    × CoverSound i (cover x .outer) (cover x .inner) (budgetOf (x .budget)) (holds (x .region) p)
 
 -- Whatever the cover and the point test answer for one file: the file is accepted, the lookup answers at its depth, and the promise holds of
 -- the answers and of the two lists in the lent list as the cover leaves it.
@@ -46,7 +46,7 @@ abbrev pub PromiseOfAnswers : Type 0
 PromiseOfAnswers =
     (p : Vec3) (f before : List ℕ) (c : Counts) (held : Bool) → coverAnswer f before ≡ gives c → pointTest f p ≡ gives held
     → (x : File) × Accepted f x × (i : ℕ) × (lookup p (x .depth) ≡ gives i)
-    × Kept i (outerIn c (coverAfter f before)) (innerIn (budgetOf (x .budget)) c (coverAfter f before)) (budgetOf (x .budget)) held
+    × CoverSound i (outerIn c (coverAfter f before)) (innerIn (budgetOf (x .budget)) c (coverAfter f before)) (budgetOf (x .budget)) held
 
 -- The same by the contracts of the calls, `htm::cover`, `htm::holds` and `htm::locate` (src/lib.rt): where the cover gave c and left `after` in the
 -- lent list, and the point test gave `held`, there is an identifier i that the lookup at the file's depth gives, and the promise holds of all of them.
@@ -56,12 +56,12 @@ PromiseOfCalls =
     → coverGiven (CoverOf.Gives c) ≡ coverAnswer f before → after ≡ coverAfter f before
     → heldGiven (HeldOf.Gives held) ≡ pointTest f p
     → (x : File) × Accepted f x × (i : ℕ) × ((found : Number) → numberOf found ≡ lookup p (x .depth) → found ≡ Number.Gives i)
-    × Kept i (outerIn c after) (innerIn (budgetOf (x .budget)) c after) (budgetOf (x .budget)) held
+    × CoverSound i (outerIn c after) (innerIn (budgetOf (x .budget)) c after) (budgetOf (x .budget)) held
 
 -- Demand 3, undivided: of a vector, an accepted file and a list that is long enough, and of nothing else. The three calls give, and what they give is kept.
 pub record Demand3 (p : Vec3) (f before : List ℕ) (x : File) (i : ℕ) (held : Bool) (c : Counts) : Type 0 where
-  pub rules : Kept i (cover x .outer) (cover x .inner) (budgetOf (x .budget)) (holds (x .region) p)
-  pub answers : Kept i (outerIn c (coverAfter f before)) (innerIn (budgetOf (x .budget)) c (coverAfter f before)) (budgetOf (x .budget)) held
+  pub rules : CoverSound i (cover x .outer) (cover x .inner) (budgetOf (x .budget)) (holds (x .region) p)
+  pub answers : CoverSound i (outerIn c (coverAfter f before)) (innerIn (budgetOf (x .budget)) c (coverAfter f before)) (budgetOf (x .budget)) held
   pub locates : (found : Number) → numberOf found ≡ lookup p (x .depth) → found ≡ Number.Gives i
   pub tests : (r : HeldOf) → heldGiven r ≡ pointTest f p → r ≡ HeldOf.Gives held
   pub covers : (r : CoverOf) → coverGiven r ≡ coverAnswer f before → r ≡ CoverOf.Gives c

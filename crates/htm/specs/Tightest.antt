@@ -18,8 +18,8 @@ use Rattle.region.specs.Budgets.{budgetOf}
 use Rattle.region.specs.Reader.{File, Accepted}
 use Rattle.ranges.specs.Ranges.{Range, inSome}
 use Rattle.ranges.specs.Contents.{different, Feasible}
-use Rattle.cutting.specs.Cover.{cutting, cover}
-use Rattle.cutting.specs.declared.Counts.{Counts}
+use Rattle.covering.specs.Cover.{cutting, cover}
+use Rattle.covering.specs.declared.Counts.{Counts}
 use Rattle.htm.specs.declared.CoverOf.{CoverOf}
 use Rattle.htm.specs.Answers.{coverAnswer, coverAfter, coverGiven, outerIn}
 

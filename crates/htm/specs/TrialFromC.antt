@@ -1,5 +1,5 @@
 -- A trial for a host in C: settings, results and parts as numbers. Document 02, F-13. As in CalledFromC a refusal is minus its number, and comes before any
--- list is written. How settings and results stand in lists: trial_values/specs/Values.
+-- list is written. How settings and results stand in lists: htm_abi/specs/TrialValues.
 --   trialIntoC ..       the file that is tried, or the refusal: 18, the file's, 10 where fewer than four numbers say the settings, then as for `trial`, and 10
 --                       where the list of numbers has fewer than eleven elements
 --   trialForC .., firstAfterC, secondAfterC, trialAfterC   what both settings come to; the two buffers and the list of numbers afterwards (`trialList`)
@@ -19,9 +19,9 @@ use Rattle.region.specs.Reader.{File}
 use Rattle.index.specs.Exposures.{isOwner}
 use Rattle.trial.specs.declared.Trial.{Trial}
 use Rattle.trial.specs.Trials.{trialOf}
-use Rattle.trial.specs.Answers.{trialInto, listsBy, trialList, counted, partBy}
-use Rattle.trial_values.specs.Values.{settingAt, trialIn}
-use Rattle.htm_values.specs.Values.{refusalOf}
+use Rattle.trial.specs.Answers.{trialInto, listsBy, trialList, trialCounts, partBy}
+use Rattle.htm_abi.specs.TrialValues.{settingAt, trialIn}
+use Rattle.htm_abi.specs.Values.{refusalOf}
 use Rattle.htm.specs.CalledFromC.{inBoth}
 
 -- ---- the trial
@@ -29,7 +29,7 @@ use Rattle.htm.specs.CalledFromC.{inBoth}
 abbrev pub trialIntoC : ℕ → List ℤ → List ℕ → List ℕ → List ℕ → List ℕ → List ℕ → Answer File
 trialIntoC o l f ss first second numbers =
     cond (leb 4 (length ss))
-    (inBoth counted (trialInto o l f (settingAt ss 0) (settingAt ss 2) first second) numbers)
+    (inBoth trialCounts (trialInto o l f (settingAt ss 0) (settingAt ss 2) first second) numbers)
     (check Owner (isOwner o) (refusalOf f))
 
 unfoldable pub trialForC : ℕ → List ℤ → List ℕ → List ℕ → List ℕ → List ℕ → List ℕ → Answer Trial
@@ -50,7 +50,7 @@ abbrev pub partList : Trial → List ℕ → List ℕ → List ℕ
 partList t first second = t .choice ∷ length (partBy t first second) ∷ []
 
 unfoldable pub chosenForC : List ℕ → List ℕ → List ℕ → List ℕ → Answer (List ℕ)
-chosenForC ns first second part = check Space (leb counted (length ns)) (check Space (leb 2 (length part)) (gives (partList (trialIn ns) first second)))
+chosenForC ns first second part = check Space (leb trialCounts (length ns)) (check Space (leb 2 (length part)) (gives (partList (trialIn ns) first second)))
 
 unfoldable pub chosenAfterC : List ℕ → List ℕ → List ℕ → List ℕ → List ℕ
 chosenAfterC ns first second part = stored (put 0) (chosenForC ns first second part) part

@@ -18,7 +18,7 @@ use Rattle.answer.specs.Answer.{gives}
 use Rattle.region.specs.Regions.{Region, holds}
 use Rattle.region.specs.Reader.{File, Accepted}
 use Rattle.ranges.specs.Ranges.{pairs}
-use Rattle.index.specs.Kept.{IsIndex}
+use Rattle.index.specs.HistoryCorrect.{IsIndex}
 use Rattle.trial.specs.declared.Setting.{Setting}
 use Rattle.trial.specs.declared.Trial.{Trial}
 use Rattle.trial.specs.declared.TrialOf.{TrialOf}

@@ -2,7 +2,7 @@
 // A list is passed as a pointer and its number of elements: include/htm.h.
 use crate::CoverOf;
 use answer::SPACE;
-use cutting::COUNTED;
+use covering::COVER_COUNTS;
 use mesh::CornersOf;
 use mount::Double;
 use mount::Report;
@@ -18,16 +18,16 @@ ghost use Rattle.mesh.specs.Answers.{nameAnswer, nameAfter};
 ghost use Rattle.region.specs.Writer.{writeGrouped};
 ghost use Rattle.region.specs.Converting.{toGrouped, toPlain};
 ghost use Rattle.region.specs.Answers.{pointTest, fileAnswer, fileAfter, writeAnswer, writeAfter};
-ghost use Rattle.htm_values.specs.Values.{orZero, numberForC, heldForC, statusOf};
-ghost use Rattle.htm.specs.Answers.{lookupReport, locateLine, entry};
+ghost use Rattle.htm_abi.specs.Values.{orZero, numberForC, heldForC, statusOf};
+ghost use Rattle.htm.specs.Answers.{lookupReport, locateLine, lookupForC};
 ghost use Rattle.htm.specs.CalledFromC.{cornersForC, cornersAfterC, readForC, rowsAfterC, headerAfterC, coverForC, coverAfterC, countsAfterC};
 
 // The lookup: the identifier, or 0 for a refusal.
 #[no_mangle]
 pub extern "C" fn lookup(x: i32, y: i32, z: i32, depth: u32) -> u64
-    ensures { λ r. ⌜ r ≡ entry x y z depth ⌝ }
+    ensures { λ r. ⌜ r ≡ lookupForC x y z depth ⌝ }
 {
-    htm_values::or_zero(crate::locate(x, y, z, depth))
+    htm_abi::or_zero(crate::locate(x, y, z, depth))
 }
 
 // The lookup of a mount's report in single precision: the identifier, or minus the number of the refusal.
@@ -35,7 +35,7 @@ pub extern "C" fn lookup(x: i32, y: i32, z: i32, depth: u32) -> u64
 pub extern "C" fn htm_lookup_f32(x: f32, y: f32, z: f32, depth: u32) -> i64
     ensures { λ r. ⌜ r ≡ numberForC (lookupReport (singleReport x y z) depth) ⌝ }
 {
-    htm_values::number_or_minus(crate::locate_report(
+    htm_abi::number_or_minus(crate::locate_report(
         Report::Single(Single { x: x, y: y, z: z }),
         depth,
     ))
@@ -46,7 +46,7 @@ pub extern "C" fn htm_lookup_f32(x: f32, y: f32, z: f32, depth: u32) -> i64
 pub extern "C" fn htm_lookup_f64(x: f64, y: f64, z: f64, depth: u32) -> i64
     ensures { λ r. ⌜ r ≡ numberForC (lookupReport (doubleReport x y z) depth) ⌝ }
 {
-    htm_values::number_or_minus(crate::locate_report(
+    htm_abi::number_or_minus(crate::locate_report(
         Report::Double(Double { x: x, y: y, z: z }),
         depth,
     ))
@@ -57,7 +57,7 @@ pub extern "C" fn htm_lookup_f64(x: f64, y: f64, z: f64, depth: u32) -> i64
 pub extern "C" fn htm_lookup_line(line: &[u8], depth: u32) -> i64
     ensures { λ r. ⌜ r ≡ numberForC (locateLine (now (line .entry)) depth) ⌝ }
 {
-    htm_values::number_or_minus(crate::locate_line(line, depth))
+    htm_abi::number_or_minus(crate::locate_line(line, depth))
 }
 
 // The name of an identifier, at the beginning of `out`: its length, or minus the number of the refusal.
@@ -66,7 +66,7 @@ pub extern "C" fn htm_name(id: u64, out: &mut [u8]) -> i64
     ensures { λ r. ⌜ r ≡ numberForC (nameAnswer id (now (out .entry))) ⌝ }
     ensures { λ r. ⌜ now (out .exit) ≡ nameAfter id (now (out .entry)) ⌝ }
 {
-    htm_values::number_or_minus(crate::name(id, out))
+    htm_abi::number_or_minus(crate::name(id, out))
 }
 
 // The identifier of a name, or 0 for a refusal. An identifier of depth 31 has bit 63, so the answer has no sign.
@@ -74,7 +74,7 @@ pub extern "C" fn htm_name(id: u64, out: &mut [u8]) -> i64
 pub extern "C" fn htm_identifier(name: &[u8]) -> u64
     ensures { λ r. ⌜ r ≡ orZero (identifierOf (now (name .entry))) ⌝ }
 {
-    htm_values::or_zero(crate::identifier(name))
+    htm_abi::or_zero(crate::identifier(name))
 }
 
 // The corners of the trixel of an identifier to depth 12, nine numbers at the beginning of `out`: 0, or minus the number of the refusal, 10 where
@@ -88,12 +88,12 @@ pub extern "C" fn htm_corners(id: u64, out: &mut [i32]) -> i64
     match answer {
         CornersOf::Gives(c) => {
             if out.len() < 9 {
-                return htm_values::minus(SPACE);
+                return htm_abi::minus(SPACE);
             }
-            htm_values::put_corners(out, c);
+            htm_abi::put_corners(out, c);
             0
         }
-        CornersOf::Refused(n) => htm_values::minus(n),
+        CornersOf::Refused(n) => htm_abi::minus(n),
     }
 }
 
@@ -103,7 +103,7 @@ pub extern "C" fn htm_write(depth: u32, budget: u32, rows: &[i32], out: &mut [u8
     ensures { λ r. ⌜ r ≡ numberForC (writeAnswer depth budget (now (rows .entry)) (now (out .entry))) ⌝ }
     ensures { λ r. ⌜ now (out .exit) ≡ writeAfter depth budget (now (rows .entry)) (now (out .entry)) ⌝ }
 {
-    htm_values::number_or_minus(crate::write(depth, budget, rows, out))
+    htm_abi::number_or_minus(crate::write(depth, budget, rows, out))
 }
 
 // The same of the grouped file.
@@ -112,7 +112,7 @@ pub extern "C" fn htm_write_grouped(depth: u32, budget: u32, rows: &[i32], out: 
     ensures { λ r. ⌜ r ≡ numberForC (fileAnswer (writeGrouped depth budget (now (rows .entry))) (now (out .entry))) ⌝ }
     ensures { λ r. ⌜ now (out .exit) ≡ fileAfter (writeGrouped depth budget (now (rows .entry))) (now (out .entry)) ⌝ }
 {
-    htm_values::number_or_minus(crate::write_grouped(depth, budget, rows, out))
+    htm_abi::number_or_minus(crate::write_grouped(depth, budget, rows, out))
 }
 
 // The grouped form of a region file, at the beginning of `out`: its length, or minus the number of the refusal.
@@ -121,7 +121,7 @@ pub extern "C" fn htm_to_grouped(file: &[u8], out: &mut [u8]) -> i64
     ensures { λ r. ⌜ r ≡ numberForC (fileAnswer (toGrouped (now (file .entry))) (now (out .entry))) ⌝ }
     ensures { λ r. ⌜ now (out .exit) ≡ fileAfter (toGrouped (now (file .entry))) (now (out .entry)) ⌝ }
 {
-    htm_values::number_or_minus(crate::to_grouped(file, out))
+    htm_abi::number_or_minus(crate::to_grouped(file, out))
 }
 
 // The same of the plain form.
@@ -130,7 +130,7 @@ pub extern "C" fn htm_to_plain(file: &[u8], out: &mut [u8]) -> i64
     ensures { λ r. ⌜ r ≡ numberForC (fileAnswer (toPlain (now (file .entry))) (now (out .entry))) ⌝ }
     ensures { λ r. ⌜ now (out .exit) ≡ fileAfter (toPlain (now (file .entry))) (now (out .entry)) ⌝ }
 {
-    htm_values::number_or_minus(crate::to_plain(file, out))
+    htm_abi::number_or_minus(crate::to_plain(file, out))
 }
 
 // The point test: 1 where the region holds the pointing, 0 where it does not, or minus the number of the refusal.
@@ -141,7 +141,7 @@ pub extern "C" fn htm_holds(file: &[u8], x: i32, y: i32, z: i32) -> i64
     let answer = crate::holds(file, x, y, z);
     match answer {
         HeldOf::Gives(held) => { if held { 1 } else { 0 } }
-        HeldOf::Refused(n) => htm_values::minus(n),
+        HeldOf::Refused(n) => htm_abi::minus(n),
     }
 }
 
@@ -154,15 +154,15 @@ pub extern "C" fn htm_read(file: &[u8], rows: &mut [i32], header: &mut [u64]) ->
     ensures { λ r. ⌜ now (header .exit) ≡ headerAfterC (now (file .entry)) (now (rows .entry)) (now (header .entry)) ⌝ }
 {
     if header.len() < 3 {
-        return htm_values::without_room(file);
+        return htm_abi::without_room(file);
     }
     let answer = crate::read(file, rows);
     match answer {
         HeaderOf::Gives(h) => {
-            htm_values::put_header(header, h);
+            htm_abi::put_header(header, h);
             0
         }
-        HeaderOf::Refused(n) => htm_values::minus(n),
+        HeaderOf::Refused(n) => htm_abi::minus(n),
     }
 }
 
@@ -173,15 +173,15 @@ pub extern "C" fn htm_cover(file: &[u8], out: &mut [u64], counts: &mut [u64]) ->
     ensures { λ r. ⌜ now (out .exit) ≡ coverAfterC (now (file .entry)) (now (out .entry)) (now (counts .entry)) ⌝ }
     ensures { λ r. ⌜ now (counts .exit) ≡ countsAfterC (now (file .entry)) (now (out .entry)) (now (counts .entry)) ⌝ }
 {
-    if counts.len() < COUNTED {
-        return htm_values::without_room(file);
+    if counts.len() < COVER_COUNTS {
+        return htm_abi::without_room(file);
     }
     let answer = crate::cover(file, out);
     match answer {
         CoverOf::Gives(c) => {
-            cutting_cover::put_counts(counts, c);
+            htm_abi::put_counts(counts, c);
             0
         }
-        CoverOf::Refused(n) => htm_values::minus(n),
+        CoverOf::Refused(n) => htm_abi::minus(n),
     }
 }

@@ -1,14 +1,14 @@
 // The calls on an index of exposures for a host in C: each is a call of the crate, with a number for its answer. None has a `requires`.
 // A list is passed as a pointer and its number of elements: include/htm.h.
 use answer::SPACE;
-use frames::COUNTED;
+use frames::FRAME_COUNTS;
 use frames::FramesOf;
 use index::EntryOf;
 use index::WIDTH;
 ghost use mathlib.Core.Path.{_≡_};
 ghost use Rattle.index.specs.Exposures.{key, exposure};
 ghost use Rattle.index.specs.Answers.{beginAnswer, beginAfter, addAnswer, addAfter, removeAnswer, removeAfter, countAnswer};
-ghost use Rattle.htm_values.specs.Values.{numberForC, statusOf};
+ghost use Rattle.htm_abi.specs.Values.{numberForC, statusOf};
 ghost use Rattle.htm.specs.CalledFromC.{entryForC, entryAfterC, framesForC, rangesAfterC, numbersAfterC, framesAfterC};
 
 // Makes a list an empty index: 0, or minus the number of the refusal.
@@ -17,7 +17,7 @@ pub extern "C" fn htm_index_begin(index: &mut [i64]) -> i64
     ensures { λ r. ⌜ r ≡ statusOf (beginAnswer (now (index .entry))) ⌝ }
     ensures { λ r. ⌜ now (index .exit) ≡ beginAfter (now (index .entry)) ⌝ }
 {
-    htm_values::status(crate::index_begin(index))
+    htm_abi::status(crate::index_begin(index))
 }
 
 // One exposure more of an owner: 0, or minus the number of the refusal.
@@ -26,7 +26,7 @@ pub extern "C" fn htm_add(index: &mut [i64], owner: u32, number: u32, x: i32, y:
     ensures { λ r. ⌜ r ≡ statusOf (addAnswer (exposure owner number x y z) (now (index .entry))) ⌝ }
     ensures { λ r. ⌜ now (index .exit) ≡ addAfter (exposure owner number x y z) (now (index .entry)) ⌝ }
 {
-    htm_values::status(crate::add(index, owner, number, x, y, z))
+    htm_abi::status(crate::add(index, owner, number, x, y, z))
 }
 
 // One exposure less of an owner: 0, or minus the number of the refusal.
@@ -35,7 +35,7 @@ pub extern "C" fn htm_remove(index: &mut [i64], owner: u32, number: u32) -> i64
     ensures { λ r. ⌜ r ≡ statusOf (removeAnswer (key owner number) (now (index .entry))) ⌝ }
     ensures { λ r. ⌜ now (index .exit) ≡ removeAfter (key owner number) (now (index .entry)) ⌝ }
 {
-    htm_values::status(crate::remove(index, owner, number))
+    htm_abi::status(crate::remove(index, owner, number))
 }
 
 // How many entries there are, of both owners, or minus the number of the refusal.
@@ -43,7 +43,7 @@ pub extern "C" fn htm_remove(index: &mut [i64], owner: u32, number: u32) -> i64
 pub extern "C" fn htm_index_count(index: &[i64]) -> i64
     ensures { λ r. ⌜ r ≡ numberForC (countAnswer (now (index .entry))) ⌝ }
 {
-    htm_values::number_or_minus(crate::index_count(index))
+    htm_abi::number_or_minus(crate::index_count(index))
 }
 
 // The entry at a place, its six numbers at the beginning of `out`: 0, or minus the number of the refusal, 10 also where `out` has fewer elements.
@@ -56,12 +56,12 @@ pub extern "C" fn htm_index_entry(index: &[i64], place: u32, out: &mut [i64]) ->
     match answer {
         EntryOf::Gives(e) => {
             if out.len() < WIDTH {
-                return htm_values::minus(SPACE);
+                return htm_abi::minus(SPACE);
             }
             index_entries::store_entry(out, 0, e);
             0
         }
-        EntryOf::Refused(n) => htm_values::minus(n),
+        EntryOf::Refused(n) => htm_abi::minus(n),
     }
 }
 
@@ -81,15 +81,15 @@ pub extern "C" fn htm_frames(
     ensures { λ r. ⌜ now (numbers .exit) ≡ numbersAfterC owner (now (index .entry)) (now (file .entry)) (now (ranges .entry)) (now (numbers .entry)) (now (counts .entry)) ⌝ }
     ensures { λ r. ⌜ now (counts .exit) ≡ framesAfterC owner (now (index .entry)) (now (file .entry)) (now (ranges .entry)) (now (numbers .entry)) (now (counts .entry)) ⌝ }
 {
-    if counts.len() < COUNTED {
-        return htm_values::owner_without_room(owner, file);
+    if counts.len() < FRAME_COUNTS {
+        return htm_abi::owner_without_room(owner, file);
     }
     let answer = crate::frames(index, owner, file, ranges, numbers);
     match answer {
         FramesOf::Gives(r) => {
-            frames_calls::put_frames(counts, r);
+            htm_abi::put_frames(counts, r);
             0
         }
-        FramesOf::Refused(n) => htm_values::minus(n),
+        FramesOf::Refused(n) => htm_abi::minus(n),
     }
 }

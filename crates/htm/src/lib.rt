@@ -3,7 +3,7 @@
 use answer::DEPTH;
 use answer::Number;
 use answer::SPACE;
-use cutting::Counts;
+use covering::Counts;
 use frames::FramesOf;
 use index::Change;
 use index::EntryOf;
@@ -50,7 +50,7 @@ pub enum CoverOf {
 pub fn locate(x: i32, y: i32, z: i32, depth: u32) -> Number
     ensures { λ r. ⌜ numberOf r ≡ mesh_lookup.lookup (vec x y z) depth ⌝ }
 {
-    mesh_lookup::lookup(htm_values::pointing(x, y, z), depth)
+    mesh_lookup::lookup(htm_abi::pointing(x, y, z), depth)
 }
 
 // The same of a mount's report, three floats of single or double precision; refusals 5, 12, 8.
@@ -64,7 +64,7 @@ pub fn locate_report(report: Report, depth: u32) -> Number
 pub fn locate_line(line: &[u8], depth: u32) -> Number
     ensures { λ r. ⌜ numberOf r ≡ locateLine (now (line .entry)) depth ⌝ }
 {
-    located(lines::pointing_in(line), depth)
+    located(catalogue_line::pointing_in(line), depth)
 }
 
 // The lookup of a pointing that comes in another form; refusals 5, then its own, then 8.
@@ -133,7 +133,7 @@ pub fn to_grouped(file: &[u8], out: &mut [u8]) -> Number
     ensures { λ r. ⌜ numberOf r ≡ fileAnswer (toGrouped (now (file .entry))) (now (out .entry)) ⌝ }
     ensures { λ r. ⌜ now (out .exit) ≡ fileAfter (toGrouped (now (file .entry))) (now (out .entry)) ⌝ }
 {
-    region_converting::convert(Style::Grouped, file, out)
+    region_convert::convert(Style::Grouped, file, out)
 }
 
 // The same, with the plain form.
@@ -141,14 +141,14 @@ pub fn to_plain(file: &[u8], out: &mut [u8]) -> Number
     ensures { λ r. ⌜ numberOf r ≡ fileAnswer (toPlain (now (file .entry))) (now (out .entry)) ⌝ }
     ensures { λ r. ⌜ now (out .exit) ≡ fileAfter (toPlain (now (file .entry))) (now (out .entry)) ⌝ }
 {
-    region_converting::convert(Style::Plain, file, out)
+    region_convert::convert(Style::Plain, file, out)
 }
 
 // The point test: whether the region of a file holds a pointing; the file's refusals, then 8.
 pub fn holds(file: &[u8], x: i32, y: i32, z: i32) -> HeldOf
     ensures { λ r. ⌜ heldGiven r ≡ pointTest (now (file .entry)) (vec x y z) ⌝ }
 {
-    region_points::point_test(file, htm_values::pointing(x, y, z))
+    region_points::point_test(file, htm_abi::pointing(x, y, z))
 }
 
 // The cover of a region file: the outer list from element 0 of `out`, the inner list from element 2 × budget, pairs low and high; both counts,
@@ -165,13 +165,13 @@ pub fn cover(file: &[u8], out: &mut [u64]) -> CoverOf
             if out.len() < 4 * budget {
                 return CoverOf::Refused(SPACE);
             }
-            CoverOf::Gives(cutting_cover::cover(h.depth, &rows, h.count as usize, budget, out))
+            CoverOf::Gives(covering_calls::cover(h.depth, &rows, h.count as usize, budget, out))
         }
         HeaderOf::Refused(n) => CoverOf::Refused(n),
     }
 }
 
-// Makes a list an empty index of exposures; refusal 10 where it has fewer than index::LEAST elements, as in the four calls below.
+// Makes a list an empty index of exposures; refusal 10 where it has fewer than index::INDEX_LENGTH elements, as in the four calls below.
 pub fn index_begin(index: &mut [i64]) -> Change
     ensures { λ r. ⌜ changeGiven r ≡ beginAnswer (now (index .entry)) ⌝ }
     ensures { λ r. ⌜ now (index .exit) ≡ beginAfter (now (index .entry)) ⌝ }
@@ -184,7 +184,7 @@ pub fn add(index: &mut [i64], owner: u32, number: u32, x: i32, y: i32, z: i32) -
     ensures { λ r. ⌜ changeGiven r ≡ addAnswer (exposure owner number x y z) (now (index .entry)) ⌝ }
     ensures { λ r. ⌜ now (index .exit) ≡ addAfter (exposure owner number x y z) (now (index .entry)) ⌝ }
 {
-    index_calls::add(index, owner, number, htm_values::pointing(x, y, z))
+    index_calls::add(index, owner, number, htm_abi::pointing(x, y, z))
 }
 
 // One exposure less of an owner, by its number; refusals 18, 10, 17.
@@ -211,7 +211,7 @@ pub fn index_entry(index: &[i64], place: u32) -> EntryOf
 
 // All frames of a region in a single pass: the numbers of an owner's entries which the region of a file holds, in index order, from element 0 of `numbers`
 // on, with how many they are and how many point tests were made; `ranges` ends as `cover` leaves it. Refusals 18, the file's, then 10 where `ranges` has fewer
-// than 4 × budget elements, `numbers` fewer than index::SHARE, or `index` fewer than index::LEAST.
+// than 4 × budget elements, `numbers` fewer than index::OWNER_CAPACITY, or `index` fewer than index::INDEX_LENGTH.
 pub fn frames(
     index: &[i64],
     owner: u32,
@@ -228,7 +228,7 @@ pub fn frames(
 
 // A trial of one region under two settings, each a depth and a budget that stand in for the header's: the two lists of each in its buffer, what both come to,
 // and the choice. Refusals 18, the file's, 5 and 6 of the first setting, 5 and 6 of the second, then 10 where a buffer has fewer than 4 × its budget elements, or
-// `index` fewer than index::LEAST.
+// `index` fewer than index::INDEX_LENGTH.
 pub fn trial(
     index: &[i64],
     owner: u32,

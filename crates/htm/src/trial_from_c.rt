@@ -1,10 +1,10 @@
 // A trial of two settings for a host in C: settings, results and parts as numbers. None has a `requires`. A list is passed as a pointer and its number of
 // elements: include/htm.h.
 use answer::SPACE;
-use trial::COUNTED;
+use trial::TRIAL_COUNTS;
 use trial::TrialOf;
 ghost use mathlib.Core.Path.{_≡_};
-ghost use Rattle.htm_values.specs.Values.{statusOf};
+ghost use Rattle.htm_abi.specs.Values.{statusOf};
 ghost use Rattle.htm.specs.TrialFromC.{trialForC, firstAfterC, secondAfterC, trialAfterC, chosenForC, chosenAfterC};
 
 // How many numbers two settings have: depth and budget of each.
@@ -31,20 +31,20 @@ pub extern "C" fn htm_trial(
     ensures { λ r. ⌜ now (numbers .exit) ≡ trialAfterC owner (now (index .entry)) (now (file .entry)) (now (settings .entry)) (now (first .entry)) (now (second .entry)) (now (numbers .entry)) ⌝ }
 {
     if settings.len() < SETTINGS {
-        return htm_values::owner_without_room(owner, file);
+        return htm_abi::owner_without_room(owner, file);
     }
-    let s = trial_values::setting_at(settings, 0);
-    let t = trial_values::setting_at(settings, 2);
-    if numbers.len() < COUNTED {
-        return htm_values::minus(trial_values::refused_anyway(owner, file, s, t));
+    let s = htm_abi::trials::setting_at(settings, 0);
+    let t = htm_abi::trials::setting_at(settings, 2);
+    if numbers.len() < TRIAL_COUNTS {
+        return htm_abi::minus(htm_abi::trials::refused_anyway(owner, file, s, t));
     }
     let answer = crate::trial(index, owner, file, s, t, first, second);
     match answer {
         TrialOf::Gives(r) => {
-            trial_calls::put_trial(numbers, r);
+            htm_abi::trials::put_trial(numbers, r);
             0
         }
-        TrialOf::Refused(n) => htm_values::minus(n),
+        TrialOf::Refused(n) => htm_abi::minus(n),
     }
 }
 
@@ -59,14 +59,14 @@ pub extern "C" fn htm_chosen<'a>(
     ensures { λ r. ⌜ r ≡ statusOf (chosenForC (now (numbers .entry)) (now (first .entry)) (now (second .entry)) (now (part .entry))) ⌝ }
     ensures { λ r. ⌜ now (part .exit) ≡ chosenAfterC (now (numbers .entry)) (now (first .entry)) (now (second .entry)) (now (part .entry)) ⌝ }
 {
-    if numbers.len() < COUNTED {
-        return htm_values::minus(SPACE);
+    if numbers.len() < TRIAL_COUNTS {
+        return htm_abi::minus(SPACE);
     }
     if part.len() < PART {
-        return htm_values::minus(SPACE);
+        return htm_abi::minus(SPACE);
     }
-    let t = trial_values::trial_at(numbers);
-    let n = trial_values::part_length(t, first, second);
-    trial_values::put_part(part, t.choice, n);
+    let t = htm_abi::trials::trial_at(numbers);
+    let n = htm_abi::trials::part_length(t, first, second);
+    htm_abi::trials::put_part(part, t.choice, n);
     0
 }

@@ -20,10 +20,10 @@ use Rattle.vector.specs.Vectors.{isVector}
 use Rattle.mesh.specs.Lookup.{identifier}
 use Rattle.index.specs.declared.Entry.{Entry}
 use Rattle.index.specs.declared.Change.{Change}
-use Rattle.index.specs.Exposures.{Most, Share, isOwner, Exposure, isNumber, Key, key, keyOf, hasOwner, hasKey, hasPlace, Call, adds, removes, without, giving, leaving, answered, contentFrom, contentOf, answersFrom}
-use Rattle.index.specs.Entries.{Least, entryOf, isOwned, isKeyed, countOf, entriesFrom, entriesIn, keeping, inserted, withdrawn, hasRoom}
+use Rattle.index.specs.Exposures.{IndexCapacity, OwnerCapacity, isOwner, Exposure, isNumber, Key, key, keyOf, hasOwner, hasKey, hasPlace, Call, adds, removes, without, giving, leaving, answered, contentFrom, contentOf, answersFrom}
+use Rattle.index.specs.Entries.{IndexLength, entryOf, isOwned, isKeyed, countOf, entriesFrom, entriesIn, keeping, inserted, withdrawn, hasRoom}
 use Rattle.index.specs.Answers.{adding, removing, addAnswer, addAfter, removeAnswer, removeAfter, beginAnswer, beginAfter, countAnswer, changeGiven}
-use Rattle.index.specs.Kept.{Holds, isFiled, IsIndex, IsEmpty, callAnswer, callAfter, Runs, numbered, Numbered, ServesAgain, Kept}
+use Rattle.index.specs.HistoryCorrect.{Holds, isFiled, IsIndex, IsEmpty, callAnswer, callAfter, Runs, numbered, Numbered, ServesAgain, HistoryCorrect}
 use Rattle.index.proofs.WrittenLaws.{keeping-long, in-keeping, length-in}
 use Rattle.index.proofs.TallyLaws.{some-tally, tally-all, all-pass, parted, either-passes, both-fewer, only-tally, inserted-tally, inserted-length, withdrawn-tally, withdrawn-fewer}
 use Rattle.index.proofs.OrderLaws.{inserted-ascends, withdrawn-ascends, eqZ-eq, eqZ-refl}
@@ -42,8 +42,8 @@ isExposure x = isNumber (x .number) && isOwner (x .owner) && isVector (x .pointi
 
 pub record Files (xs : List Exposure) (es : List Entry) : Type 0 where
   pub holds : Holds xs es
-  pub few : length es ≤ Most
-  pub share : (o : ℕ) → tally (hasOwner o) xs ≤ Share
+  pub few : length es ≤ IndexCapacity
+  pub share : (o : ℕ) → tally (hasOwner o) xs ≤ OwnerCapacity
   pub single : (k : Key) → tally (hasKey k) xs ≤ 1
   pub proper : tally (λ x. not (isExposure x)) xs ≡ 0
 
@@ -55,7 +55,7 @@ module _ (xs : List Exposure) (es : List Entry) (h : Files xs es) where
   same-some n = some-tally (isKeyed n) es ∙ ap (ltb 0) (h .holds .exactly (isKeyed n)) ∙ sym (some-tally (hasKey n) xs)
 
   -- one exposure more, whose key is not there
-  more : (x : Exposure) → isExposure x ≡ true → some (isKeyed (keyOf x)) es ≡ false → tally (hasOwner (x .owner)) xs < Share → length es < Most → Files (x ∷ xs) (inserted (entryOf x) es)
+  more : (x : Exposure) → isExposure x ≡ true → some (isKeyed (keyOf x)) es ≡ false → tally (hasOwner (x .owner)) xs < OwnerCapacity → length es < IndexCapacity → Files (x ∷ xs) (inserted (entryOf x) es)
   unfolding tally
   more x u o p f =
       let e = entryOf x in
@@ -68,8 +68,8 @@ module _ (xs : List Exposure) (es : List Entry) (h : Files xs es) where
         few = omega (arith, inserted-length e es);
         share = λ w.
             split (hasOwner w x)
-            (λ t. subst (λ b. cond b (suc (tally (hasOwner w) xs)) (tally (hasOwner w) xs) ≤ Share) (sym t) (subst (λ m. tally (hasOwner m) xs < Share) (eqb-true (x .owner) w t) p))
-            (λ t. subst (λ b. cond b (suc (tally (hasOwner w) xs)) (tally (hasOwner w) xs) ≤ Share) (sym t) (h .share w));
+            (λ t. subst (λ b. cond b (suc (tally (hasOwner w) xs)) (tally (hasOwner w) xs) ≤ OwnerCapacity) (sym t) (subst (λ m. tally (hasOwner m) xs < OwnerCapacity) (eqb-true (x .owner) w t) p))
+            (λ t. subst (λ b. cond b (suc (tally (hasOwner w) xs)) (tally (hasOwner w) xs) ≤ OwnerCapacity) (sym t) (h .share w));
         single = λ n.
             split (hasKey n x)
             (λ t. let z : tally (hasKey n) xs ≡ 0 = ap (λ m. tally (hasKey m) xs) (sym (key-of n x t)) ∙ none in
@@ -113,7 +113,7 @@ agree-passed n t a b e h = subst (λ u. Agree (check n u a) b) (sym e) h
 
 -- a list that holds the entries of the exposures xs
 pub record Stands (xs : List Exposure) (l : List ℤ) : Type 0 where
-  pub long : Least ≤ length l
+  pub long : IndexLength ≤ length l
   pub counted : getD l 0 (pos 0) ≡ pos (length (entriesIn l))
   pub files : Files xs (entriesIn l)
 
@@ -159,14 +159,14 @@ filed-owner e f =
     and-right n w (and-left (n && w) v (and-left (n && w && v) (eqZ (e .id) (pos (identifier (e .pointing) 12))) f))
 
 -- the entries are those of two owners: where one has a place there is room, since the other has no more than a share
-room-left : (l : List ℤ) (o : ℕ) → IsIndex l → isOwner o ≡ true → hasPlace Share (isOwned o) (entriesIn l) ≡ true → hasRoom (entriesIn l) ≡ true
+room-left : (l : List ℤ) (o : ℕ) → IsIndex l → isOwner o ≡ true → hasPlace OwnerCapacity (isOwned o) (entriesIn l) ≡ true → hasRoom (entriesIn l) ≡ true
 room-left l o is w p =
     let es = entriesIn l in
     let both = either-passes (isOwned 0) (isOwned 1) es (every-every isFiled (λ e. isOwned 0 e || isOwned 1 e) filed-owner es (is .filed)) in
-    let less : tally (isOwned o) es < Share = ltb-true (tally (isOwned o) es) Share p in
-    lt-ltb (length es) Most (by-owner o (ltb-true o 2 w) less both)
+    let less : tally (isOwned o) es < OwnerCapacity = ltb-true (tally (isOwned o) es) OwnerCapacity p in
+    lt-ltb (length es) IndexCapacity (by-owner o (ltb-true o 2 w) less both)
   where
-    by-owner : (o : ℕ) → o < 2 → tally (isOwned o) (entriesIn l) < Share → length (entriesIn l) ≤ tally (isOwned 0) (entriesIn l) + tally (isOwned 1) (entriesIn l) → length (entriesIn l) < Most
+    by-owner : (o : ℕ) → o < 2 → tally (isOwned o) (entriesIn l) < OwnerCapacity → length (entriesIn l) ≤ tally (isOwned 0) (entriesIn l) + tally (isOwned 1) (entriesIn l) → length (entriesIn l) < IndexCapacity
     by-owner zero w h b = omega (arith, is .share 1)
     by-owner (suc zero) w h b = omega (arith, is .share 0)
     by-owner (suc (suc o)) w h b = absurd (omega arith)
@@ -178,7 +178,7 @@ abbrev calling : Call → List ℤ → Answer (List Entry)
 calling (adds x) l = adding x l
 calling (removes k) l = removing k l
 
-agrees : (c : Call) (xs : List Exposure) (l : List ℤ) → numbered c ≡ true → Stands xs l → Agree (calling c l) (giving Share c xs)
+agrees : (c : Call) (xs : List Exposure) (l : List ℤ) → numbered c ≡ true → Stands xs l → Agree (calling c l) (giving OwnerCapacity c xs)
 agrees (adds x) xs l u s =
     let es = entriesIn l in
     let f = s .files in
@@ -186,23 +186,23 @@ agrees (adds x) xs l u s =
     let v = isVector (x .pointing) in
     agree-check Owner w w _ _ refl (λ o.
     agree-check Vector v v _ _ refl (λ p.
-    agree-passed Space (leb Least (length l)) _ _ (le-leb Least (length l) (s .long))
+    agree-passed Space (leb IndexLength (length l)) _ _ (le-leb IndexLength (length l) (s .long))
     (agree-check Twice (not (some (isKeyed (keyOf x)) es)) (not (some (hasKey (keyOf x)) xs)) _ _ (ap not (same-some xs es f (keyOf x))) (λ q.
     let same : tally (isOwned (x .owner)) es ≡ tally (hasOwner (x .owner)) xs = f .holds .exactly (isOwned (x .owner)) in
-    agree-check Full (hasPlace Share (isOwned (x .owner)) es) (hasPlace Share (hasOwner (x .owner)) xs) _ _ (ap (λ n. ltb n Share) same) (λ r.
+    agree-check Full (hasPlace OwnerCapacity (isOwned (x .owner)) es) (hasPlace OwnerCapacity (hasOwner (x .owner)) xs) _ _ (ap (λ n. ltb n OwnerCapacity) same) (λ r.
     let room = room-left l (x .owner) (is-index xs l s) o r in
     agree-passed Full (hasRoom es) _ _ room
-    (more xs es f x (and-both (and-both u o) p) (not-true (some (isKeyed (keyOf x)) es) q) (omega (arith, same, ltb-true (tally (isOwned (x .owner)) es) Share r)) (ltb-true (length es) Most room)))))))
+    (more xs es f x (and-both (and-both u o) p) (not-true (some (isKeyed (keyOf x)) es) q) (omega (arith, same, ltb-true (tally (isOwned (x .owner)) es) OwnerCapacity r)) (ltb-true (length es) IndexCapacity room)))))))
 agrees (removes k) xs l u s =
     let es = entriesIn l in
     let w = isOwner (k .owner) in
     agree-check Owner w w _ _ refl (λ o.
-    agree-passed Space (leb Least (length l)) _ _ (le-leb Least (length l) (s .long))
+    agree-passed Space (leb IndexLength (length l)) _ _ (le-leb IndexLength (length l) (s .long))
     (agree-check Absent (some (isKeyed k) es) (some (hasKey k) xs) _ _ (same-some xs es (s .files) k) (λ p. fewer xs es (s .files) k)))
 
 -- ---- one call
 
-kept-stands : (xs : List Exposure) (es : List Entry) (l : List ℤ) → Least ≤ length l → Files xs es → Stands xs (keeping es l)
+kept-stands : (xs : List Exposure) (es : List Entry) (l : List ℤ) → IndexLength ≤ length l → Files xs es → Stands xs (keeping es l)
 unfolding keeping
 kept-stands xs es l h f =
     let e : es ≡ entriesIn (keeping es l) = sym (in-keeping es l (f .few) h) in
@@ -229,7 +229,7 @@ does-after (removes k) l = refl
 -- ---- all calls
 
 run : (h : List Call) (rs : List Change) (l n : List ℤ) (xs : List Exposure) → Numbered h → Stands xs l → Runs l h rs n
-    → (map changeGiven rs ≡ answersFrom Share xs h) × Stands (contentFrom Share xs h) n
+    → (map changeGiven rs ≡ answersFrom OwnerCapacity xs h) × Stands (contentFrom OwnerCapacity xs h) n
 unfolding answersFrom contentFrom every
 run [] [] l n xs u s e = (refl, subst (Stands xs) (sym e) s)
 run [] (r ∷ rs) l n xs u s e = absurd e
@@ -237,8 +237,8 @@ run (c ∷ h) [] l n xs u s e = absurd e
 run (c ∷ h) (r ∷ rs) l n xs u s e =
     let m = e .0 in
     let a = agrees c xs l (and-left (numbered c) (every numbered h) u) s in
-    let one = one-call xs l m r s (calling c l) (giving Share c xs) a (e .1 .answer ∙ does-answer c l) (e .1 .list ∙ does-after c l) in
-    let rest = run h rs m n (leaving (giving Share c xs) xs) (and-right (numbered c) (every numbered h) u) (one .1) (e .2) in
+    let one = one-call xs l m r s (calling c l) (giving OwnerCapacity c xs) a (e .1 .answer ∙ does-answer c l) (e .1 .list ∙ does-after c l) in
+    let rest = run h rs m n (leaving (giving OwnerCapacity c xs) xs) (and-right (numbered c) (every numbered h) u) (one .1) (e .2) in
     ((λ i. one .0 i ∷ rest .0 i), rest .1)
 
 -- ---- a withdrawn place
@@ -248,16 +248,16 @@ its-owner : (a b : Bool) → a && (b && a) ≡ b && a
 its-owner true b = refl
 its-owner false b = sym (and-false b)
 
-serves-again : (xs : List Exposure) → ((o : ℕ) → tally (hasOwner o) xs ≤ Share) → ServesAgain xs
+serves-again : (xs : List Exposure) → ((o : ℕ) → tally (hasOwner o) xs ≤ OwnerCapacity) → ServesAgain xs
 serves-again xs few = record {
-  full = λ x w e v o. let f : hasPlace Share (hasOwner (x .owner)) xs ≡ false = le-ltb (tally (hasOwner (x .owner)) xs) Share (omega arith) in rw (w, v, o, f) refl;
+  full = λ x w e v o. let f : hasPlace OwnerCapacity (hasOwner (x .owner)) xs ≡ false = le-ltb (tally (hasOwner (x .owner)) xs) OwnerCapacity (omega arith) in rw (w, v, o, f) refl;
   withdrawn = λ k w p. rw (w, p) refl;
   again = λ k x w same p v o.
       let t : 0 < tally (hasKey k) xs = ltb-true 0 (tally (hasKey k) xs) (sym (some-tally (hasKey k) xs) ∙ p) in
       let own : tally (λ y. hasOwner (k .owner) y && hasKey k y) xs ≡ tally (hasKey k) xs = λ i. tally (λ y. its-owner (hasOwner (k .owner) y) (eqb (y .number) (k .number)) i) xs in
-      let less : tally (hasOwner (k .owner)) (without k xs) < Share =
+      let less : tally (hasOwner (k .owner)) (without k xs) < OwnerCapacity =
       omega (arith, only-tally (hasOwner (k .owner)) (λ y. not (hasKey k y)) xs, parted (hasOwner (k .owner)) (hasKey k) xs, few (k .owner)) in
-      let f : hasPlace Share (hasOwner (x .owner)) (without k xs) ≡ true = subst (λ m. hasPlace Share (hasOwner m) (without k xs) ≡ true) same (lt-ltb (tally (hasOwner (k .owner)) (without k xs)) Share less) in
+      let f : hasPlace OwnerCapacity (hasOwner (x .owner)) (without k xs) ≡ true = subst (λ m. hasPlace OwnerCapacity (hasOwner m) (without k xs) ≡ true) same (lt-ltb (tally (hasOwner (k .owner)) (without k xs)) OwnerCapacity less) in
       let z : isOwner (x .owner) ≡ true = subst (λ m. isOwner m ≡ true) same w in
       rw (z, v, o, f) refl;
 }
@@ -268,28 +268,28 @@ none-files : Files [] []
 unfolding tally
 none-files = record { holds = record { ascends = tt; exactly = λ g. refl }; few = omega arith; share = λ o. omega arith; single = λ n. omega arith; proper = refl }
 
-empty-stands : (l : List ℤ) → Least ≤ length l → getD l 0 (pos 0) ≡ pos 0 → Stands [] l
+empty-stands : (l : List ℤ) → IndexLength ≤ length l → getD l 0 (pos 0) ≡ pos 0 → Stands [] l
 unfolding entriesIn entriesFrom
 empty-stands l h e =
     let none : entriesIn l ≡ [] = ap (λ z. entriesFrom (countOf z) (drop 1 l)) e in
     record { long = h; counted = e ∙ ap (λ x. pos (length x)) (sym none); files = subst (Files []) (sym none) none-files }
 
-empty-index : (l : List ℤ) → Least ≤ length l → getD l 0 (pos 0) ≡ pos 0 → IsEmpty l
+empty-index : (l : List ℤ) → IndexLength ≤ length l → getD l 0 (pos 0) ≡ pos 0 → IsEmpty l
 unfolding entriesIn entriesFrom
 empty-index l h e = (is-index [] l (empty-stands l h e), ap (λ z. entriesFrom (countOf z) (drop 1 l)) e)
 
 is-empty : (l : List ℤ) → IsEmpty l → Stands [] l
 is-empty l e = empty-stands l (e .0 .long) (e .0 .counted ∙ ap (λ x. pos (length x)) (e .1))
 
-zeros-first : (l : List ℤ) → Least ≤ length l → every (eqZ (pos 0)) l ≡ true → getD l 0 (pos 0) ≡ pos 0
+zeros-first : (l : List ℤ) → IndexLength ≤ length l → every (eqZ (pos 0)) l ≡ true → getD l 0 (pos 0) ≡ pos 0
 unfolding every
 zeros-first [] h e = absurd (omega arith)
 zeros-first (z ∷ l) h e = sym (eqZ-eq (pos 0) z (and-left (eqZ (pos 0) z) (every (eqZ (pos 0)) l) e))
 
-begins : (l : List ℤ) → Least ≤ length l → (beginAnswer l ≡ gives tt) × IsEmpty (beginAfter l)
+begins : (l : List ℤ) → IndexLength ≤ length l → (beginAnswer l ≡ gives tt) × IsEmpty (beginAfter l)
 unfolding beginAnswer beginAfter keeping
 begins l h =
-    let t : leb Least (length l) ≡ true = le-leb Least (length l) h in
+    let t : leb IndexLength (length l) ≡ true = le-leb IndexLength (length l) h in
     let after : IsEmpty (keeping [] l) = empty-index (keeping [] l) (keeping-long [] l (omega arith) h) refl in
     (rw t refl, rw t after)
 
@@ -298,16 +298,16 @@ begins l h =
 counts : (xs : List Exposure) (n : List ℤ) → Stands xs n → countAnswer n ≡ gives (length xs)
 unfolding countAnswer
 counts xs n s =
-    let t : leb Least (length n) ≡ true = le-leb Least (length n) (s .long) in
+    let t : leb IndexLength (length n) ≡ true = le-leb IndexLength (length n) (s .long) in
     rw t (ap gives (sym (length-in n) ∙ as-many xs (entriesIn n) (s .files)))
 
-pub history-kept : Kept
+pub history-kept : HistoryCorrect
 history-kept = record {
   zeros = λ l h e. empty-index l h (zeros-first l h e);
   begun = begins;
   kept = λ l n h rs e u runs.
       let o = run h rs l n [] u (is-empty l e) runs in
-      let xs = contentOf Share h in
+      let xs = contentOf OwnerCapacity h in
       record { answers = o .0; index = is-index xs n (o .1); content = o .1 .files .holds; count = counts xs n (o .1); again = serves-again xs (o .1 .files .share) };
   room = room-left;
 }

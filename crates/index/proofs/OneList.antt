@@ -15,7 +15,7 @@ use Rattle.vector.specs.declared.Vec3.{Vec3}
 use Rattle.vector.specs.Numbers.{eqZ}
 use Rattle.index.specs.declared.Entry.{Entry}
 use Rattle.index.specs.Entries.{byNumber, precedes}
-use Rattle.index.specs.Kept.{Ascends}
+use Rattle.index.specs.HistoryCorrect.{Ascends}
 use Rattle.index.proofs.TallyLaws.{some-tally}
 use Rattle.index.proofs.OrderLaws.{eqZ-eq, eqZ-refl, goes-on, precedes-all, tail-ascends}
 

@@ -13,7 +13,7 @@ use Rattle.vector.specs.Numbers.{eqZ}
 use Rattle.index.specs.declared.Entry.{Entry}
 use Rattle.index.specs.Exposures.{Exposure, Key, keyOf, only}
 use Rattle.index.specs.Entries.{entryOf, below, byNumber, precedes, isKeyed, inserted, withdrawn}
-use Rattle.index.specs.Kept.{Ascends}
+use Rattle.index.specs.HistoryCorrect.{Ascends}
 
 -- ---- of numbers
 

@@ -13,9 +13,9 @@ use Rattle.algebra.proofs.Tests.{split}
 use Rattle.answer.specs.Answer.{Answer, refused, gives, check, with-value, Vector, Twice, Full, Absent, Owner}
 use Rattle.vector.specs.Vectors.{isVector}
 use Rattle.index.specs.declared.Change.{Change}
-use Rattle.index.specs.Exposures.{Share, isOwner, Exposure, Key, keyOf, hasOwner, hasKey, only, hasPlace, Call, adds, removes, without, giving, leaving, answered, contentFrom, contentOf, answersFrom}
+use Rattle.index.specs.Exposures.{OwnerCapacity, isOwner, Exposure, Key, keyOf, hasOwner, hasKey, only, hasPlace, Call, adds, removes, without, giving, leaving, answered, contentFrom, contentOf, answersFrom}
 use Rattle.index.specs.Entries.{entryOf, isOwned, entriesIn}
-use Rattle.index.specs.Kept.{Leaves}
+use Rattle.index.specs.HistoryCorrect.{Leaves}
 use Rattle.index.specs.Apart.{ownerOf, callsOf, answersTo, Ran, Apart, OwnEntries, SameEntries}
 use Rattle.index.proofs.TallyLaws.{some-tally, only-tally}
 use Rattle.index.proofs.OrderLaws.{only-ascends}
@@ -82,8 +82,8 @@ module _ (o : ℕ) where
   same-some : (k : Key) → k .owner ≡ o → (xs : List Exposure) → some (hasKey k) (own xs) ≡ some (hasKey k) xs
   same-some k e xs = some-tally (hasKey k) (own xs) ∙ ap (ltb 0) (only-tally (hasKey k) (hasOwner o) xs ∙ (λ i. tally (λ x. own-key k e x i) xs)) ∙ sym (some-tally (hasKey k) xs)
 
-  same-place : (xs : List Exposure) → hasPlace Share (hasOwner o) (own xs) ≡ hasPlace Share (hasOwner o) xs
-  same-place xs = ap (λ n. ltb n Share) (only-tally (hasOwner o) (hasOwner o) xs ∙ (λ i. tally (λ x. and-self (hasOwner o x) i) xs))
+  same-place : (xs : List Exposure) → hasPlace OwnerCapacity (hasOwner o) (own xs) ≡ hasPlace OwnerCapacity (hasOwner o) xs
+  same-place xs = ap (λ n. ltb n OwnerCapacity) (only-tally (hasOwner o) (hasOwner o) xs ∙ (λ i. tally (λ x. and-self (hasOwner o x) i) xs))
 
   own-without : (k : Key) (xs : List Exposure) → without k (own xs) ≡ own (without k xs)
   own-without k xs =
@@ -94,15 +94,15 @@ module _ (o : ℕ) where
 
   -- ---- a call of the owner
 
-  own-call : (c : Call) → eqb (ownerOf c) o ≡ true → (xs : List Exposure) → giving Share c (own xs) ≡ with-value own (giving Share c xs)
+  own-call : (c : Call) → eqb (ownerOf c) o ≡ true → (xs : List Exposure) → giving OwnerCapacity c (own xs) ≡ with-value own (giving OwnerCapacity c xs)
   own-call (adds x) e xs =
       let is : x .owner ≡ o = eqb-true (x .owner) o e in
       let w = isOwner (x .owner) in
       let v = isVector (x .pointing) in
       let s = some (hasKey (keyOf x)) xs in
-      let p = hasPlace Share (hasOwner (x .owner)) xs in
+      let p = hasPlace OwnerCapacity (hasOwner (x .owner)) xs in
       let twice : some (hasKey (keyOf x)) (own xs) ≡ s = same-some (keyOf x) is xs in
-      let full : hasPlace Share (hasOwner (x .owner)) (own xs) ≡ p = subst (λ m. hasPlace Share (hasOwner m) (own xs) ≡ hasPlace Share (hasOwner m) xs) (sym is) (same-place xs) in
+      let full : hasPlace OwnerCapacity (hasOwner (x .owner)) (own xs) ≡ p = subst (λ m. hasPlace OwnerCapacity (hasOwner m) (own xs) ≡ hasPlace OwnerCapacity (hasOwner m) xs) (sym is) (same-place xs) in
       (λ i. check Owner w (check Vector v (check Twice (not (twice i)) (check Full (full i) (gives (sym (own-first x xs e) i))))))
       ∙ sym (value-check own Owner w _ ∙ ap (check Owner w) (value-check own Vector v _ ∙ ap (check Vector v) (value-check own Twice (not s) _ ∙ ap (check Twice (not s)) (value-check own Full p _))))
   own-call (removes k) e xs =
@@ -118,47 +118,47 @@ module _ (o : ℕ) where
   still n true a xs e = e
   still n false a xs e = refl
 
-  other-call : (c : Call) → eqb (ownerOf c) o ≡ false → (xs : List Exposure) → own (leaving (giving Share c xs) xs) ≡ own xs
+  other-call : (c : Call) → eqb (ownerOf c) o ≡ false → (xs : List Exposure) → own (leaving (giving OwnerCapacity c xs) xs) ≡ own xs
   other-call (adds x) d xs =
       still Owner (isOwner (x .owner)) _ xs
       (still Vector (isVector (x .pointing)) _ xs
       (still Twice (not (some (hasKey (keyOf x)) xs)) _ xs
-      (still Full (hasPlace Share (hasOwner (x .owner)) xs) _ xs
+      (still Full (hasPlace OwnerCapacity (hasOwner (x .owner)) xs) _ xs
       (other-first x xs d))))
   other-call (removes k) d xs = still Owner (isOwner (k .owner)) _ xs (still Absent (some (hasKey k) xs) _ xs (other-without k d xs))
 
   -- ---- all calls: as if the owner's were made alone
 
   after : Call → List Exposure → List Exposure
-  after c xs = leaving (giving Share c xs) xs
+  after c xs = leaving (giving OwnerCapacity c xs) xs
 
-  own-after : (c : Call) → eqb (ownerOf c) o ≡ true → (xs : List Exposure) → own (after c xs) ≡ leaving (giving Share c (own xs)) (own xs)
+  own-after : (c : Call) → eqb (ownerOf c) o ≡ true → (xs : List Exposure) → own (after c xs) ≡ leaving (giving OwnerCapacity c (own xs)) (own xs)
   unfolding after
-  own-after c e xs = sym (same-left own (giving Share c xs) xs) ∙ ap (λ a. leaving a (own xs)) (sym (own-call c e xs))
+  own-after c e xs = sym (same-left own (giving OwnerCapacity c xs) xs) ∙ ap (λ a. leaving a (own xs)) (sym (own-call c e xs))
 
-  answers-alone : (h : List Call) (xs : List Exposure) → answersTo o h (answersFrom Share xs h) ≡ answersFrom Share (own xs) (callsOf o h)
+  answers-alone : (h : List Call) (xs : List Exposure) → answersTo o h (answersFrom OwnerCapacity xs h) ≡ answersFrom OwnerCapacity (own xs) (callsOf o h)
   unfolding answersTo answersFrom only after
   answers-alone [] xs = refl
   answers-alone (c ∷ h) xs = by-test (eqb (ownerOf c) o) refl (answers-alone h (after c xs))
     where
-      by-test : (t : Bool) → eqb (ownerOf c) o ≡ t → answersTo o h (answersFrom Share (after c xs) h) ≡ answersFrom Share (own (after c xs)) (callsOf o h)
-          → cond t (answered (giving Share c xs) ∷ answersTo o h (answersFrom Share (after c xs) h)) (answersTo o h (answersFrom Share (after c xs) h))
-          ≡ answersFrom Share (own xs) (cond t (c ∷ callsOf o h) (callsOf o h))
+      by-test : (t : Bool) → eqb (ownerOf c) o ≡ t → answersTo o h (answersFrom OwnerCapacity (after c xs) h) ≡ answersFrom OwnerCapacity (own (after c xs)) (callsOf o h)
+          → cond t (answered (giving OwnerCapacity c xs) ∷ answersTo o h (answersFrom OwnerCapacity (after c xs) h)) (answersTo o h (answersFrom OwnerCapacity (after c xs) h))
+          ≡ answersFrom OwnerCapacity (own xs) (cond t (c ∷ callsOf o h) (callsOf o h))
       by-test true e r =
-          let first : answered (giving Share c xs) ≡ answered (giving Share c (own xs)) = sym (same-answer own (giving Share c xs)) ∙ ap answered (sym (own-call c e xs)) in
-          let rest = r ∙ ap (λ ys. answersFrom Share ys (callsOf o h)) (own-after c e xs) in
+          let first : answered (giving OwnerCapacity c xs) ≡ answered (giving OwnerCapacity c (own xs)) = sym (same-answer own (giving OwnerCapacity c xs)) ∙ ap answered (sym (own-call c e xs)) in
+          let rest = r ∙ ap (λ ys. answersFrom OwnerCapacity ys (callsOf o h)) (own-after c e xs) in
           λ i. first i ∷ rest i
-      by-test false e r = r ∙ ap (λ ys. answersFrom Share ys (callsOf o h)) (other-call c e xs)
+      by-test false e r = r ∙ ap (λ ys. answersFrom OwnerCapacity ys (callsOf o h)) (other-call c e xs)
 
-  content-alone : (h : List Call) (xs : List Exposure) → own (contentFrom Share xs h) ≡ contentFrom Share (own xs) (callsOf o h)
+  content-alone : (h : List Call) (xs : List Exposure) → own (contentFrom OwnerCapacity xs h) ≡ contentFrom OwnerCapacity (own xs) (callsOf o h)
   unfolding contentFrom only after
   content-alone [] xs = refl
   content-alone (c ∷ h) xs = by-test (eqb (ownerOf c) o) refl (content-alone h (after c xs))
     where
-      by-test : (t : Bool) → eqb (ownerOf c) o ≡ t → own (contentFrom Share (after c xs) h) ≡ contentFrom Share (own (after c xs)) (callsOf o h)
-          → own (contentFrom Share (after c xs) h) ≡ contentFrom Share (own xs) (cond t (c ∷ callsOf o h) (callsOf o h))
-      by-test true e r = r ∙ ap (λ ys. contentFrom Share ys (callsOf o h)) (own-after c e xs)
-      by-test false e r = r ∙ ap (λ ys. contentFrom Share ys (callsOf o h)) (other-call c e xs)
+      by-test : (t : Bool) → eqb (ownerOf c) o ≡ t → own (contentFrom OwnerCapacity (after c xs) h) ≡ contentFrom OwnerCapacity (own (after c xs)) (callsOf o h)
+          → own (contentFrom OwnerCapacity (after c xs) h) ≡ contentFrom OwnerCapacity (own xs) (cond t (c ∷ callsOf o h) (callsOf o h))
+      by-test true e r = r ∙ ap (λ ys. contentFrom OwnerCapacity ys (callsOf o h)) (own-after c e xs)
+      by-test false e r = r ∙ ap (λ ys. contentFrom OwnerCapacity ys (callsOf o h)) (other-call c e xs)
 
 -- ---- the statements
 
@@ -168,14 +168,14 @@ leaves {h} {rs} {n} r = history-kept .kept (r .start) n h rs (r .empty) (r .numb
 pub owners-apart : Apart
 unfolding only
 owners-apart o h g rs qs m n r q e =
-    ap (answersTo o h) (leaves r .answers) ∙ answers-alone o h [] ∙ ap (answersFrom Share []) e ∙ sym (answers-alone o g []) ∙ ap (answersTo o g) (sym (leaves q .answers))
+    ap (answersTo o h) (leaves r .answers) ∙ answers-alone o h [] ∙ ap (answersFrom OwnerCapacity []) e ∙ sym (answers-alone o g []) ∙ ap (answersTo o g) (sym (leaves q .answers))
 
 pub own-entries : OwnEntries
 unfolding only
 own-entries o h rs n r =
     let c = leaves r .content in
     let es = entriesIn n in
-    let xs = contentOf Share h in
+    let xs = contentOf OwnerCapacity h in
     record {
       ascends = only-ascends (isOwned o) es (c .ascends);
       exactly = λ f.
@@ -190,4 +190,4 @@ same-entries o h g rs qs m n r q e =
     let a = own-entries o h rs m r in
     let b = own-entries o g qs n q in
     one-list (only (isOwned o) (entriesIn m)) (only (isOwned o) (entriesIn n)) (a .ascends) (b .ascends)
-    (λ f. a .exactly f ∙ ap (λ k. tally (λ x. f (entryOf x)) (contentOf Share k)) e ∙ sym (b .exactly f))
+    (λ f. a .exactly f ∙ ap (λ k. tally (λ x. f (entryOf x)) (contentOf OwnerCapacity k)) e ∙ sym (b .exactly f))

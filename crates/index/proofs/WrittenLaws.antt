@@ -9,8 +9,8 @@ use lib.IntN.{ℤ, pos, negsuc}
 use Rattle.answer.specs.Answer.{gives, Space}
 use Rattle.answer.proofs.AnswerLaws.{check-gives, same-value}
 use Rattle.index.specs.declared.Entry.{Entry}
-use Rattle.index.specs.Exposures.{Most}
-use Rattle.index.specs.Entries.{Width, Least, countOf, countIn, entriesFrom, entriesIn, written, keeping}
+use Rattle.index.specs.Exposures.{IndexCapacity}
+use Rattle.index.specs.Entries.{Width, IndexLength, countOf, countIn, entriesFrom, entriesIn, written, keeping}
 use Rattle.index.specs.Answers.{countAnswer}
 
 pub length-entries : (n : ℕ) (l : List ℤ) → length (entriesFrom n l) ≡ n
@@ -29,14 +29,14 @@ length-written [] l h = refl
 length-written (e ∷ es) l h = omega (arith, length-written es (drop Width l) (omega (arith, length-drop Width l)), length-drop Width l)
 
 -- an index keeps its length, and its entries are those that it was given
-module _ (es : List Entry) (l : List ℤ) (few : length es ≤ Most) (long : Least ≤ length l) where
-  pub keeping-long : Least ≤ length (keeping es l)
+module _ (es : List Entry) (l : List ℤ) (few : length es ≤ IndexCapacity) (long : IndexLength ≤ length l) where
+  pub keeping-long : IndexLength ≤ length (keeping es l)
   unfolding keeping
   keeping-long = omega (arith, length-written es (drop 1 l) (omega (arith, length-drop 1 l)), length-drop 1 l)
 
   pub in-keeping : entriesIn (keeping es l) ≡ es
   unfolding keeping entriesIn
-  in-keeping = let e : min (length es) Most ≡ length es = omega arith in ap (λ n. entriesFrom n (written es (drop 1 l))) e ∙ in-written es (drop 1 l)
+  in-keeping = let e : min (length es) IndexCapacity ≡ length es = omega arith in ap (λ n. entriesFrom n (written es (drop 1 l))) e ∙ in-written es (drop 1 l)
 
 pub length-in : (l : List ℤ) → length (entriesIn l) ≡ countIn l
 unfolding entriesIn
@@ -44,10 +44,10 @@ length-in l = length-entries (countIn l) (drop 1 l)
 
 -- ---- the count of a list is no more than the most
 
-few : (z : ℤ) → countOf z ≤ Most
+few : (z : ℤ) → countOf z ≤ IndexCapacity
 few (pos n) = omega arith
 few (negsuc n) = omega arith
 
-pub count-few : (l : List ℤ) (n : ℕ) → countAnswer l ≡ gives n → n ≤ Most
+pub count-few : (l : List ℤ) (n : ℕ) → countAnswer l ≡ gives n → n ≤ IndexCapacity
 unfolding countAnswer
-count-few l n e = omega (arith, few (getD l 0 (pos 0)), same-value (countIn l) n (check-gives Space (leb Least (length l)) (gives (countIn l)) n e))
+count-few l n e = omega (arith, few (getD l 0 (pos 0)), same-value (countIn l) n (check-gives Space (leb IndexLength (length l)) (gives (countIn l)) n e))

@@ -1,4 +1,4 @@
--- What the calls answer, and what they leave in the lent list. Document 02, F-10 and F-11. An owner is checked before all else. A list of fewer than Least
+-- What the calls answer, and what they leave in the lent list. Document 02, F-10 and F-11. An owner is checked before all else. A list of fewer than IndexLength
 -- elements is no index, and refused as space, 10; of any other the entries are those that `entriesIn` reads, also where no history leaves it.
 --   adding x l, removing k l, beginning l   the entries after the call, or its refusal: 18, 8, 10, 15, 16; 18, 10, 17; 10
 --   addAnswer, removeAnswer, beginAnswer    what the call answers: that it was done, or its refusal
@@ -18,11 +18,11 @@ use Rattle.index.specs.declared.Entry.{Entry}
 use Rattle.index.specs.declared.Change.{Change}
 use Rattle.index.specs.declared.EntryOf.{EntryOf}
 use Rattle.index.specs.Exposures.{isOwner, Exposure, Key, keyOf, answered}
-use Rattle.index.specs.Entries.{Least, entryOf, countIn, entriesIn, keeping, entering, withdrawing, placed}
+use Rattle.index.specs.Entries.{IndexLength, entryOf, countIn, entriesIn, keeping, entering, withdrawing, placed}
 
 -- what is answered on a list that is long enough
 abbrev pub inList : {A : Type 0} → List ℤ → Answer A → Answer A
-inList l a = check Space (leb Least (length l)) a
+inList l a = check Space (leb IndexLength (length l)) a
 
 abbrev pub adding : Exposure → List ℤ → Answer (List Entry)
 adding x l = check Owner (isOwner (x .owner)) (check Vector (isVector (x .pointing)) (inList l (entering (keyOf x) (entryOf x) (entriesIn l))))

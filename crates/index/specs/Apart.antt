@@ -14,10 +14,10 @@ use mathlib.Core.List.{List, [], _∷_, map}
 use lib.Dec.{eqb}
 use lib.IntN.{ℤ}
 use Rattle.index.specs.declared.Change.{Change}
-use Rattle.index.specs.Exposures.{Share, only, Call, adds, removes, contentOf}
+use Rattle.index.specs.Exposures.{OwnerCapacity, only, Call, adds, removes, contentOf}
 use Rattle.index.specs.Entries.{isOwned, entriesIn}
 use Rattle.index.specs.Answers.{changeGiven}
-use Rattle.index.specs.Kept.{Holds, IsEmpty, Runs, Numbered}
+use Rattle.index.specs.HistoryCorrect.{Holds, IsEmpty, Runs, Numbered}
 
 abbrev pub ownerOf : Call → ℕ
 ownerOf (adds x) = x .owner
@@ -42,7 +42,7 @@ Apart = (o : ℕ) (h g : List Call) (rs qs : List Change) (m n : List ℤ) → R
     → answersTo o h (map changeGiven rs) ≡ answersTo o g (map changeGiven qs)
 
 abbrev pub OwnEntries : Type 0
-OwnEntries = (o : ℕ) (h : List Call) (rs : List Change) (n : List ℤ) → Ran h rs n → Holds (contentOf Share (callsOf o h)) (only (isOwned o) (entriesIn n))
+OwnEntries = (o : ℕ) (h : List Call) (rs : List Change) (n : List ℤ) → Ran h rs n → Holds (contentOf OwnerCapacity (callsOf o h)) (only (isOwned o) (entriesIn n))
 
 abbrev pub SameEntries : Type 0
 SameEntries = (o : ℕ) (h g : List Call) (rs qs : List Change) (m n : List ℤ) → Ran h rs m → Ran g qs n → callsOf o h ≡ callsOf o g

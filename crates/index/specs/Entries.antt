@@ -7,10 +7,10 @@
 --   isOwned o e       e is an entry of the owner o
 --   isKeyed k e       e is the entry of the exposure with the key k
 --   Width, numbers e  how many numbers an entry has, and which, as they stand in the list
---   Least             the fewest elements of a list that is lent for an index
+--   IndexLength       the fewest elements of a list that is lent for an index
 --   entryAt l k       the entry whose numbers begin at element k of the list l
 --   entriesFrom n l   the first n entries of a list l without count
---   countIn l         the count that the list l says: none where it is below 0, and no more than Most
+--   countIn l         the count that the list l says: none where it is below 0, and no more than IndexCapacity
 --   entriesIn l       the entries in the list l
 --   written es l      the list l without count with the entries es at its front; the other elements stay
 --   keeping es l      the list l with the entries es in the place of its own
@@ -33,7 +33,7 @@ use Rattle.vector.specs.Numbers.{eqZ}
 use Rattle.vector.specs.Vectors.{vec, three}
 use Rattle.mesh.specs.Lookup.{identifier}
 use Rattle.index.specs.declared.Entry.{Entry}
-use Rattle.index.specs.Exposures.{Most, Share, Exposure, Key, hasPlace}
+use Rattle.index.specs.Exposures.{IndexCapacity, OwnerCapacity, Exposure, Key, hasPlace}
 
 abbrev pub entry : ℤ → ℤ → ℤ → Vec3 → Entry
 entry id number owner pointing = record { id = id; number = number; owner = owner; pointing = pointing }
@@ -62,8 +62,8 @@ isKeyed k e = eqZ (e .number) (pos (k .number)) && isOwned (k .owner) e
 abbrev pub Width : ℕ
 Width = 6
 
-abbrev pub Least : ℕ
-Least = 1 + Width * Most
+abbrev pub IndexLength : ℕ
+IndexLength = 1 + Width * IndexCapacity
 
 abbrev pub numbers : Entry → List ℤ
 numbers e = e .id ∷ e .number ∷ e .owner ∷ three (e .pointing)
@@ -77,7 +77,7 @@ entriesFrom zero l = []
 entriesFrom (suc n) l = entryAt l 0 ∷ entriesFrom n (drop Width l)
 
 abbrev pub countOf : ℤ → ℕ
-countOf (pos n) = min n Most
+countOf (pos n) = min n IndexCapacity
 countOf (negsuc n) = 0
 
 abbrev pub countIn : List ℤ → ℕ
@@ -105,12 +105,12 @@ withdrawn k (x ∷ es) = cond (isKeyed k x) es (x ∷ withdrawn k es)
 
 -- In an index this is so wherever the entry's owner has a place (`Kept .room`); it is asked for the sake of other lists.
 abbrev pub hasRoom : List Entry → Bool
-hasRoom es = ltb (length es) Most
+hasRoom es = ltb (length es) IndexCapacity
 
 -- the entry e of the exposure with the key k
 abbrev pub entering : Key → Entry → List Entry → Answer (List Entry)
 entering k e es =
-    check Twice (not (some (isKeyed k) es)) (check Full (hasPlace Share (isOwned (k .owner)) es) (check Full (hasRoom es) (gives (inserted e es))))
+    check Twice (not (some (isKeyed k) es)) (check Full (hasPlace OwnerCapacity (isOwned (k .owner)) es) (check Full (hasRoom es) (gives (inserted e es))))
 
 abbrev pub withdrawing : Key → List Entry → Answer (List Entry)
 withdrawing k es = check Absent (some (isKeyed k) es) (gives (withdrawn k es))

@@ -1,7 +1,7 @@
 -- Exposures of two owners, and what a history of adds and removes leaves. Document 02, F-10: up to 2048 exposures, each an unsigned 32-bit number and a
 -- pointing, added and removed singly; over every list of adds and removes from an empty index, the content is the set that the accepted ones leave.
 -- F-11: an owner, 0 or 1, who may have 1024; one number may be used by both.
---   Most, Share       the most exposures that an index holds, and the most of one owner
+--   IndexCapacity, OwnerCapacity   the most exposures that an index holds, and the most of one owner
 --   isOwner o         0 or 1
 --   Exposure          an owner, a number and a pointing; exposed o n p, exposure o n x y z: the one of these
 --   isNumber n        an unsigned 32-bit number
@@ -25,11 +25,11 @@ use Rattle.answer.specs.Answer.{Answer, refused, gives, check, with-value, Vect
 use Rattle.vector.specs.declared.Vec3.{Vec3}
 use Rattle.vector.specs.Vectors.{vec, isVector}
 
-abbrev pub Most : ℕ
-Most = 2048
+abbrev pub IndexCapacity : ℕ
+IndexCapacity = 2048
 
-abbrev pub Share : ℕ
-Share = 1024
+abbrev pub OwnerCapacity : ℕ
+OwnerCapacity = 1024
 
 abbrev pub isOwner : ℕ → Bool
 isOwner o = ltb o 2

@@ -1,5 +1,5 @@
 pub mod Exposures
 pub mod Entries
 pub mod Answers
-pub mod Kept
+pub mod HistoryCorrect
 pub mod Apart

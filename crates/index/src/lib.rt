@@ -2,10 +2,10 @@
 use vector::Vec3;
 
 // The most entries that an index holds.
-pub const MOST: usize = 2048;
+pub const INDEX_CAPACITY: usize = 2048;
 
 // The most entries of one owner.
-pub const SHARE: usize = 1024;
+pub const OWNER_CAPACITY: usize = 1024;
 
 // How many owners there are: 0 and 1.
 pub const OWNERS: u32 = 2;
@@ -14,7 +14,7 @@ pub const OWNERS: u32 = 2;
 pub const WIDTH: usize = 6;
 
 // The fewest elements of a list that is lent for an index: its count, and then the entries.
-pub const LEAST: usize = 1 + WIDTH * MOST;
+pub const INDEX_LENGTH: usize = 1 + WIDTH * INDEX_CAPACITY;
 
 // An exposure as it stands in the index: its identifier at depth 12, its number, its owner and its pointing.
 pub struct Entry {

@@ -19,8 +19,8 @@ use Rattle.answer.specs.Lent.{put}
 use Rattle.index.specs.declared.Entry.{Entry}
 use Rattle.index.specs.declared.Change.{Change}
 use Rattle.index.specs.declared.Change.the-variants.{Made, Refused}
-use Rattle.index.specs.Exposures.{Most, Share, Exposure, Key, hasPlace}
-use Rattle.index.specs.Entries.{Width, Least, numbers, entryAt, precedes, isOwned, isKeyed, countIn, entriesFrom, entriesIn, written, keeping, inserted, withdrawn, hasRoom, entering, withdrawing, placed}
+use Rattle.index.specs.Exposures.{IndexCapacity, OwnerCapacity, Exposure, Key, hasPlace}
+use Rattle.index.specs.Entries.{Width, IndexLength, numbers, entryAt, precedes, isOwned, isKeyed, countIn, entriesFrom, entriesIn, written, keeping, inserted, withdrawn, hasRoom, entering, withdrawing, placed}
 use Rattle.index.specs.Answers.{inList, beginning, adding, removing, beginAnswer, beginAfter, addAnswer, addAfter, removeAnswer, removeAfter, countAnswer, entryAnswer, changeGiven}
 use Rattle.index.proofs.WrittenLaws.{length-entries}
 use Rattle.index_entries.specs.Steps.{leading, staying, raised, lowered}
@@ -53,20 +53,20 @@ no-owner t a l e = record { answer = rw e refl; list = rw e refl }
 pub of-owner : {t : Bool} {a : Answer (List Entry)} {l m : List ℤ} {r : Change} → t ≡ true → Done a l m r → Done (check Owner t a) l m r
 of-owner e d = rw e d
 
-pub too-short : (l : List ℤ) (a : Answer (List Entry)) → length l < Least → Done (inList l a) l l (Refused Space)
-too-short l a h = let e : leb Least (length l) ≡ false = lt-leb Least (length l) h in record { answer = rw e refl; list = rw e refl }
+pub too-short : (l : List ℤ) (a : Answer (List Entry)) → length l < IndexLength → Done (inList l a) l l (Refused Space)
+too-short l a h = let e : leb IndexLength (length l) ≡ false = lt-leb IndexLength (length l) h in record { answer = rw e refl; list = rw e refl }
 
-pub begun : (l : List ℤ) → Least ≤ length l → Done (beginning l) l (set l 0 (pos 0)) Made
+pub begun : (l : List ℤ) → IndexLength ≤ length l → Done (beginning l) l (set l 0 (pos 0)) Made
 unfolding keeping written
 begun [] h = absurd (omega arith)
-begun (c ∷ l) h = let e : leb Least (length (c ∷ l)) ≡ true = le-leb Least (length (c ∷ l)) h in record { answer = rw e refl; list = rw e refl }
+begun (c ∷ l) h = let e : leb IndexLength (length (c ∷ l)) ≡ true = le-leb IndexLength (length (c ∷ l)) h in record { answer = rw e refl; list = rw e refl }
 
 -- a count, stored by its bits
-whole : (n : ℕ) → n ≤ Most → toZ w64 n ≡ pos n
+whole : (n : ℕ) → n ≤ IndexCapacity → toZ w64 n ≡ pos n
 whole n h = nat h tt .eq
 
 -- on a list that is long enough, by the count n that was read
-module _ (l : List ℤ) (n : ℕ) (long : Least ≤ length l) (is : n ≡ countIn l) where
+module _ (l : List ℤ) (n : ℕ) (long : IndexLength ≤ length l) (is : n ≡ countIn l) where
   read : entriesFrom n (drop 1 l) ≡ entriesIn l
   unfolding entriesIn
   read = ap (λ k. entriesFrom k (drop 1 l)) is
@@ -83,14 +83,14 @@ module _ (l : List ℤ) (n : ℕ) (long : Least ≤ length l) (is : n ≡ countI
   module _ (k : Key) (i : ℕ) (s : i ≡ leading (λ e. not (isKeyed k e)) (entriesFrom n (drop 1 l))) where
     pub is-twice : (e : Entry) → i < n → Done (inList l (entering k e (entriesIn l))) l l (Refused Twice)
     is-twice e h =
-        let a : leb Least (length l) ≡ true = le-leb Least (length l) long in
+        let a : leb IndexLength (length l) ≡ true = le-leb IndexLength (length l) long in
         let b : some (isKeyed k) (entriesIn l) ≡ true = sym (searched k i s) ∙ lt-ltb i n h in
         record { answer = rw (a, b) refl; list = rw (a, b) refl }
 
     -- the search ended without the key, and counted the owner's
     module _ (e : Entry) (w : ℕ) (past : n ≤ i) (c : w ≡ tally (isOwned (k .owner)) (entriesFrom n (drop 1 l))) where
-      a : leb Least (length l) ≡ true
-      a = le-leb Least (length l) long
+      a : leb IndexLength (length l) ≡ true
+      a = le-leb IndexLength (length l) long
 
       b : some (isKeyed k) (entriesIn l) ≡ false
       b = sym (searched k i s) ∙ le-ltb i n past
@@ -98,26 +98,26 @@ module _ (l : List ℤ) (n : ℕ) (long : Least ≤ length l) (is : n ≡ countI
       owned : tally (isOwned (k .owner)) (entriesIn l) ≡ w
       owned = ap (tally (isOwned (k .owner))) (sym read) ∙ sym c
 
-      pub is-full : Share ≤ w → Done (inList l (entering k e (entriesIn l))) l l (Refused Full)
+      pub is-full : OwnerCapacity ≤ w → Done (inList l (entering k e (entriesIn l))) l l (Refused Full)
       is-full f =
-          let g : hasPlace Share (isOwned (k .owner)) (entriesIn l) ≡ false = ap (λ m. ltb m Share) owned ∙ le-ltb w Share f in
+          let g : hasPlace OwnerCapacity (isOwned (k .owner)) (entriesIn l) ≡ false = ap (λ m. ltb m OwnerCapacity) owned ∙ le-ltb w OwnerCapacity f in
           record { answer = rw (a, b, g) refl; list = rw (a, b, g) refl }
 
-      module _ (f : w < Share) where
-        place : hasPlace Share (isOwned (k .owner)) (entriesIn l) ≡ true
-        place = ap (λ m. ltb m Share) owned ∙ lt-ltb w Share f
+      module _ (f : w < OwnerCapacity) where
+        place : hasPlace OwnerCapacity (isOwned (k .owner)) (entriesIn l) ≡ true
+        place = ap (λ m. ltb m OwnerCapacity) owned ∙ lt-ltb w OwnerCapacity f
 
-        pub no-room : Most ≤ n → Done (inList l (entering k e (entriesIn l))) l l (Refused Full)
+        pub no-room : IndexCapacity ≤ n → Done (inList l (entering k e (entriesIn l))) l l (Refused Full)
         no-room h =
-            let g : hasRoom (entriesIn l) ≡ false = le-ltb (length (entriesIn l)) Most (omega (arith, entries)) in
+            let g : hasRoom (entriesIn l) ≡ false = le-ltb (length (entriesIn l)) IndexCapacity (omega (arith, entries)) in
             record { answer = rw (a, b, place, g) refl; list = rw (a, b, place, g) refl }
 
-        pub is-entered : (p : ℕ) (u v : List ℤ) → n < Most → p ≡ staying (precedes e) (entriesFrom n (drop 1 l)) → p ≤ n
+        pub is-entered : (p : ℕ) (u v : List ℤ) → n < IndexCapacity → p ≡ staying (precedes e) (entriesFrom n (drop 1 l)) → p ≤ n
             → u ≡ raised (1 + Width * p) l (Width * (n - p)) → v ≡ put (1 + Width * p) (numbers e) u
             → Done (inList l (entering k e (entriesIn l))) l (set v 0 (toZ w64 (n + 1))) Made
         unfolding keeping
         is-entered p u v h q g x y =
-            let r : hasRoom (entriesIn l) ≡ true = lt-ltb (length (entriesIn l)) Most (omega (arith, entries)) in
+            let r : hasRoom (entriesIn l) ≡ true = lt-ltb (length (entriesIn l)) IndexCapacity (omega (arith, entries)) in
             let es = entriesFrom n (drop 1 l) in
             let t : take p es ++ e ∷ drop p es ≡ inserted e (entriesIn l) = ap (λ j. take j es ++ e ∷ drop j es) q ∙ inserted-at e es ∙ ap (inserted e) read in
             let m : n + 1 ≡ length (take p es ++ e ∷ drop p es) =
@@ -132,14 +132,14 @@ module _ (l : List ℤ) (n : ℕ) (long : Least ≤ length l) (is : n ≡ countI
 
     pub is-absent : n ≤ i → Done (inList l (withdrawing k (entriesIn l))) l l (Refused Absent)
     is-absent h =
-        let a : leb Least (length l) ≡ true = le-leb Least (length l) long in
+        let a : leb IndexLength (length l) ≡ true = le-leb IndexLength (length l) long in
         let b : some (isKeyed k) (entriesIn l) ≡ false = sym (searched k i s) ∙ le-ltb i n h in
         record { answer = rw (a, b) refl; list = rw (a, b) refl }
 
-    pub is-removed : (u : List ℤ) → i < n → n ≤ Most → u ≡ lowered (1 + Width * i) l (Width * (n - 1 - i)) → Done (inList l (withdrawing k (entriesIn l))) l (set u 0 (toZ w64 (n - 1))) Made
+    pub is-removed : (u : List ℤ) → i < n → n ≤ IndexCapacity → u ≡ lowered (1 + Width * i) l (Width * (n - 1 - i)) → Done (inList l (withdrawing k (entriesIn l))) l (set u 0 (toZ w64 (n - 1))) Made
     unfolding keeping
     is-removed u h f x =
-        let a : leb Least (length l) ≡ true = le-leb Least (length l) long in
+        let a : leb IndexLength (length l) ≡ true = le-leb IndexLength (length l) long in
         let b : some (isKeyed k) (entriesIn l) ≡ true = sym (searched k i s) ∙ lt-ltb i n h in
         let es = entriesFrom n (drop 1 l) in
         let t : take i es ++ drop (suc i) es ≡ withdrawn k (entriesIn l) = ap (λ x. take x es ++ drop (suc x) es) s ∙ withdrawn-at k es ∙ ap (withdrawn k) read in
@@ -169,28 +169,28 @@ placed-past (suc n) l zero h = absurd (omega arith)
 placed-past (suc n) l (suc i) h = placed-past n (drop Width l) i (omega arith)
 
 module _ (l : List ℤ) where
-  pub none-counted : length l < Least → refused Space ≡ countAnswer l
+  pub none-counted : length l < IndexLength → refused Space ≡ countAnswer l
   unfolding countAnswer
-  none-counted h = let e : leb Least (length l) ≡ false = lt-leb Least (length l) h in rw e refl
+  none-counted h = let e : leb IndexLength (length l) ≡ false = lt-leb IndexLength (length l) h in rw e refl
 
-  pub is-counted : Least ≤ length l → (n : ℕ) → n ≡ countIn l → gives n ≡ countAnswer l
+  pub is-counted : IndexLength ≤ length l → (n : ℕ) → n ≡ countIn l → gives n ≡ countAnswer l
   unfolding countAnswer
-  is-counted h n is = let e : leb Least (length l) ≡ true = le-leb Least (length l) h in rw e (ap gives is)
+  is-counted h n is = let e : leb IndexLength (length l) ≡ true = le-leb IndexLength (length l) h in rw e (ap gives is)
 
   module _ (i : ℕ) where
-    pub none-placed : length l < Least → refused Space ≡ entryAnswer i l
+    pub none-placed : length l < IndexLength → refused Space ≡ entryAnswer i l
     unfolding entryAnswer
-    none-placed h = let e : leb Least (length l) ≡ false = lt-leb Least (length l) h in rw e refl
+    none-placed h = let e : leb IndexLength (length l) ≡ false = lt-leb IndexLength (length l) h in rw e refl
 
-    module _ (long : Least ≤ length l) (n : ℕ) (is : n ≡ countIn l) where
+    module _ (long : IndexLength ≤ length l) (n : ℕ) (is : n ≡ countIn l) where
       pub is-past : n ≤ i → refused Absent ≡ entryAnswer i l
       unfolding entryAnswer entriesIn
       is-past h =
-          let e : leb Least (length l) ≡ true = le-leb Least (length l) long in
+          let e : leb IndexLength (length l) ≡ true = le-leb IndexLength (length l) long in
           rw e (sym (placed-past (countIn l) (drop 1 l) i (omega arith)))
 
       pub is-placed : i < n → gives (entryAt l (1 + Width * i)) ≡ entryAnswer i l
       unfolding entryAnswer entriesIn
       is-placed h =
-          let e : leb Least (length l) ≡ true = le-leb Least (length l) long in
+          let e : leb IndexLength (length l) ≡ true = le-leb IndexLength (length l) long in
           rw e (sym (placed-at (countIn l) l 1 i (omega arith)))

@@ -9,12 +9,12 @@ use answer::TWICE;
 use index::Change;
 use index::Entry;
 use index::EntryOf;
-use index::LEAST;
-use index::MOST;
+use index::INDEX_CAPACITY;
+use index::INDEX_LENGTH;
+use index::OWNER_CAPACITY;
 use index::OWNERS;
-use index::SHARE;
 use index::WIDTH;
-use limits::DEEPEST;
+use limits::MAX_DEPTH;
 use vector::Vec3;
 ghost use mathlib.Core.Path.{_≡_};
 ghost use Rattle.answer.specs.Calls.{numberOf};
@@ -29,7 +29,7 @@ pub fn begin(index: &mut [i64]) -> Change
     ensures { λ r. ⌜ changeGiven r ≡ beginAnswer (now (index .entry)) ⌝ }
     ensures { λ r. ⌜ now (index .exit) ≡ beginAfter (now (index .entry)) ⌝ }
 {
-    if index.len() < LEAST {
+    if index.len() < INDEX_LENGTH {
         return Change::Refused(SPACE);
     }
     index[0] = 0;
@@ -44,10 +44,10 @@ pub fn add(index: &mut [i64], owner: u32, number: u32, p: Vec3) -> Change
     if OWNERS <= owner {
         return Change::Refused(OWNER);
     }
-    let found = mesh_lookup::lookup(p, DEEPEST);
+    let found = mesh_lookup::lookup(p, MAX_DEPTH);
     match found {
         Number::Refused(n) => Change::Refused(n),
-        Number::Gives(id) => enter(
+        Number::Gives(id) => insert(
             index,
             Entry {
                 id: id as i64,
@@ -62,10 +62,10 @@ pub fn add(index: &mut [i64], owner: u32, number: u32, p: Vec3) -> Change
 }
 
 // The entry of the exposure with this owner and number, in its place; refusals 10, 15, 16. In an index there is room wherever the owner has a place.
-fn enter(index: &mut [i64], e: Entry, owner: u32, number: u32) -> Change
+fn insert(index: &mut [i64], e: Entry, owner: u32, number: u32) -> Change
     ensures { λ r. ⌜ Done (inList (now (index .entry)) (entering (key owner number) e (entriesIn (now (index .entry))))) (now (index .entry)) (now (index .exit)) r ⌝ }
 {
-    if index.len() < LEAST {
+    if index.len() < INDEX_LENGTH {
         return Change::Refused(SPACE);
     }
     let n = index_entries::count_in(index);
@@ -73,13 +73,13 @@ fn enter(index: &mut [i64], e: Entry, owner: u32, number: u32) -> Change
     if found.place < n {
         return Change::Refused(TWICE);
     }
-    if SHARE <= found.owned {
+    if OWNER_CAPACITY <= found.owned {
         return Change::Refused(FULL);
     }
-    if MOST <= n {
+    if INDEX_CAPACITY <= n {
         return Change::Refused(FULL);
     }
-    let i = index_entries::open_place(index, n, e);
+    let i = index_entries::make_gap(index, n, e);
     index_entries::store_entry(index, 1 + WIDTH * i, e);
     index[0] = (n + 1) as i64;
     Change::Made
@@ -93,7 +93,7 @@ pub fn remove(index: &mut [i64], owner: u32, number: u32) -> Change
     if OWNERS <= owner {
         return Change::Refused(OWNER);
     }
-    if index.len() < LEAST {
+    if index.len() < INDEX_LENGTH {
         return Change::Refused(SPACE);
     }
     let n = index_entries::count_in(index);
@@ -101,7 +101,7 @@ pub fn remove(index: &mut [i64], owner: u32, number: u32) -> Change
     if n <= i {
         return Change::Refused(ABSENT);
     }
-    index_entries::lower(index, 1 + WIDTH * i, WIDTH * (n - 1 - i));
+    index_entries::shift_down(index, 1 + WIDTH * i, WIDTH * (n - 1 - i));
     index[0] = (n - 1) as i64;
     Change::Made
 }
@@ -110,7 +110,7 @@ pub fn remove(index: &mut [i64], owner: u32, number: u32) -> Change
 pub fn count(index: &[i64]) -> Number
     ensures { λ r. ⌜ numberOf r ≡ countAnswer (now (index .entry)) ⌝ }
 {
-    if index.len() < LEAST {
+    if index.len() < INDEX_LENGTH {
         return Number::Refused(SPACE);
     }
     Number::Gives(index_entries::count_in(index) as u64)
@@ -120,7 +120,7 @@ pub fn count(index: &[i64]) -> Number
 pub fn entry(index: &[i64], place: u32) -> EntryOf
     ensures { λ r. ⌜ entryGiven r ≡ entryAnswer place (now (index .entry)) ⌝ }
 {
-    if index.len() < LEAST {
+    if index.len() < INDEX_LENGTH {
         return EntryOf::Refused(SPACE);
     }
     let i = place as usize;

@@ -12,7 +12,7 @@ use mir.Val.{toZ, ofZ, Fits}
 use Rattle.algebra.proofs.Sized.{stored-same}
 use Rattle.algebra.proofs.Tests.{split}
 use Rattle.vector.specs.Numbers.{eqZ}
-use Rattle.index.specs.Exposures.{Most}
+use Rattle.index.specs.Exposures.{IndexCapacity}
 use Rattle.index.specs.Entries.{below, countOf}
 
 -- ---- equal bits, equal numbers
@@ -61,7 +61,7 @@ none-below (negsuc n) h e = refl
 pub record Counts (z y : ℤ) : Type 0 where
   pub sign : T (nonNeg z)
   pub fits : Fits w64 (natAbs z)
-  pub same : min (natAbs z) Most ≡ countOf y
+  pub same : min (natAbs z) IndexCapacity ≡ countOf y
 
 counts′ : (z : ℤ) → mag z < 2 ^ 63 → ltZ z (pos 0) ≡ false → Counts z z
 counts′ (pos n) h e = record { sign = tt; fits = record { fits = omega arith }; same = refl }

@@ -1,7 +1,7 @@
 // The entries of an index, in lent memory: reading, storing, their order, searches, and the moving of entries for one more and for one less. The rules
 // stand in index/specs, the steps of the code in specs/Steps. Each function says what it does of every list, index or not.
 use index::Entry;
-use index::MOST;
+use index::INDEX_CAPACITY;
 use index::WIDTH;
 ghost use mathlib.Core.Path.{_≡_};
 ghost use Prim.Native.Nat.{_+_, _-_, _*_, _≤_};
@@ -9,7 +9,7 @@ ghost use mathlib.Core.Bool.{cond, not};
 ghost use lib.ListN.{length, drop};
 ghost use Rattle.algebra.specs.Lists.{tally};
 ghost use Rattle.answer.specs.Lent.{put};
-ghost use Rattle.index.specs.Exposures.{Most, key};
+ghost use Rattle.index.specs.Exposures.{IndexCapacity, key};
 ghost use Rattle.index.specs.Entries.{Width, numbers, entryAt, countIn, entriesFrom, byNumber, isOwned, isKeyed};
 ghost use Rattle.index.specs.Entries as rule;
 ghost use Rattle.index_entries.specs.Steps.{leading, staying, raised, lowered};
@@ -85,19 +85,23 @@ pub fn store_entry(index: &mut [i64], k: usize, e: Entry)
 // How many entries there are: the count that the list says, as far as it is one.
 pub fn count_in(index: &[i64]) -> usize
     requires { ⌜ 1 ≤ length (now index) ⌝ }
-    ensures { λ r. ⌜ (r ≡ countIn (now (index .entry))) × (r ≤ Most) ⌝ }
+    ensures { λ r. ⌜ (r ≡ countIn (now (index .entry))) × (r ≤ IndexCapacity) ⌝ }
 {
     let n = index[0];
     if n < 0 {
         return 0;
     }
     let count = n as usize;
-    if MOST < count { MOST } else { count }
+    if INDEX_CAPACITY < count {
+        INDEX_CAPACITY
+    } else {
+        count
+    }
 }
 
 // One more, where the entry is one of this owner.
 fn counted(count: usize, e: Entry, owner: u32) -> usize
-    requires { ⌜ count ≤ Most ⌝ }
+    requires { ⌜ count ≤ IndexCapacity ⌝ }
     ensures { λ r. ⌜ (r ≡ cond (isOwned owner e) (count + 1) count) × (r ≤ count + 1) ⌝ }
 {
     if is_owned(e, owner) { count + 1 } else { count }
@@ -105,7 +109,7 @@ fn counted(count: usize, e: Entry, owner: u32) -> usize
 
 // Goes over n entries for the one with this owner and number, and counts the owner's on the way. Two entries a turn: one takes half as long again.
 pub fn find(index: &[i64], n: usize, owner: u32, number: u32) -> Found
-    requires { ⌜ (1 + Width * n ≤ length (now index)) × (n ≤ Most) ⌝ }
+    requires { ⌜ (1 + Width * n ≤ length (now index)) × (n ≤ IndexCapacity) ⌝ }
     ensures { λ r. ⌜ (r .place ≡ leading (λ e. not (isKeyed (key owner number) e)) (entriesFrom n (drop 1 (now (index .entry))))) × (r .place ≤ n) ⌝ }
     ensures { λ r. ⌜ (n ≤ r .place → r .owned ≡ tally (isOwned owner) (entriesFrom n (drop 1 (now (index .entry))))) ⌝ }
 {
@@ -149,8 +153,8 @@ pub fn find(index: &[i64], n: usize, owner: u32, number: u32) -> Found
 }
 
 // Of n entries, those at the end that e precedes move up by one, the last one first. The result is the place that is free then.
-pub fn open_place(index: &mut [i64], n: usize, e: Entry) -> usize
-    requires { ⌜ (1 + Width + Width * n ≤ length (now index)) × (n ≤ Most) ⌝ }
+pub fn make_gap(index: &mut [i64], n: usize, e: Entry) -> usize
+    requires { ⌜ (1 + Width + Width * n ≤ length (now index)) × (n ≤ IndexCapacity) ⌝ }
     ensures { λ r. ⌜ (r ≡ staying (rule.precedes e) (entriesFrom n (drop 1 (now (index .entry))))) × (r ≤ n) ⌝ }
     ensures { λ r. ⌜ now (index .exit) ≡ raised (1 + Width * r) (now (index .entry)) (Width * (n - r)) ⌝ }
 {
@@ -167,7 +171,7 @@ pub fn open_place(index: &mut [i64], n: usize, e: Entry) -> usize
 }
 
 // Each of count elements, from element at on, becomes the one that stands further on by the width of an entry.
-pub fn lower(index: &mut [i64], at: usize, count: usize)
+pub fn shift_down(index: &mut [i64], at: usize, count: usize)
     requires { ⌜ at + count + Width ≤ length (now index) ⌝ }
     ensures { λ _. ⌜ now (index .exit) ≡ lowered at (now (index .entry)) count ⌝ }
 {

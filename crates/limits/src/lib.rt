@@ -14,10 +14,10 @@ pub const MINUS_K: i64 = -K;
 pub const UNSIGNED_K: u64 = K as u64;
 
 // The deepest level that is looked up and covered.
-pub const DEEPEST: u32 = 12;
+pub const MAX_DEPTH: u32 = 12;
 
 // The largest budget, and the one that 0 means.
-pub const LARGEST_BUDGET: u32 = 2048;
+pub const MAX_BUDGET: u32 = 2048;
 
 pub const DEFAULT_BUDGET: usize = 16;
 
@@ -29,20 +29,20 @@ pub const IN_CONVEX: usize = 100;
 pub const HALFSPACES: usize = 512;
 
 // The bytes of the longest file.
-pub const LONGEST: usize = 10508;
+pub const MAX_FILE_BYTES: usize = 10508;
 
 // 5: a depth from 1 to 12.
 pub fn is_depth(d: u32) -> bool
     ensures { λ t. ⌜ t ≡ isDepth d ⌝ }
 {
-    1 <= d && d <= DEEPEST
+    1 <= d && d <= MAX_DEPTH
 }
 
 // 6: a budget of at most 2048.
 pub fn is_budget(b: u32) -> bool
     ensures { λ t. ⌜ t ≡ isBudget b ⌝ }
 {
-    b <= LARGEST_BUDGET
+    b <= MAX_BUDGET
 }
 
 // The budget that is counted with: 0 means DEFAULT_BUDGET.

@@ -13,8 +13,8 @@ use Rattle.mesh.specs.Identifiers.{cornersOf}
 use Rattle.mesh.specs.Lookup.{rootNumber, descend, identifier, lookup}
 use Rattle.mesh_trixels.specs.Corners.{bare}
 use Rattle.mesh_trixels.proofs.CornerLaws.{descend-corners}
-use Rattle.mesh_lookup.specs.declared.Place.{Place}
-use Rattle.mesh_lookup.specs.Places.{Started}
+use Rattle.mesh_lookup.specs.declared.LocatedTrixel.{LocatedTrixel}
+use Rattle.mesh_lookup.specs.LookupSteps.{TableStart}
 
 module _ (p : Vec3) (d k : ℕ) (root : k ≡ rootNumber p) where
   pub from-root : (c : Corners) → c ≡ cornersOf (rootTrixel k) → descend p (d - 1) (bare c) (8 + k) ≡ identifier p d
@@ -23,7 +23,7 @@ module _ (p : Vec3) (d k : ℕ) (root : k ≡ rootNumber p) where
       descend-corners p (d - 1) (bare c) (rootTrixel k) (8 + k) e
       ∙ ap (λ m. descend p (d - 1) (rootTrixel m) (8 + m)) root
 
-  pub from-place : (s : Place) → 3 ≤ d → Started p k s → descend p (d - 3) (bare (s .corners)) (s .id) ≡ identifier p d
+  pub from-place : (s : LocatedTrixel) → 3 ≤ d → TableStart p k s → descend p (d - 3) (bare (s .corners)) (s .id) ≡ identifier p d
   unfolding identifier
   from-place s h t =
       let e : suc (suc (d - 3)) ≡ d - 1 = omega arith in

@@ -12,7 +12,7 @@ use Rattle.mesh.specs.Lookup.{digit, descend}
 use Rattle.mesh_trixels.specs.Corners.{bare, SmallCorners}
 use Rattle.mesh_trixels.proofs.CornerLaws.{descend-corners}
 use Rattle.mesh_lookup.specs.declared.Child.{Child}
-use Rattle.mesh_lookup.specs.Places.{Stepped}
+use Rattle.mesh_lookup.specs.LookupSteps.{ChildStep}
 
 -- after k of n levels from the corners c₀ and the identifier i₀
 pub record Descending (p : Vec3) (n : ℕ) (c₀ : Corners) (i₀ : ℕ) (c : Corners) (i k : ℕ) : Type 0 where
@@ -26,14 +26,14 @@ start p n c i h s =
     let e : n - 0 ≡ n = omega arith in
     record { upto = omega arith; room = omega arith; small = s; left = ap (λ m. descend p m (bare c) i) e }
 
-one-level : (p : Vec3) (m : ℕ) (c : Corners) (i : ℕ) (s : Child) → Stepped p c s → descend p m (bare (s .corners)) (4 * i + s .digit) ≡ descend p (suc m) (bare c) i
+one-level : (p : Vec3) (m : ℕ) (c : Corners) (i : ℕ) (s : Child) → ChildStep p c s → descend p m (bare (s .corners)) (4 * i + s .digit) ≡ descend p (suc m) (bare c) i
 unfolding descend
 one-level p m c i s h =
     descend-corners p m (bare (s .corners)) (child (digit p (bare c)) (bare c)) (4 * i + s .digit) (h .child)
     ∙ ap (λ d. descend p m (child (digit p (bare c)) (bare c)) (4 * i + d)) (h .is)
 
 module _ (p : Vec3) (n : ℕ) (c₀ : Corners) (i₀ : ℕ) (c : Corners) (i k : ℕ) (d : Descending p n c₀ i₀ c i k) where
-  pub next : (s : Child) → k < n → Stepped p c s → Descending p n c₀ i₀ (s .corners) (4 * i + s .digit) (k + 1)
+  pub next : (s : Child) → k < n → ChildStep p c s → Descending p n c₀ i₀ (s .corners) (4 * i + s .digit) (k + 1)
   next s h t =
       let e : n - k ≡ suc (n - (k + 1)) = omega arith in
       let w : 4 ^ (k + 1) ≡ 4 ^ k * 4 = ap (λ m. 4 ^ m) (add-one k) ∙ pow-suc 4 k in

@@ -23,8 +23,8 @@ use Rattle.mesh.proofs.Rotated.{rotated}
 use Rattle.mesh_table.specs.Table.{partOf, vectorAt}
 use Rattle.mesh_trixels.specs.Corners.{tripleOf, bare}
 use Rattle.mesh_trixels.proofs.CornerLaws.{descend-corners}
-use Rattle.mesh_lookup.specs.declared.Place.{Place}
-use Rattle.mesh_lookup.specs.Places.{digitBy}
+use Rattle.mesh_lookup.specs.declared.LocatedTrixel.{LocatedTrixel}
+use Rattle.mesh_lookup.specs.LookupSteps.{digitBy}
 
 -- ---- entry e of child d of the root r is that of S0, turned
 
@@ -103,7 +103,7 @@ module _ (r : ℕ) (h : r < 8) (p q : Vec3) (back : turned r q ≡ p) where
 -- ---- the start
 
 -- two levels down by the digits d and e, with the corners of the entry, turned
-pub started : (p : Vec3) (r d e : ℕ) (s : Place) → r < 8 → d ≡ digit p (rootTrixel r) → e ≡ digit p (child d (rootTrixel r)) → d < 4 → e < 4
+pub started : (p : Vec3) (r d e : ℕ) (s : LocatedTrixel) → r < 8 → d ≡ digit p (rootTrixel r) → e ≡ digit p (child d (rootTrixel r)) → d < 4 → e < 4
     → s .id ≡ 128 + 16 * r + 4 * d + e
     → s .corners ≡ tripleOf (turned r (vectorAt (24 * d + 6 * e))) (turned r (vectorAt (24 * d + 6 * e + 1))) (turned r (vectorAt (24 * d + 6 * e + 2)))
     → (n : ℕ) → descend p n (bare (s .corners)) (s .id) ≡ descend p (suc (suc n)) (rootTrixel r) (8 + r)

@@ -1,5 +1,5 @@
 // The lookup in code: the root by the signs, the trixel of depth 3 by the table, then step by step from corners. The rule stands in mesh/specs/Lookup,
-// what the steps give in specs/Places.
+// what the steps give in specs/LookupSteps.
 use answer::DEPTH;
 use answer::Number;
 use answer::VECTOR;
@@ -17,7 +17,7 @@ ghost use Rattle.mesh.specs.Lookup as rule;
 ghost use Rattle.mesh.specs.Lookup.{notNegative, northRoot, southRoot, rootNumber};
 ghost use Rattle.mesh_table.specs.Table.{table, vectorAt};
 ghost use Rattle.mesh_trixels.specs.Corners.{bare, SmallCorners};
-ghost use Rattle.mesh_lookup.specs.Places.{childAt, digitBy, Stepped, Started};
+ghost use Rattle.mesh_lookup.specs.LookupSteps.{childAt, digitBy, ChildStep, TableStart};
 
 // A digit, and the corners of that child.
 pub struct Child {
@@ -26,7 +26,7 @@ pub struct Child {
 }
 
 // An identifier, and the corners of its trixel.
-pub struct Place {
+pub struct LocatedTrixel {
     pub id: u64,
     pub corners: Corners,
 }
@@ -75,7 +75,7 @@ fn chosen(digit: u64, corners: Corners) -> Child
 fn step(p: Vec3, c: Corners) -> Child
     requires { ⌜ Small p ⌝ }
     requires { ⌜ SmallCorners c ⌝ }
-    ensures { λ r. ⌜ Stepped p c r ⌝ }
+    ensures { λ r. ⌜ ChildStep p c r ⌝ }
 {
     let v0 = c.v0;
     let v1 = c.v1;
@@ -182,10 +182,10 @@ fn table_digit(entries: &[i32; 288], p: Vec3, a: usize, b: usize, c: usize) -> u
 
 // The trixel of depth 3 that p goes to, from the table of S0: p is turned back into S0, and the corners that are found there to the root. The cuts of S0
 // stand in the table as normals of two children of its middle child, those of a trixel of depth 2 as the normals of its middle child.
-fn from_table(p: Vec3, root: u64) -> Place
+fn from_table(p: Vec3, root: u64) -> LocatedTrixel
     requires { ⌜ Small p ⌝ }
     requires { ⌜ root < 8 ⌝ }
-    ensures { λ r. ⌜ Started p root r ⌝ }
+    ensures { λ r. ⌜ TableStart p root r ⌝ }
 {
     let entries = mesh_table::entries();
     let k = mesh_table::rotation(root);
@@ -193,7 +193,7 @@ fn from_table(p: Vec3, root: u64) -> Place
     let d = table_digit(&entries, q, 83, 76, 77);
     let below = 24 * d as usize;
     let e = table_digit(&entries, q, below + 21, below + 22, below + 23);
-    Place {
+    LocatedTrixel {
         id: 128 + 16 * root + 4 * d + e,
         corners: mesh_table::corners_at(&entries, k, below + 6 * e as usize),
     }

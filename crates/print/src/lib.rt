@@ -5,6 +5,9 @@ ghost use Prim.Native.Nat.{_≤_};
 ghost use mathlib.Core.Path.{_≡_};
 ghost use lib.IntN.{natAbs};
 
+pub mod covers;
+pub mod regions;
+
 pub const SIZE: usize = 65536;
 
 pub type Buffer = [u8; SIZE];

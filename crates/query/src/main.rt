@@ -23,9 +23,9 @@
 fn main() {
     let mut line = io::large_buffer();
     let mut out = io::large_buffer();
-    let n = query_lines::answer_lines(&mut line, &mut out);
+    let n = query_commands::answer_lines(&mut line, &mut out);
     if 0 < n {
-        let at = query_lines::answer_line(&line, n, &mut out, 0);
+        let at = query_commands::answer_line(&line, n, &mut out, 0);
         print::flush(&out, at);
     }
 }

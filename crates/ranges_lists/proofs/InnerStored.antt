@@ -7,7 +7,7 @@ use mathlib.Core.List.{List, [], _∷_, _++_, map}
 use native.Mathlib.Omega.{arith}
 use lib.ListN.{length, set}
 use borrow.Author.Tests.{lt-ltb, le-ltb}
-use Rattle.ranges_stored.specs.declared.Hint.{Hint}
+use Rattle.ranges_stored.specs.declared.MinHint.{MinHint}
 use Rattle.ranges_stored.specs.declared.Pending.{Pending}
 use Rattle.ranges.specs.Ranges.{Range, pairs, range, rangesIn}
 use Rattle.ranges.specs.Lists.{touch, size, without}
@@ -22,7 +22,7 @@ use Rattle.ranges_lists.proofs.OuterStored.{writes}
 
 -- ---- the list is full
 
-module _ (n : ℕ) (l : List ℕ) (low high s : ℕ) (fits : 2 * n ≤ length l) (long : s ≡ high - low) (h : Hint) where
+module _ (n : ℕ) (l : List ℕ) (low high s : ℕ) (fits : 2 * n ≤ length l) (long : s ≡ high - low) (h : MinHint) where
   abbrev xs : List Range
   xs = rangesIn n l
 
@@ -78,7 +78,7 @@ module _ (B n : ℕ) (l : List ℕ) (low high : ℕ) (fits : 2 * n ≤ length l)
       (sym (length-innerFull (rangesIn n l) (range low high) (omega (arith, stored)) ∙ stored))
       e
 
-  pub close-hint : (h : Hint) → B ≤ n → Hinted h (map size (innerFull (rangesIn n l) (range low high))) → Hinted h (map size (innerClose B (rangesIn n l) (range low high)))
+  pub close-hint : (h : MinHint) → B ≤ n → Hinted h (map size (innerFull (rangesIn n l) (range low high))) → Hinted h (map size (innerClose B (rangesIn n l) (range low high)))
   close-hint h k p = subst (λ ys. Hinted h (map size ys)) (sym (close-none B (rangesIn n l) (range low high) (omega (arith, stored)))) p
 
 -- ---- one range more
@@ -92,7 +92,7 @@ unfolding stateOf
 state-some p l e = rw e
 
 -- the ranges xs are stored, and a range beside them
-beside : {xs : List Range} {l l′ : List ℕ} {n : ℕ} (low high : ℕ) (h : Hint) → Writes xs l l′ n
+beside : {xs : List Range} {l l′ : List ℕ} {n : ℕ} (low high : ℕ) (h : MinHint) → Writes xs l l′ n
     → Keeps (growing xs (range low high)) l l′ (record { n = n; some = true; low = low; high = high; hint = h })
 beside {xs} {l} {l′} {n} low high h w =
     record {
@@ -101,7 +101,7 @@ beside {xs} {l} {l′} {n} low high h w =
       stored = w;
     }
 
-module _ (B : ℕ) (p : Pending) (l : List ℕ) (low high : ℕ) (h : Hint) where
+module _ (B : ℕ) (p : Pending) (l : List ℕ) (low high : ℕ) (h : MinHint) where
   pub pending-first : p .some ≡ false → Keeps (innerPush B (stateOf p l) (range low high)) l l (record { n = 0; some = true; low = low; high = high; hint = h })
   unfolding innerPush pairs
   pending-first e = rw (state-none p l e) (beside low high h (record { count = refl; list = refl }))

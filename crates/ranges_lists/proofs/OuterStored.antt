@@ -7,7 +7,7 @@ use native.Mathlib.Omega.{arith}
 use lib.Dec.{eqb}
 use lib.ListN.{length, getD, set}
 use borrow.Author.Tests.{le-ltb, lt-ltb}
-use Rattle.ranges_stored.specs.declared.Hint.{Hint}
+use Rattle.ranges_stored.specs.declared.MinHint.{MinHint}
 use Rattle.ranges.specs.Ranges.{Range, pairs, range, rangesIn}
 use Rattle.ranges.specs.Lists.{gaps, joinAt}
 use Rattle.ranges.proofs.Pushing.{lastHigh, extend, outerFull, outerNew, outerPush}
@@ -36,7 +36,7 @@ joins n i end l low high h fits last m e =
     fewer [] e = absurd (omega arith)
     fewer (a ∷ xs) e = omega (arith, length-joinAt i a xs (omega arith))
 
-module _ (n : ℕ) (l : List ℕ) (low high g end : ℕ) (fits : 2 * n ≤ length l) (last : end + 1 ≡ 2 * n) (far : g ≡ low - getD l end 0) (h : Hint) where
+module _ (n : ℕ) (l : List ℕ) (low high g end : ℕ) (fits : 2 * n ≤ length l) (last : end + 1 ≡ 2 * n) (far : g ≡ low - getD l end 0) (h : MinHint) where
   abbrev xs : List Range
   xs = rangesIn n l
 
@@ -97,12 +97,12 @@ module _ (B n : ℕ) (l : List ℕ) (low high end : ℕ) (some : 0 < n) (fits : 
       (sym (length-extend (rangesIn n l) (range low high) ∙ stored))
       (ap (λ m. set m end high) (sym (written-in n l fits)) ∙ write-extend (rangesIn n l) l (range low high) end (omega (arith, stored)))
 
-  pub push-keeps : (h : Hint) → eqb (getD l end 0 + 1) low ≡ true → Hinted h (gaps (rangesIn n l)) → Hinted h (gaps (outerPush B (rangesIn n l) (range low high)))
+  pub push-keeps : (h : MinHint) → eqb (getD l end 0 + 1) low ≡ true → Hinted h (gaps (rangesIn n l)) → Hinted h (gaps (outerPush B (rangesIn n l) (range low high)))
   push-keeps h t p =
       subst (λ ys. Hinted h (gaps ys)) (sym (push-touching B (rangesIn n l) (range low high) (omega (arith, stored)) (at-end t))) (hinted-extend h (rangesIn n l) (range low high) p)
 
   module _ (t : eqb (getD l end 0 + 1) low ≡ false) where
-    pub push-hint : (h : Hint) → B ≤ n → Hinted h (gaps (outerFull (rangesIn n l) (range low high))) → Hinted h (gaps (outerPush B (rangesIn n l) (range low high)))
+    pub push-hint : (h : MinHint) → B ≤ n → Hinted h (gaps (outerFull (rangesIn n l) (range low high))) → Hinted h (gaps (outerPush B (rangesIn n l) (range low high)))
     push-hint h k p =
         subst (λ ys. Hinted h (gaps ys))
         (sym (push-apart B (rangesIn n l) (range low high) (omega (arith, stored)) (at-end t) ∙ new-full B (rangesIn n l) (range low high) (omega (arith, stored)))) p

@@ -1,5 +1,5 @@
 // The outer and the inner list, pushed range after range. The rules are `outerPush` and `innerPush` of ranges/proofs/Pushing.
-use ranges_stored::Hint;
+use ranges_stored::MinHint;
 use ranges_stored::Pending;
 ghost use mathlib.Core.Path.{_≡_};
 ghost use mathlib.Core.List.{[], _∷_, _++_, map};
@@ -13,7 +13,7 @@ ghost use Rattle.ranges_stored.specs.Stored.{sizesIn, written, Writes, Hinted, 
 // How many ranges stand in a list, and what is known of their gaps or sizes.
 pub struct Pushed {
     pub n: usize,
-    pub hint: Hint,
+    pub hint: MinHint,
 }
 
 // Range number i of n and the next join, and one more stands behind the last.
@@ -30,7 +30,7 @@ fn join_at(list: &mut [u64], n: usize, i: usize, low: u64, high: u64)
 
 // One range more, which does not touch the last, where the list is full, n being the budget: it joins on to the last one, if its gap is the smallest,
 // or two others join and it stands behind them. The answer is what is known of the gaps then.
-fn outer_full(list: &mut [u64], n: usize, low: u64, high: u64, hint: Hint) -> Hint
+fn outer_full(list: &mut [u64], n: usize, low: u64, high: u64, hint: MinHint) -> MinHint
     requires { ⌜ (1 ≤ n) × (2 * n ≤ length (now list)) ⌝ }
     requires { ⌜ Hinted hint (gaps (rangesIn n (now list))) ⌝ }
     ensures { λ _. ⌜ now (list .exit) ≡ written (outerFull (rangesIn n (now (list .entry))) (range low high)) (now (list .entry)) ⌝ }
@@ -61,7 +61,7 @@ pub fn outer_push(
     budget: usize,
     low: u64,
     high: u64,
-    hint: Hint,
+    hint: MinHint,
 ) -> Pushed
     requires { ⌜ (1 ≤ budget) × (n ≤ budget) × (2 * budget ≤ length (now list)) ⌝ }
     requires { ⌜ Hinted hint (gaps (rangesIn n (now list))) ⌝ }
@@ -96,7 +96,7 @@ pub fn outer_push(
 
 // One range more, which grows no more, where the list is full, n being the budget: the shortest is dropped, the new one or another. The answer is
 // what is known of the sizes then.
-fn inner_full(list: &mut [u64], n: usize, low: u64, high: u64, hint: Hint) -> Hint
+fn inner_full(list: &mut [u64], n: usize, low: u64, high: u64, hint: MinHint) -> MinHint
     requires { ⌜ (1 ≤ n) × (2 * n ≤ length (now list)) ⌝ }
     requires { ⌜ Hinted hint (sizesIn 0 n (now list)) ⌝ }
     ensures { λ _. ⌜ now (list .exit) ≡ written (innerFull (rangesIn n (now (list .entry))) (range low high)) (now (list .entry)) ⌝ }
@@ -118,7 +118,14 @@ fn inner_full(list: &mut [u64], n: usize, low: u64, high: u64, hint: Hint) -> Hi
 }
 
 // A range that grows no more is stored behind the n that are. The answer has how many are stored then, at most the budget.
-fn inner_close(list: &mut [u64], n: usize, budget: usize, low: u64, high: u64, hint: Hint) -> Pushed
+fn inner_close(
+    list: &mut [u64],
+    n: usize,
+    budget: usize,
+    low: u64,
+    high: u64,
+    hint: MinHint,
+) -> Pushed
     requires { ⌜ (1 ≤ budget) × (n ≤ budget) × (2 * budget ≤ length (now list)) ⌝ }
     requires { ⌜ Hinted hint (sizesIn 0 n (now list)) ⌝ }
     ensures { λ r. ⌜ Writes (innerClose budget (rangesIn n (now (list .entry))) (range low high)) (now (list .entry)) (now (list .exit)) (r .n) ⌝ }

@@ -1,4 +1,4 @@
--- What is known of the gaps or sizes of a list, a `Hint`: the one that it points at is the earliest of the smallest ones, and it stays true when that
+-- What is known of the gaps or sizes of a list, a `MinHint`: the one that it points at is the earliest of the smallest ones, and it stays true when that
 -- one goes and another comes behind. So it does in the outer list when the last range goes on and when two ranges join at that place, and in the inner
 -- list when the range there is dropped. Assumes nothing.
 use Prim.Native.Nat.{ℕ, zero, suc, _+_, _*_, _-_, _≤_, _<_}
@@ -10,7 +10,7 @@ use lib.Dec.{eqb, ltb}
 use lib.ListN.{length, getD, length-map}
 use borrow.Author.Tests.{ltb-true, ltb-false, eqb-true, eqb-false}
 use Rattle.algebra.proofs.Tests.{split}
-use Rattle.ranges_stored.specs.declared.Hint.{Hint}
+use Rattle.ranges_stored.specs.declared.MinHint.{MinHint}
 use Rattle.ranges.specs.Ranges.{Range, rangesIn}
 use Rattle.ranges.specs.Lists.{smallest, place, earliest, size, gaps, joinAt, without}
 use Rattle.ranges.proofs.Pushing.{below, lastHigh, extend, outerFull, innerFull}
@@ -64,7 +64,7 @@ earliest-keeps l g i h k = split (below g l) (λ t. absurd (omega (arith, below-
 hinted-none : (gs : List ℕ) → Hinted noHint gs
 hinted-none gs = record { atLeast = λ i h. omega arith; before = λ i b h. absurd (omega arith) }
 
-pub hinted-any : {h : Hint} → h ≡ noHint → (gs : List ℕ) → Hinted h gs
+pub hinted-any : {h : MinHint} → h ≡ noHint → (gs : List ℕ) → Hinted h gs
 hinted-any e gs = subst (λ h. Hinted h gs) (sym e) (hinted-none gs)
 
 -- ---- the place that a hint points at
@@ -105,7 +105,7 @@ earliest-points (x ∷ l) i v h p q =
     }
 
 -- and there is no other
-points-earliest : (h : Hint) (l : List ℕ) → PointsAt h l → h .from ≡ earliest l
+points-earliest : (h : MinHint) (l : List ℕ) → PointsAt h l → h .from ≡ earliest l
 points-earliest h [] p = absurd (omega (arith, p .inside))
 points-earliest h (x ∷ l) p =
     let a : h .floor ≤ getD (x ∷ l) (e x l) 0 = p .hinted .atLeast (e x l) (e-inside x l) in
@@ -118,7 +118,7 @@ points-earliest h (x ∷ l) p =
     (λ u. omega (arith, ltb-false (h .from) (e x l) t, ltb-false (e x l) (h .from) u)))
 
 -- also with one number more, which is not below it
-points-snoc : (h : Hint) (l : List ℕ) (g : ℕ) → PointsAt h l → h .floor ≤ g → h .from ≡ earliest (l ++ g ∷ [])
+points-snoc : (h : MinHint) (l : List ℕ) (g : ℕ) → PointsAt h l → h .floor ≤ g → h .from ≡ earliest (l ++ g ∷ [])
 points-snoc h l g p k = points-earliest h l p ∙ sym (earliest-keeps l g (h .from) (p .inside) (omega (arith, p .is)))
 
 -- ---- one number goes, and one comes behind
@@ -144,7 +144,7 @@ next-before zero (x ∷ l) g v s f i k = absurd (omega arith)
 next-before (suc q) (x ∷ l) g v s f zero k = f 0 (omega arith) (omega arith)
 next-before (suc q) (x ∷ l) g v s f (suc i) k = next-before q l g v (omega arith) (λ j b c. f (suc j) (omega arith) (omega arith)) i (omega arith)
 
-hinted-next : (h : Hint) (l : List ℕ) (g : ℕ) → PointsAt h l → h .floor ≤ g → Hinted h (without (h .from) l ++ g ∷ [])
+hinted-next : (h : MinHint) (l : List ℕ) (g : ℕ) → PointsAt h l → h .floor ≤ g → Hinted h (without (h .from) l ++ g ∷ [])
 hinted-next h l g p k = record {
   atLeast = next-least (h .from) l g (h .floor) (p .hinted .atLeast) k;
   before = λ i b c. next-before (h .from) l g (h .floor) (p .inside) (p .hinted .before) i b;
@@ -152,7 +152,7 @@ hinted-next h l g p k = record {
 
 -- ---- the outer list
 
-pub hinted-extend : (h : Hint) (xs : List Range) (r : Range) → Hinted h (gaps xs) → Hinted h (gaps (extend xs r))
+pub hinted-extend : (h : MinHint) (xs : List Range) (r : Range) → Hinted h (gaps xs) → Hinted h (gaps (extend xs r))
 hinted-extend h xs r p = subst (Hinted h) (sym (gaps-extend xs r)) p
 
 some-gaps : (xs : List Range) (r : Range) → 0 < length xs → gaps (xs ++ r ∷ []) ≡ gaps xs ++ (r .low - lastHigh xs) ∷ []
@@ -163,7 +163,7 @@ pub outer-below : (xs : List Range) (r : Range) → ((i : ℕ) → i < length (g
 unfolding outerFull
 outer-below xs r f = rw (at-below (r .low - lastHigh xs) (gaps xs) f)
 
-module _ (h : Hint) (xs : List Range) (r : Range) (p : PointsAt h (gaps xs)) (far : h .floor ≤ r .low - lastHigh xs) where
+module _ (h : MinHint) (xs : List Range) (r : Range) (p : PointsAt h (gaps xs)) (far : h .floor ≤ r .low - lastHigh xs) where
   inner : (ys : List Range) → h .from < length (gaps ys) → h .from + 1 < length ys
   unfolding gaps
   inner [] k = absurd (omega arith)
@@ -187,7 +187,7 @@ pub inner-below : (xs : List Range) (r : Range) → ((i : ℕ) → i < length (m
 unfolding innerFull
 inner-below xs r f = rw (at-below (size r) (map size xs) f)
 
-module _ (h : Hint) (xs : List Range) (r : Range) (p : PointsAt h (map size xs)) (long : h .floor ≤ size r) where
+module _ (h : MinHint) (xs : List Range) (r : Range) (p : PointsAt h (map size xs)) (long : h .floor ≤ size r) where
   pub inner-points : innerFull xs r ≡ without (h .from) xs ++ r ∷ []
   inner-points = full-drops xs r (h .from) (points-snoc h (map size xs) (size r) p long) (omega (arith, length-map xs size, p .inside))
 
@@ -198,10 +198,10 @@ module _ (h : Hint) (xs : List Range) (r : Range) (p : PointsAt h (map size xs))
 
 -- ---- in lent memory
 
-pub hinted-stored : (h : Hint) (f : List Range → List ℕ) (xs : List Range) (l m : List ℕ) (n : ℕ) → Writes xs l m n → Hinted h (f xs) → Hinted h (f (rangesIn n m))
+pub hinted-stored : (h : MinHint) (f : List Range → List ℕ) (xs : List Range) (l m : List ℕ) (n : ℕ) → Writes xs l m n → Hinted h (f xs) → Hinted h (f (rangesIn n m))
 hinted-stored h f xs l m n w p = subst (λ ys. Hinted h (f ys)) (sym (ap₂ rangesIn (w .count) (w .list) ∙ in-written xs l)) p
 
-pub points-inside : (start n : ℕ) (l : List ℕ) {h : Hint} → PointsAt h (sizesIn start n l) → h .from < n
+pub points-inside : (start n : ℕ) (l : List ℕ) {h : MinHint} → PointsAt h (sizesIn start n l) → h .from < n
 points-inside start n l p = omega (arith, length-sizes start n l, p .inside)
 
 module _ (start n : ℕ) (l : List ℕ) (fits : start + 2 * n ≤ length l) where

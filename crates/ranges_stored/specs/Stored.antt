@@ -3,7 +3,7 @@
 --                    from element 1 on they are the gaps
 --   written xs l     the list l with the ranges xs at its front, as pairs; the other elements stay
 --   Writes xs before after n   `after` is `before` with the ranges xs, n of them, at its front
--- Where the smallest gap of the outer list is, or the shortest range of the inner list, as far as it is known: a `Hint`.
+-- Where the smallest gap of the outer list is, or the shortest range of the inner list, as far as it is known: a `MinHint`.
 --   hintOf from floor   a hint, by its two numbers; noHint is true of every list
 --   Hinted h gs      of the gaps or sizes gs, every one is at least the floor of h, and those before number `from` are above it
 --   FirstAt floor i gs   number i is the first one that is the floor, or there is none and i is behind the last
@@ -22,7 +22,7 @@ use mathlib.Core.Bool.{false, cond}
 use mathlib.Core.List.{List, [], _∷_, map}
 use lib.ListN.{length, getD, drop}
 use lib.Seq.{paste}
-use Rattle.ranges_stored.specs.declared.Hint.{Hint}
+use Rattle.ranges_stored.specs.declared.MinHint.{MinHint}
 use Rattle.ranges_stored.specs.declared.Pending.{Pending}
 use Rattle.answer.specs.Lent.{put}
 use Rattle.ranges.specs.Ranges.{Range, pairs, range, rangesIn}
@@ -39,13 +39,13 @@ pub record Writes (xs : List Range) (before after : List ℕ) (n : ℕ) : Type 0
   pub count : n ≡ length xs
   pub list : after ≡ written xs before
 
-abbrev pub hintOf : ℕ → ℕ → Hint
+abbrev pub hintOf : ℕ → ℕ → MinHint
 hintOf from floor = record { from = from; floor = floor }
 
-abbrev pub noHint : Hint
+abbrev pub noHint : MinHint
 noHint = hintOf 0 0
 
-pub record Hinted (h : Hint) (gs : List ℕ) : Type 0 where
+pub record Hinted (h : MinHint) (gs : List ℕ) : Type 0 where
   pub atLeast : (i : ℕ) → i < length gs → h .floor ≤ getD gs i 0
   pub before : (i : ℕ) → i < h .from → i < length gs → h .floor < getD gs i 0
 
@@ -53,7 +53,7 @@ pub record FirstAt (floor i : ℕ) (gs : List ℕ) : Type 0 where
   pub hinted : Hinted (hintOf i floor) gs
   pub is : i < length gs → getD gs i 0 ≡ floor
 
-pub record PointsAt (h : Hint) (gs : List ℕ) : Type 0 where
+pub record PointsAt (h : MinHint) (gs : List ℕ) : Type 0 where
   pub hinted : Hinted h gs
   pub inside : h .from < length gs
   pub is : getD gs (h .from) 0 ≡ h .floor

@@ -9,7 +9,7 @@ ghost use Rattle.ranges.specs.Ranges.{range};
 ghost use Rattle.ranges_stored.specs.Stored.{sizesIn, hintOf, noHint, Hinted, FirstAt, PointsAt, shifted};
 
 // What is known of the sizes of some ranges, or of the gaps between them: every one is at least floor, and those before number `from` are above it.
-pub struct Hint {
+pub struct MinHint {
     pub from: usize,
     pub floor: u64,
 }
@@ -21,7 +21,7 @@ pub struct Pending {
     pub some: bool,
     pub low: u64,
     pub high: u64,
-    pub hint: Hint,
+    pub hint: MinHint,
 }
 
 // How far high lies above low.
@@ -72,10 +72,10 @@ pub fn shift_down(list: &mut [u64], at: usize, count: usize)
 }
 
 // What is known of every list.
-pub fn no_hint() -> Hint
+pub fn no_hint() -> MinHint
     ensures { λ r. ⌜ r ≡ noHint ⌝ }
 {
-    Hint { from: 0, floor: 0 }
+    MinHint { from: 0, floor: 0 }
 }
 
 // The number of the first of count ranges, from number `from` on, whose size is floor; count, where there is none. The first begins at element start.
@@ -97,21 +97,21 @@ fn first_at(list: &[u64], start: usize, count: usize, from: usize, floor: u64) -
 }
 
 // The shortest of count ranges, the earliest among equals. The first size, once more behind them all, is never the one.
-fn shortest(list: &[u64], start: usize, count: usize) -> Hint
+fn shortest(list: &[u64], start: usize, count: usize) -> MinHint
     requires { ⌜ (1 ≤ count) × (start + 2 * count ≤ length (now list)) ⌝ }
     ensures { λ r. ⌜ PointsAt r (sizesIn start count (now (list .entry))) ⌝ }
 {
     let first = above(list[start], list[start + 1]);
     let i = smallest(list, start, count, first);
     let least = above(list[start + 2 * i], list[start + 2 * i + 1]);
-    Hint {
+    MinHint {
         from: i,
         floor: least,
     }
 }
 
 // The same, by what is known: on from where the hint is, and through the whole list only where no size is its floor any more.
-pub fn at_smallest(list: &[u64], start: usize, count: usize, hint: Hint) -> Hint
+pub fn at_smallest(list: &[u64], start: usize, count: usize, hint: MinHint) -> MinHint
     requires { ⌜ (1 ≤ count) × (start + 2 * count ≤ length (now list)) ⌝ }
     requires { ⌜ Hinted hint (sizesIn start count (now list)) ⌝ }
     ensures { λ r. ⌜ PointsAt r (sizesIn start count (now (list .entry))) ⌝ }
@@ -122,7 +122,7 @@ pub fn at_smallest(list: &[u64], start: usize, count: usize, hint: Hint) -> Hint
     if next == count {
         return shortest(list, start, count);
     }
-    Hint {
+    MinHint {
         from: next,
         floor: floor,
     }

@@ -20,11 +20,11 @@ use Rattle.region.specs.Records.{Styles}
 use Rattle.region.specs.Reader.{File, lengthOf, kindOf, after, recordIn, recordsIn}
 use Rattle.region.specs.Answers.{headerOf}
 use Rattle.region.proofs.ReaderLaws.{record-keeps, record-whole, one-more}
-use Rattle.region_counts.specs.declared.Counts.{Counts}
-use Rattle.region_counts.specs.Counts.{countsOf}
-use Rattle.region_contents.specs.declared.State.{State}
-use Rattle.region_contents.specs.declared.Outcome.{Outcome}
-use Rattle.region_contents.specs.Contents.{stateOf, outcomeOf, Stands, Taken}
+use Rattle.region_rows.specs.declared.counts.RegionSize.{RegionSize}
+use Rattle.region_rows.specs.RegionSizes.{countsOf}
+use Rattle.region_payloads.specs.declared.State.{State}
+use Rattle.region_payloads.specs.declared.Outcome.{Outcome}
+use Rattle.region_payloads.specs.Payloads.{stateOf, outcomeOf, Stands, RecordAfter}
 use Rattle.region_reader.specs.Reading.{Recorded, headedFile, recordsAfter, RowsGiven}
 use Rattle.region_records.proofs.FrameLaws.{whole-says, after-at}
 
@@ -100,7 +100,7 @@ pub record Reading (t : Style) (f : List ℕ) (h : Header) (before rs : List ℤ
   pub stands : Stands before (file .region) (s .counts) rs
   pub same : recordsIn (Styles.only t) (length (drop (s .at) f)) file (drop (s .at) f) ≡ recordsAfter t h f
 
-pub reading-none : (t : Style) (f : List ℕ) (h : Header) (before : List ℤ) → 8 ≤ length f → (k : Counts) → k ≡ countsOf []
+pub reading-none : (t : Style) (f : List ℕ) (h : Header) (before : List ℤ) → 8 ≤ length f → (k : RegionSize) → k ≡ countsOf []
     → Reading t f h before before (record { at = 8; counts = k })
 unfolding rows rowsFrom
 reading-none t f h before l k e = record {
@@ -118,7 +118,7 @@ module _ (t : Style) (f : List ℕ) (h : Header) (before rs : List ℤ) (s : Sta
   abbrev rest : List ℕ
   rest = drop (s .at) f
 
-  taken : Taken before (eqb (kindOf (drop (s .at) f)) 4) (s .at + lengthOf (drop (s .at) f)) (recordIn (Styles.only t) (d .file) (drop (s .at) f)) o rs′
+  taken : RecordAfter before (eqb (kindOf (drop (s .at) f)) 4) (s .at + lengthOf (drop (s .at) f)) (recordIn (Styles.only t) (d .file) (drop (s .at) f)) o rs′
   taken = r (d .file) before (d .stands)
 
   -- with a bound that is not 0

@@ -15,7 +15,7 @@ use Rattle.region.proofs.StyleLaws.{style-at}
 use Rattle.region_records.specs.declared.Frame.{Frame}
 use Rattle.region_records.specs.Frames.{frameOf}
 use Rattle.region_records.proofs.FrameLaws.{frame-says, frame-refused}
-use Rattle.region_contents.specs.Contents.{groupOf}
+use Rattle.region_payloads.specs.Payloads.{groupOf}
 
 -- ---- the style
 

@@ -1,4 +1,4 @@
--- What a pass over the records gives, in the terms of region/specs/Reader. `Stands` and `Taken` stand in region_contents/specs/Contents.
+-- What a pass over the records gives, in the terms of region/specs/Reader. `Stands` and `RecordAfter` stand in region_payloads/specs/Payloads.
 --   Recorded ..            a record of a file of the style t is taken, whatever region state and array stand for
 --   recordsAfter t h f     the records of the file f, of the style t, after its header h
 --   RowsGiven a before rs  the array after a pass with the answer a: the rows of the file that a gives, at the beginning of what the array was before
@@ -15,13 +15,13 @@ use Rattle.region.specs.declared.Style.{Style}
 use Rattle.region.specs.Rows.{rows}
 use Rattle.region.specs.Records.{Styles}
 use Rattle.region.specs.Reader.{File, lengthOf, kindOf, recordIn, recordsIn}
-use Rattle.region_contents.specs.declared.State.{State}
-use Rattle.region_contents.specs.declared.Outcome.{Outcome}
-use Rattle.region_contents.specs.Contents.{Stands, Taken}
+use Rattle.region_payloads.specs.declared.State.{State}
+use Rattle.region_payloads.specs.declared.Outcome.{Outcome}
+use Rattle.region_payloads.specs.Payloads.{Stands, RecordAfter}
 
 abbrev pub Recorded : Style → List ℕ → State → List ℤ → Outcome → List ℤ → Type 0
 Recorded t f s rs o rs′ = (x : File) (before : List ℤ) → Stands before (x .region) (s .counts) rs
-    → Taken before (eqb (kindOf (drop (s .at) f)) 4) (s .at + lengthOf (drop (s .at) f)) (recordIn (Styles.only t) x (drop (s .at) f)) o rs′
+    → RecordAfter before (eqb (kindOf (drop (s .at) f)) 4) (s .at + lengthOf (drop (s .at) f)) (recordIn (Styles.only t) x (drop (s .at) f)) o rs′
 
 -- the header's 8 bytes are read: depth and budget, and no region yet
 abbrev pub headedFile : Header → File

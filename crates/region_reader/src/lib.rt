@@ -4,13 +4,13 @@ use answer::LONG;
 use answer::MIXED;
 use answer::SPACE;
 use limits::HALFSPACES;
-use limits::LONGEST;
+use limits::MAX_FILE_BYTES;
 use region::Header;
 use region::HeaderOf;
 use region::Record;
 use region::Style;
-use region_contents::Outcome;
-use region_contents::State;
+use region_payloads::Outcome;
+use region_payloads::State;
 use region_records::Frame;
 ghost use mathlib.Core.Path.{_≡_};
 ghost use Prim.Native.Nat.{_-_, _≤_};
@@ -90,11 +90,11 @@ fn record_in(file: &[u8], style: Style, s: State, rows: &mut [i32]) -> Outcome
             let payload = &file[at + 4..at + len];
             let next = at + len;
             match record {
-                Record::Header => region_contents::header_again(payload),
-                Record::Convex => region_contents::convex_payload(payload, s, next),
-                Record::Halfspace => region_contents::halfspace_payload(payload, s, next, rows),
-                Record::End => region_contents::end_payload(payload, s, file.len() - next),
-                Record::Group(_) => region_contents::group_payload(payload, s, next, rows),
+                Record::Header => region_payloads::header_again(payload),
+                Record::Convex => region_payloads::convex_payload(payload, s, next),
+                Record::Halfspace => region_payloads::halfspace_payload(payload, s, next, rows),
+                Record::End => region_payloads::end_payload(payload, s, file.len() - next),
+                Record::Group(_) => region_payloads::group_payload(payload, s, next, rows),
             }
         }
     }
@@ -107,7 +107,7 @@ fn records_in(file: &[u8], style: Style, h: Header, rows: &mut [i32]) -> HeaderO
     ensures { λ r. ⌜ headerGiven r ≡ with-value headerOf (recordsAfter style h (now (file .entry))) ⌝ }
     ensures { λ r. ⌜ RowsGiven (recordsAfter style h (now (file .entry))) (now (rows .entry)) (now (rows .exit)) ⌝ }
 {
-    let none = region_counts::none();
+    let none = region_rows::counts::none();
     let mut s = State {
         at: 8,
         counts: none,
@@ -138,7 +138,7 @@ pub fn decode(file: &[u8], rows: &mut [i32; 5 * HALFSPACES]) -> HeaderOf
     ensures { λ r. ⌜ headerGiven r ≡ with-value headerOf (rule.read (now (file .entry))) ⌝ }
     ensures { λ r. ⌜ ((x : File) → rule.read (now (file .entry)) ≡ gives x → now (rows .exit) ≡ put 0 (region.rows (x .region)) (now (rows .entry))) ⌝ }
 {
-    if LONGEST < file.len() {
+    if MAX_FILE_BYTES < file.len() {
         return HeaderOf::Refused(LONG);
     }
     let first = region_records::header_in(file);

@@ -21,6 +21,8 @@ ghost use Rattle.region.specs.Reader as rule;
 ghost use Rattle.region.specs.Answers.{headerOf, headerGiven};
 ghost use Rattle.region_records.specs.Frames.{recordGiven, frameOf};
 
+pub mod bytes;
+
 const IN_CONVEX: u32 = limits::IN_CONVEX as u32;
 
 // What a record is, or the refusal 3.

@@ -9,6 +9,9 @@ ghost use Rattle.algebra.proofs.Sizes.{Upto};
 ghost use Rattle.vector.proofs.Sizes.{AtMost};
 ghost use Rattle.region.specs.Rows.{halfspaceAt};
 
+pub mod checks;
+pub mod counts;
+
 // Number k of some rows.
 pub fn number_at(rows: &[i32], k: usize) -> i64
     requires { ⌜ k < length (now rows) ⌝ }

@@ -16,7 +16,7 @@ use Rattle.region.specs.Writer.{begin, numbersBytes, halfspaceBytes, convexesBy
 use Rattle.region.proofs.RegionLaws.{convex-length, convex-last, halfspace-length, halfspace-last, halfspace-total}
 use Rattle.region.proofs.ReadBack.{with-last, payload-length, convexes-length, groups-length, file-length, grouped-length}
 use Rattle.region.proofs.FileBack.{convex-bytes, halfspace-bytes, group-bytes}
-use Rattle.region_writer.specs.declared.Place.{Place}
+use Rattle.region_writer.specs.declared.WriteCursor.{WriteCursor}
 use Rattle.region_writer.specs.Writing.{width, opening, withConvexAt, withHalfspaceAt, Stands}
 
 -- ---- lengths
@@ -100,7 +100,7 @@ module _ (g : Region) (h : Halfspace) (b : 0 < length g) where
 
 -- ---- what stands in a list
 
-module _ {s : Style} {g : Region} {before xs : List ℕ} {p : Place} (v : Stands s g before xs p) (room : 8 + length (regionBytes s g) ≤ length before) where
+module _ {s : Style} {g : Region} {before xs : List ℕ} {p : WriteCursor} (v : Stands s g before xs p) (room : 8 + length (regionBytes s g) ≤ length before) where
   pub stands-convex : {ys : List ℕ} → ys ≡ withConvexAt s p xs
       → Stands s (withConvex g) before ys (record { at = p .at + 4; convexes = p .convexes + 1; last = 0 })
   stands-convex e = record {

@@ -19,9 +19,9 @@ use Rattle.region.specs.Rows.{regionOf}
 use Rattle.region.specs.Writer.{headerBytes, endBytes, regionBytes, fileIn, writeIn}
 use Rattle.region.proofs.FileAnswers.{Answered, no-file, no-space, file-written}
 use Rattle.region.proofs.WriteBack.{region-back}
-use Rattle.region_counts.specs.declared.Counts.{Counts}
-use Rattle.region_counts.specs.Counts.{countsOf}
-use Rattle.region_writer.specs.Writing.{width, Room}
+use Rattle.region_rows.specs.declared.counts.RegionSize.{RegionSize}
+use Rattle.region_rows.specs.RegionSizes.{countsOf}
+use Rattle.region_writer.specs.Writing.{width, FileFits}
 use Rattle.region_writer.proofs.GrowthLaws.{region-length, whole-length}
 
 -- ---- the answer
@@ -58,7 +58,7 @@ module _ (s : Style) (d b : ℕ) (rs : List ℤ) (before : List ℕ) where
 -- ---- rows that passed
 
 -- the region g of the rows rs has the counts k and is within the limits
-pub record Passed (rs : List ℤ) (k : Counts) : Type 0 where
+pub record RowsWithin (rs : List ℤ) (k : RegionSize) : Type 0 where
   pub region : Region
   pub is : regionOf rs ≡ gives region
   pub convexes : k .convexes ≡ length region
@@ -66,7 +66,7 @@ pub record Passed (rs : List ℤ) (k : Counts) : Type 0 where
   pub few : k .convexes ≤ 64
   pub limit : k .all ≤ 512
 
-pub passed : (rs : List ℤ) (k : Counts) → gives k ≡ with-value countsOf (regionOf rs) → Passed rs k
+pub passed : (rs : List ℤ) (k : RegionSize) → gives k ≡ with-value countsOf (regionOf rs) → RowsWithin rs k
 passed rs k e =
     let w = value-gives countsOf (regionOf rs) k (sym e) in
     let m = region-back rs (w .0) (w .1) .0 in
@@ -74,11 +74,11 @@ passed rs k e =
     let a : k .all ≡ total (w .0) = ap (λ k. k .all) (sym (w .2)) in
     record { region = w .0; is = w .1; convexes = c; all = a; few = omega (arith, c, m .convexes); limit = omega (arith, a, m .halfspaces) }
 
-module _ {rs : List ℤ} {k : Counts} (p : Passed rs k) (s : Style) where
+module _ {rs : List ℤ} {k : RegionSize} (p : RowsWithin rs k) (s : Style) where
   pub counted-length : (d b : ℕ) → 12 + 4 * k .convexes + width s * k .all ≡ length (fileIn s d b (p .region))
   counted-length d b = (λ i. 12 + 4 * p .convexes i + width s * p .all i) ∙ sym (whole-length s d b (p .region))
 
-  pub has-room : (n : ℕ) → 12 + 4 * k .convexes + width s * k .all ≤ n → Room s rs n
+  pub has-room : (n : ℕ) → 12 + 4 * k .convexes + width s * k .all ≤ n → FileFits s rs n
   has-room n l =
       let e : 4 * k .convexes + width s * k .all ≡ length (regionBytes s (p .region)) =
       (λ i. 4 * p .convexes i + width s * p .all i) ∙ sym (region-length s (p .region)) in

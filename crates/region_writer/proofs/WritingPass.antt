@@ -27,22 +27,22 @@ use Rattle.region.specs.Writer.{begin, convexesBytes, groupsBytes, regionBytes}
 use Rattle.region.proofs.AddLaws.{Added}
 use Rattle.region.proofs.RegionLaws.{convex-length}
 use Rattle.region.proofs.RowsBack.{last-total}
-use Rattle.region_checks.proofs.NumberLaws.{Taken, taken}
-use Rattle.region_checks.proofs.CheckingPass.{next-row}
-use Rattle.region_writer.specs.declared.Place.{Place}
-use Rattle.region_writer.specs.Writing.{width, opening, withConvexAt, withHalfspaceAt, Stands, RowFits, Room, RowsStand}
+use Rattle.region_rows.proofs.NumberLaws.{RowAdded, taken}
+use Rattle.region_rows.proofs.CheckingPass.{next-row}
+use Rattle.region_writer.specs.declared.WriteCursor.{WriteCursor}
+use Rattle.region_writer.specs.Writing.{width, opening, withConvexAt, withHalfspaceAt, Stands, RowFits, FileFits, RowsStand}
 use Rattle.region_writer.proofs.GrowthLaws.{region-length, convex-more, halfspace-longer, stands-convex, stands-halfspace}
 
 -- ---- a halfspace more
 
 -- the halfspace h makes the region r of g, which stands in xs
-pub record Follows (s : Style) (g r : Region) (before xs : List ℕ) (p : Place) (h : Halfspace) : Type 0 where
+pub record Follows (s : Style) (g r : Region) (before xs : List ℕ) (p : WriteCursor) (h : Halfspace) : Type 0 where
   pub stands : Stands s g before xs p
   pub begun : 0 < length g
   pub added : Added g r h
   pub room : 12 + length (regionBytes s r) ≤ length before
 
-module _ {s : Style} {g r : Region} {before xs : List ℕ} {p : Place} {h : Halfspace} (f : Follows s g r before xs p h) where
+module _ {s : Style} {g r : Region} {before xs : List ℕ} {p : WriteCursor} {h : Halfspace} (f : Follows s g r before xs p h) where
   grown : length (regionBytes s r) ≡ length (regionBytes s g) + width s
   grown = ap (λ r. length (regionBytes s r)) (sym (f .added .is)) ∙ halfspace-longer g h (f .begun) s
 
@@ -59,17 +59,17 @@ module _ {s : Style} {g r : Region} {before xs : List ℕ} {p : Place} {h : Half
   pub halfspace-small : Small (h .n) × Upto Kℕ (h .d)
   halfspace-small = (vector-small (h .n) (f .added .fine .vector), between-upto (h .d) (f .added .fine .offset))
 
-  pub halfspace-stands : {q : Place} {ys : List ℕ} → q ≡ record { at = p .at + width s; convexes = p .convexes; last = p .last + 1 }
+  pub halfspace-stands : {q : WriteCursor} {ys : List ℕ} → q ≡ record { at = p .at + width s; convexes = p .convexes; last = p .last + 1 }
       → ys ≡ withHalfspaceAt s p h xs → Stands s r before ys q
   halfspace-stands {ys = ys} e b =
-      let q : Place = record { at = p .at + width s; convexes = p .convexes; last = p .last + 1 } in
+      let q : WriteCursor = record { at = p .at + width s; convexes = p .convexes; last = p .last + 1 } in
       let w = stands-halfspace (f .stands) (omega (arith, grown, f .room)) h (f .begun) b in
       subst (λ q. Stands s r before ys q) (sym e) (subst (λ r. Stands s r before ys q) (f .added .is) w)
 
 -- ---- a row more
 
-module _ {s : Style} {xs : List ℕ} {p : Place} {c : ℤ} {h : Halfspace} (f : RowFits s xs p c h) where
-  row : Taken (f .region) (f .next) c h
+module _ {s : Style} {xs : List ℕ} {p : WriteCursor} {c : ℤ} {h : Halfspace} (f : RowFits s xs p c h) where
+  row : RowAdded (f .region) (f .next) c h
   row = taken (f .region) (f .next) c h (f .is)
 
   opens : (t : Bool) → eqZ c (pos (p .convexes)) ≡ t → opened (f .region) c ≡ cond t (withConvex (f .region)) (f .region)
@@ -104,7 +104,7 @@ module _ {s : Style} {xs : List ℕ} {p : Place} {c : ℤ} {h : Halfspace} (f : 
         let same = ap length (f .stands .bytes) ∙ put-length 8 (regionBytes s (f .region)) (f .before) (omega (arith, longer, f .room)) in
         (omega (arith, f .stands .at, longer, f .room), omega (arith, f .stands .convexes, ap length (opens true e), row .few, convex-length (f .region)))
 
-    pub begins-row : {q : Place} {ys : List ℕ} → q ≡ record { at = p .at + 4; convexes = p .convexes + 1; last = 0 } → ys ≡ withConvexAt s p xs
+    pub begins-row : {q : WriteCursor} {ys : List ℕ} → q ≡ record { at = p .at + 4; convexes = p .convexes + 1; last = 0 } → ys ≡ withConvexAt s p xs
         → Follows s (withConvex (f .region)) (f .next) (f .before) ys q h
     begins-row {ys = ys} o b = record {
       stands = subst (λ q. Stands s (withConvex (f .region)) (f .before) ys q) (sym o) (stands-convex (f .stands) (omega (arith, longer, f .room)) b);
@@ -119,7 +119,7 @@ opened-longer : (s : Style) (g : Region) (t : Bool) → length (regionBytes s g)
 opened-longer s g true = omega (arith, ap length (convex-more s g), length-append (regionBytes s g) (begin (opening s)))
 opened-longer s g false = omega arith
 
-row-longer : (s : Style) {g r : Region} {c : ℤ} {h : Halfspace} → Taken g r c h → length (regionBytes s g) ≤ length (regionBytes s r)
+row-longer : (s : Style) {g r : Region} {c : ℤ} {h : Halfspace} → RowAdded g r c h → length (regionBytes s g) ≤ length (regionBytes s r)
 row-longer s {g} {r} {c} {h} t =
     omega (arith, opened-longer s g (begins g c), halfspace-longer (opened g c) h (t .begun) s, ap (λ r. length (regionBytes s r)) (t .added .is))
 
@@ -134,7 +134,7 @@ rows-longer s (suc n) g f rs e =
 -- ---- the pass
 
 -- the rows of rs before element i are written into xs, which was before, and the next record goes to p. All rows make the region whole, which has room
-pub record Writing (s : Style) (rs : List ℤ) (before xs : List ℕ) (p : Place) (i : ℕ) : Type 0 where
+pub record Writing (s : Style) (rs : List ℤ) (before xs : List ℕ) (p : WriteCursor) (i : ℕ) : Type 0 where
   pub whole : Region
   pub is : regionOf rs ≡ gives whole
   pub room : 12 + length (regionBytes s whole) ≤ length before
@@ -156,7 +156,7 @@ unfolding convexesBytes groupsBytes lastConvex
 none-stand Style.Plain before = record { at = refl; convexes = refl; last = refl; bytes = sym (take-append-drop 8 before) }
 none-stand Style.Grouped before = record { at = refl; convexes = refl; last = refl; bytes = sym (take-append-drop 8 before) }
 
-pub start : (s : Style) (rs : List ℤ) (before : List ℕ) → Room s rs (length before) → Writing s rs before before (record { at = 8; convexes = 0; last = 0 }) 0
+pub start : (s : Style) (rs : List ℤ) (before : List ℕ) → FileFits s rs (length before) → Writing s rs before before (record { at = 8; convexes = 0; last = 0 }) 0
 start s rs before q =
     let w = all-rows rs (q .region) (q .is) in
     record {
@@ -170,7 +170,7 @@ start s rs before q =
       stands = none-stand s before;
     }
 
-module _ {s : Style} {rs : List ℤ} {before xs : List ℕ} {p : Place} {i : ℕ} (v : Writing s rs before xs p i) where
+module _ {s : Style} {rs : List ℤ} {before xs : List ℕ} {p : WriteCursor} {i : ℕ} (v : Writing s rs before xs p i) where
   pub as-long : length xs ≡ length before
   as-long =
       ap length (v .stands .bytes)
@@ -211,7 +211,7 @@ module _ {s : Style} {rs : List ℤ} {before xs : List ℕ} {p : Place} {i : ℕ
       room = omega (arith, v .room, rows-longer s (v .left - 1) (next .0) (v .whole) (drop (i + 5) rs) (next .2));
     }
 
-    pub more : {q : Place} {ys : List ℕ} → ((f : RowFits s xs p c h) → Stands s (f .next) (f .before) ys q) → Writing s rs before ys q (i + 5)
+    pub more : {q : WriteCursor} {ys : List ℕ} → ((f : RowFits s xs p c h) → Stands s (f .next) (f .before) ys q) → Writing s rs before ys q (i + 5)
     unfolding row-fits
     more w = record {
       whole = v .whole;

@@ -5,7 +5,7 @@
 --   withHalfspaceAt s p h xs   the list with the halfspace h more at the place p; a group's length grows with it
 --   Stands s g before xs p     the region g stands in xs, which was before, from element 8 on, and p is the place after it
 --   RowFits s xs p c h         some region stands in xs; the row with the number c and the halfspace h may follow it, and has room
---   Room s rs n                the rows rs are a region, and its file has at most n bytes
+--   FileFits s rs n            the rows rs are a region, and its file has at most n bytes
 --   RowsStand s rs before xs n   the region of the rows rs stands in xs, which was before, from element 8 to element n
 use Prim.Native.Nat.{ℕ, _+_, _-_, _*_, _≤_}
 use mathlib.Core.Path.{_≡_}
@@ -21,7 +21,7 @@ use Rattle.region.specs.Regions.{Region}
 use Rattle.region.specs.Building.{lastConvex, total}
 use Rattle.region.specs.Rows.{rowIn, regionOf}
 use Rattle.region.specs.Writer.{begin, numbersBytes, halfspaceBytes, regionBytes}
-use Rattle.region_writer.specs.declared.Place.{Place}
+use Rattle.region_writer.specs.declared.WriteCursor.{WriteCursor}
 
 abbrev pub width : Style → ℕ
 width Style.Plain = 20
@@ -31,20 +31,20 @@ abbrev pub opening : Style → Record
 opening Style.Plain = Record.Convex
 opening Style.Grouped = Record.Group 0
 
-abbrev pub withConvexAt : Style → Place → List ℕ → List ℕ
+abbrev pub withConvexAt : Style → WriteCursor → List ℕ → List ℕ
 withConvexAt s p xs = put (p .at) (begin (opening s)) xs
 
-abbrev pub withHalfspaceAt : Style → Place → Halfspace → List ℕ → List ℕ
+abbrev pub withHalfspaceAt : Style → WriteCursor → Halfspace → List ℕ → List ℕ
 withHalfspaceAt Style.Plain p h xs = put (p .at) (halfspaceBytes h) xs
 withHalfspaceAt Style.Grouped p h xs = put (p .at) (numbersBytes h) (put (p .at - (4 + 16 * p .last)) (begin (Record.Group (p .last + 1))) xs)
 
-pub record Stands (s : Style) (g : Region) (before xs : List ℕ) (p : Place) : Type 0 where
+pub record Stands (s : Style) (g : Region) (before xs : List ℕ) (p : WriteCursor) : Type 0 where
   pub at : p .at ≡ 8 + length (regionBytes s g)
   pub convexes : p .convexes ≡ length g
   pub last : p .last ≡ length (lastConvex g)
   pub bytes : xs ≡ put 8 (regionBytes s g) before
 
-pub record RowFits (s : Style) (xs : List ℕ) (p : Place) (c : ℤ) (h : Halfspace) : Type 0 where
+pub record RowFits (s : Style) (xs : List ℕ) (p : WriteCursor) (c : ℤ) (h : Halfspace) : Type 0 where
   pub region : Region
   pub before : List ℕ
   pub stands : Stands s region before xs p
@@ -52,7 +52,7 @@ pub record RowFits (s : Style) (xs : List ℕ) (p : Place) (c : ℤ) (h : Halfsp
   pub is : rowIn region c h ≡ gives next
   pub room : 12 + length (regionBytes s next) ≤ length before
 
-pub record Room (s : Style) (rs : List ℤ) (n : ℕ) : Type 0 where
+pub record FileFits (s : Style) (rs : List ℤ) (n : ℕ) : Type 0 where
   pub region : Region
   pub is : regionOf rs ≡ gives region
   pub room : 12 + length (regionBytes s region) ≤ n

@@ -7,8 +7,8 @@ use answer::SPACE;
 use region::Halfspace;
 use region::Record;
 use region::Style;
-use region_counts::Counts;
-use region_counts::CountsOf;
+use region_rows::counts::RegionSize;
+use region_rows::counts::RegionSizeOf;
 ghost use mathlib.Core.Path.{_≡_};
 ghost use Prim.Native.Nat.{_+_, _*_, _≤_, _<_};
 ghost use lib.ListN.{length};
@@ -23,10 +23,10 @@ ghost use Rattle.region.specs.Rows.{regionOf};
 ghost use Rattle.region.specs.Writer.{fileIn, writeIn};
 ghost use Rattle.region.specs.Answers.{fileAnswer, fileAfter};
 ghost use Rattle.region_writer.specs.Writing as writing;
-ghost use Rattle.region_writer.specs.Writing.{withConvexAt, withHalfspaceAt, Stands, RowFits, Room, RowsStand};
+ghost use Rattle.region_writer.specs.Writing.{withConvexAt, withHalfspaceAt, Stands, RowFits, FileFits, RowsStand};
 
 // Where the next record goes, how many convexes are written, and how many halfspaces of the last one.
-pub struct Place {
+pub struct WriteCursor {
     pub at: usize,
     pub convexes: u16,
     pub last: u32,
@@ -53,13 +53,13 @@ fn opening(style: Style) -> Record
 }
 
 // A convex more. The place after it.
-fn put_convex(style: Style, out: &mut [u8], p: Place) -> Place
+fn put_convex(style: Style, out: &mut [u8], p: WriteCursor) -> WriteCursor
     requires { ⌜ (p .at + 4 ≤ length (now out)) × (p .convexes ≤ 64) ⌝ }
     ensures { λ r. ⌜ r ≡ record { at = p .at + 4; convexes = p .convexes + 1; last = 0 } ⌝ }
     ensures { λ r. ⌜ now (out .exit) ≡ withConvexAt style p (now (out .entry)) ⌝ }
 {
-    region_bytes::put_kind(out, p.at, opening(style));
-    Place {
+    region_records::bytes::put_kind(out, p.at, opening(style));
+    WriteCursor {
         at: p.at + 4,
         convexes: p.convexes + 1,
         last: 0,
@@ -67,7 +67,7 @@ fn put_convex(style: Style, out: &mut [u8], p: Place) -> Place
 }
 
 // A halfspace more, in the last convex: its own record, or its numbers behind those of the group, whose length is brought up to date. The place after it.
-fn put_halfspace(style: Style, out: &mut [u8], p: Place, h: Halfspace) -> Place
+fn put_halfspace(style: Style, out: &mut [u8], p: WriteCursor, h: Halfspace) -> WriteCursor
     requires { ⌜ (p .at + writing.width style ≤ length (now out)) × (4 + 16 * p .last ≤ p .at) × (p .last < 100) ⌝ }
     requires { ⌜ Small (h .n) ⌝ }
     requires { ⌜ Upto Kℕ (h .d) ⌝ }
@@ -76,31 +76,35 @@ fn put_halfspace(style: Style, out: &mut [u8], p: Place, h: Halfspace) -> Place
 {
     let at = p.at;
     let n = p.last + 1;
-    let next = Place {
+    let next = WriteCursor {
         at: at + width(style),
         convexes: p.convexes,
         last: n,
     };
     match style {
         Style::Plain => {
-            region_bytes::put_kind(out, at, Record::Halfspace);
-            region_bytes::put_numbers(out, at + 4, h);
+            region_records::bytes::put_kind(out, at, Record::Halfspace);
+            region_records::bytes::put_numbers(out, at + 4, h);
             next
         }
         Style::Grouped => {
-            region_bytes::put_kind(out, at - (4 + 16 * (p.last as usize)), Record::Group(n));
-            region_bytes::put_numbers(out, at, h);
+            region_records::bytes::put_kind(
+                out,
+                at - (4 + 16 * (p.last as usize)),
+                Record::Group(n),
+            );
+            region_records::bytes::put_numbers(out, at, h);
             next
         }
     }
 }
 
 // What a row with the number c adds: a convex begins where c is the next number. The place after it.
-fn put_row(style: Style, out: &mut [u8], p: Place, c: i32, h: Halfspace) -> Place
+fn put_row(style: Style, out: &mut [u8], p: WriteCursor, c: i32, h: Halfspace) -> WriteCursor
     requires { ⌜ RowFits style (now out) p c h ⌝ }
     ensures { λ r. ⌜ ((f : RowFits style (now (out .entry)) p c h) → Stands style (f .next) (f .before) (now (out .exit)) r) ⌝ }
 {
-    if region_checks::is_number(c, p.convexes) {
+    if region_rows::checks::is_number(c, p.convexes) {
         let opened = put_convex(style, out, p);
         return put_halfspace(style, out, opened, h);
     }
@@ -109,10 +113,10 @@ fn put_row(style: Style, out: &mut [u8], p: Place, c: i32, h: Halfspace) -> Plac
 
 // The records of all rows, from element 8 on. The place after them.
 fn put_rows(style: Style, rows: &[i32], out: &mut [u8]) -> usize
-    requires { ⌜ Room style (now rows) (length (now out)) ⌝ }
+    requires { ⌜ FileFits style (now rows) (length (now out)) ⌝ }
     ensures { λ r. ⌜ RowsStand style (now (rows .entry)) (now (out .entry)) (now (out .exit)) r ⌝ }
 {
-    let mut p = Place {
+    let mut p = WriteCursor {
         at: 8,
         convexes: 0,
         last: 0,
@@ -128,18 +132,18 @@ fn put_rows(style: Style, rows: &[i32], out: &mut [u8]) -> usize
 // The file of rows that were checked, at the beginning of `out`.
 fn put_file(style: Style, depth: u32, budget: u32, rows: &[i32], out: &mut [u8])
     requires { ⌜ (depth ≤ 12) × (budget ≤ 2048) ⌝ }
-    requires { ⌜ Room style (now rows) (length (now out)) ⌝ }
+    requires { ⌜ FileFits style (now rows) (length (now out)) ⌝ }
     ensures { λ r. ⌜ ((g : Region) → regionOf (now (rows .entry)) ≡ gives g → now (out .exit) ≡ put 0 (fileIn style depth budget g) (now (out .entry))) ⌝ }
 {
-    region_bytes::put_kind(out, 0, Record::Header);
-    region_bytes::put_word(out, 4, depth);
-    region_bytes::put_word(out, 6, budget);
+    region_records::bytes::put_kind(out, 0, Record::Header);
+    region_records::bytes::put_word(out, 4, depth);
+    region_records::bytes::put_word(out, 6, budget);
     let at = put_rows(style, rows, out);
-    region_bytes::put_kind(out, at, Record::End);
+    region_records::bytes::put_kind(out, at, Record::End);
 }
 
 // The length of a file: header and end, what begins a convex for each of them, and the bytes of each halfspace.
-fn file_length(style: Style, c: Counts) -> usize
+fn file_length(style: Style, c: RegionSize) -> usize
     requires { ⌜ (c .convexes ≤ 64) × (c .all ≤ 512) ⌝ }
     ensures { λ r. ⌜ r ≡ 12 + 4 * c .convexes + writing.width style * c .all ⌝ }
 {
@@ -158,9 +162,9 @@ pub fn write(style: Style, depth: u32, budget: u32, rows: &[i32], out: &mut [u8]
     if !limits::is_budget(budget) {
         return Number::Refused(BUDGET);
     }
-    match region_checks::checked(rows) {
-        CountsOf::Refused(n) => Number::Refused(n),
-        CountsOf::Gives(c) => {
+    match region_rows::checks::checked(rows) {
+        RegionSizeOf::Refused(n) => Number::Refused(n),
+        RegionSizeOf::Gives(c) => {
             let len = file_length(style, c);
             if out.len() < len {
                 return Number::Refused(SPACE);

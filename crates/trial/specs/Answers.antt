@@ -5,7 +5,7 @@
 --   trialAnswer ..     what both settings come to, and the choice
 --   firstAfter .., secondAfter ..   the two buffers afterwards: the two lists of each setting, as a cover leaves them
 --   trialGiven r       what the call gave
---   trialList t        what both settings come to, as numbers, `counted` of them: the five of the first, those of the second, and the choice
+--   trialList t        what both settings come to, as numbers, `trialCounts` of them: the five of the first, those of the second, and the choice
 --   fitting n l        the first n elements of l, where it has so many; else none
 --   partBy t first second   of the two buffers the chosen one's first 2 × outer count elements; none where it is shorter, or where the choice is neither
 --   partOf r first second   the same of what a trial answered; none after a refusal
@@ -21,7 +21,7 @@ use Rattle.answer.specs.Lent.{stored}
 use Rattle.vector.specs.Numbers.{isDepth}
 use Rattle.region.specs.Budgets.{isBudget, budgetOf}
 use Rattle.region.specs.Reader.{File, read}
-use Rattle.cutting.specs.Cover.{bothListed}
+use Rattle.covering.specs.Cover.{bothListed}
 use Rattle.index.specs.Exposures.{isOwner}
 use Rattle.index.specs.Answers.{inList}
 use Rattle.trial.specs.declared.Setting.{Setting}
@@ -65,8 +65,8 @@ trialList t =
     t .first .unchecked ∷ t .first .held ∷ t .first .discarded ∷ t .first .outer ∷ t .first .inner
     ∷ t .second .unchecked ∷ t .second .held ∷ t .second .discarded ∷ t .second .outer ∷ t .second .inner ∷ t .choice ∷ []
 
-abbrev pub counted : ℕ
-counted = 11
+abbrev pub trialCounts : ℕ
+trialCounts = 11
 
 -- ---- the part that is handed back
 

@@ -18,10 +18,10 @@ use Rattle.vector.specs.Numbers.{isDepth}
 use Rattle.region.specs.Regions.{Region, holds}
 use Rattle.region.specs.Budgets.{isBudget}
 use Rattle.ranges.specs.Contents.{identifiers}
-use Rattle.cutting.specs.Cover.{Cover, coverOf}
+use Rattle.covering.specs.Cover.{Cover, coverOf}
 use Rattle.frames.specs.Walk.{entriesOf, Met, walk, isUnchecked, isHeld, isDiscarded}
 use Rattle.trial.specs.declared.Setting.{Setting}
-use Rattle.trial.specs.declared.Tried.{Tried}
+use Rattle.trial.specs.declared.SettingResult.{SettingResult}
 use Rattle.trial.specs.declared.Trial.{Trial}
 
 abbrev pub isSetting : Setting → Bool
@@ -33,7 +33,7 @@ coverBy s g = coverOf (s .depth) (s .budget) g
 unfoldable pub walkBy : ℕ → List ℤ → Region → Setting → List Met
 walkBy o l g s = walk (s .depth) (holds g) (coverBy s g .outer) (coverBy s g .inner) (entriesOf o l)
 
-abbrev pub triedBy : ℕ → List ℤ → Region → Setting → Tried
+abbrev pub triedBy : ℕ → List ℤ → Region → Setting → SettingResult
 triedBy o l g s = record {
   unchecked = tally (λ m. isUnchecked (m .fate)) (walkBy o l g s);
   held = tally (λ m. isHeld (m .fate)) (walkBy o l g s);

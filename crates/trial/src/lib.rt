@@ -1,7 +1,7 @@
 // A trial of two settings: the rules in specs/, and the types that they name. Document 02, F-13.
 
 // How many numbers a trial gives.
-pub const COUNTED: usize = 11;
+pub const TRIAL_COUNTS: usize = 11;
 
 // A depth and a budget that stand in for those of a file's header.
 pub struct Setting {
@@ -10,7 +10,7 @@ pub struct Setting {
 }
 
 // What one setting comes to: the frames delivered unchecked, tested and held, and tested and discarded, and how many ranges the outer and the inner list have.
-pub struct Tried {
+pub struct SettingResult {
     pub unchecked: u64,
     pub held: u64,
     pub discarded: u64,
@@ -20,8 +20,8 @@ pub struct Tried {
 
 // What both come to, and the choice: 1 for the first, 2 for the second.
 pub struct Trial {
-    pub first: Tried,
-    pub second: Tried,
+    pub first: SettingResult,
+    pub second: SettingResult,
     pub choice: u32,
 }
 

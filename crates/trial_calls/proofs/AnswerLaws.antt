@@ -12,13 +12,13 @@ use Rattle.answer.proofs.AnswerLaws.{value-refused}
 use Rattle.region.specs.declared.Header.{Header}
 use Rattle.region.specs.Reader.{File, read}
 use Rattle.region.specs.Answers.{headerOf}
-use Rattle.cutting_cover.specs.Decoded.{Decoded}
+use Rattle.covering_calls.specs.Decoded.{Decoded}
 use Rattle.index.specs.Exposures.{isOwner}
 use Rattle.trial.specs.declared.Setting.{Setting}
 use Rattle.trial.specs.declared.TrialOf.{TrialOf}
 use Rattle.trial.specs.Trials.{choiceOf, trialOf}
 use Rattle.trial.specs.Answers.{settled, trialInto, trialAnswer, listsBy, firstAfter, secondAfter}
-use Rattle.trial_calls.specs.declared.Outcome.{Outcome}
+use Rattle.trial_calls.specs.declared.ScoredSetting.{ScoredSetting}
 use Rattle.trial_calls.specs.Tries.{roomy, Checks, trialBy, Tries, Answers}
 use Rattle.trial_calls.proofs.CheckLaws.{passing-none, passing-some}
 
@@ -49,7 +49,7 @@ module _ (o : ℕ) (l : List ℤ) (f : List ℕ) (s t : Setting) (first second :
       pub check-refused : (r ≡ 0 → ⊥) → Answers o l f s t first second (TrialOf.Refused r) first second
       check-refused z = refuses r (into ∙ c (gives (k .file)) ∙ passing-some r (gives (k .file)) z)
 
-      pub tried-both : r ≡ 0 → (a b : Outcome) (one two : List ℕ) → Tries o l s (k .file .region) first a one → Tries o l t (k .file .region) second b two
+      pub tried-both : r ≡ 0 → (a b : ScoredSetting) (one two : List ℕ) → Tries o l s (k .file .region) first a one → Tries o l t (k .file .region) second b two
           → Answers o l f s t first second (TrialOf.Gives (trialBy a b)) one two
       unfolding trialAnswer firstAfter secondAfter trialOf
       tried-both z a b one two u v =

@@ -11,7 +11,7 @@ use Rattle.vector.specs.Numbers.{isDepth}
 use Rattle.vector.proofs.DepthLaws.{depth-range}
 use Rattle.region.specs.Budgets.{isBudget, budgetOf}
 use Rattle.region.specs.Reader.{File}
-use Rattle.index.specs.Entries.{Least}
+use Rattle.index.specs.Entries.{IndexLength}
 use Rattle.trial.specs.declared.Setting.{Setting}
 use Rattle.trial.specs.Answers.{settled}
 use Rattle.trial_calls.specs.Tries.{passing, Settles, roomy, Checks}
@@ -39,7 +39,7 @@ module _ (k : ℕ) (s t : Setting) (m n : ℕ) where
     both-settled r e h a = p _ ∙ passing-none _ z ∙ e a ∙ passing-none a h
 
   pub by-lengths : ((a : Answer File) → settled s (settled t a) ≡ a) → {x y z : Bool}
-      → leb (4 * budgetOf (s .budget)) m ≡ x → leb (4 * budgetOf (t .budget)) n ≡ y → leb Least k ≡ z
+      → leb (4 * budgetOf (s .budget)) m ≡ x → leb (4 * budgetOf (t .budget)) n ≡ y → leb IndexLength k ≡ z
       → (a : Answer File) → settled s (settled t (roomy k s t m n a)) ≡ check Space x (check Space y (check Space z a))
   by-lengths g p q r a = g _ ∙ (λ i. check Space (p i) (check Space (q i) (check Space (r i) a)))
 
@@ -50,19 +50,19 @@ settled-depth s a x e =
     let b = check Budget (isBudget (s .budget)) a in
     (depth-range (s .depth) (check-passed Depth (isDepth (s .depth)) b x e), check-gives Budget (isBudget (s .budget)) a x (check-gives Depth (isDepth (s .depth)) b x e))
 
-pub record Passed (k : ℕ) (s t : Setting) (m n : ℕ) : Type 0 where
+pub record SettingsPassed (k : ℕ) (s t : Setting) (m n : ℕ) : Type 0 where
   pub one : (1 ≤ s .depth) × (s .depth ≤ 12)
   pub two : (1 ≤ t .depth) × (t .depth ≤ 12)
   pub first : 4 * budgetOf (s .budget) ≤ m
   pub second : 4 * budgetOf (t .budget) ≤ n
-  pub index : Least ≤ k
+  pub index : IndexLength ≤ k
 
 module _ (k : ℕ) (s t : Setting) (m n : ℕ) where
-  pub passed : (r : ℕ) → Checks k s t m n r → r ≡ 0 → File → Passed k s t m n
+  pub passed : (r : ℕ) → Checks k s t m n r → r ≡ 0 → File → SettingsPassed k s t m n
   passed r e z x =
       let p = leb (4 * budgetOf (s .budget)) m in
       let q = leb (4 * budgetOf (t .budget)) n in
-      let u = leb Least k in
+      let u = leb IndexLength k in
       let a = settled-depth s (settled t (roomy k s t m n (gives x))) x (e (gives x) ∙ passing-none (gives x) z) in
       let b = settled-depth t (roomy k s t m n (gives x)) x (a .1) in
       let c = check-gives Space p (check Space q (check Space u (gives x))) x (b .1) in
@@ -72,5 +72,5 @@ module _ (k : ℕ) (s t : Setting) (m n : ℕ) where
         two = b .0;
         first = leb-true (4 * budgetOf (s .budget)) m (check-passed Space p (check Space q (check Space u (gives x))) x (b .1));
         second = leb-true (4 * budgetOf (t .budget)) n (check-passed Space q (check Space u (gives x)) x c);
-        index = leb-true Least k (check-passed Space u (gives x) x d);
+        index = leb-true IndexLength k (check-passed Space u (gives x) x d);
       }

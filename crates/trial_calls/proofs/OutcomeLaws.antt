@@ -10,9 +10,9 @@ use lib.IntN.{ℤ}
 use Rattle.region.specs.Regions.{Region}
 use Rattle.region.specs.Budgets.{budgetOf}
 use Rattle.region.proofs.BudgetLaws.{budget-one}
-use Rattle.cutting.specs.Cover.{coverOf}
-use Rattle.cutting.proofs.ContentsLaws.{outer-counted, counts-small}
-use Rattle.cutting_walk.specs.Walk.{RowsOf}
+use Rattle.covering.specs.Cover.{coverOf}
+use Rattle.covering.proofs.ContentsLaws.{outer-counted, counts-small}
+use Rattle.covering_walk.specs.Walk.{RowsOf}
 use Rattle.frames_calls.specs.declared.Searched.{Searched}
 use Rattle.frames_calls.specs.Searches.{Leaves, SearchesRows}
 use Rattle.trial.specs.declared.Setting.{Setting}

@@ -15,16 +15,16 @@ use Rattle.answer.specs.Answer.{Answer, refused, check, Space}
 use Rattle.region.specs.Regions.{Region}
 use Rattle.region.specs.Budgets.{budgetOf}
 use Rattle.region.specs.Reader.{File}
-use Rattle.cutting.specs.Cover.{bothListed}
-use Rattle.cutting_walk.specs.Walk.{RowsOf}
-use Rattle.index.specs.Entries.{Least}
+use Rattle.covering.specs.Cover.{bothListed}
+use Rattle.covering_walk.specs.Walk.{RowsOf}
+use Rattle.index.specs.Entries.{IndexLength}
 use Rattle.frames_calls.specs.declared.Searched.{Searched}
 use Rattle.trial.specs.declared.Setting.{Setting}
 use Rattle.trial.specs.declared.Trial.{Trial}
 use Rattle.trial.specs.declared.TrialOf.{TrialOf}
 use Rattle.trial.specs.Trials.{coverBy, triedBy, skyOf, choiceOf}
 use Rattle.trial.specs.Answers.{settled, trialAnswer, firstAfter, secondAfter, trialGiven}
-use Rattle.trial_calls.specs.declared.Outcome.{Outcome}
+use Rattle.trial_calls.specs.declared.ScoredSetting.{ScoredSetting}
 
 -- ---- the checks
 
@@ -36,14 +36,14 @@ Settles s r = (a : Answer File) → settled s a ≡ passing r a
 
 -- those of the lists, by their lengths
 abbrev pub roomy : {A : Type 0} → ℕ → Setting → Setting → ℕ → ℕ → Answer A → Answer A
-roomy k s t m n a = check Space (leb (4 * budgetOf (s .budget)) m) (check Space (leb (4 * budgetOf (t .budget)) n) (check Space (leb Least k) a))
+roomy k s t m n a = check Space (leb (4 * budgetOf (s .budget)) m) (check Space (leb (4 * budgetOf (t .budget)) n) (check Space (leb IndexLength k) a))
 
 abbrev pub Checks : ℕ → Setting → Setting → ℕ → ℕ → ℕ → Type 0
 Checks k s t m n r = (a : Answer File) → settled s (settled t (roomy k s t m n a)) ≡ passing r a
 
 -- ---- one setting
 
-abbrev pub outcomeOf : ℕ → Searched → Outcome
+abbrev pub outcomeOf : ℕ → Searched → ScoredSetting
 outcomeOf d r = record {
   tried = record {
     unchecked = r .tests .unchecked;
@@ -56,15 +56,15 @@ outcomeOf d r = record {
 }
 
 -- what two of them come to, and the choice
-abbrev pub trialBy : Outcome → Outcome → Trial
+abbrev pub trialBy : ScoredSetting → ScoredSetting → Trial
 trialBy a b = record { first = a .tried; second = b .tried; choice = choiceOf (a .sky) (b .sky) }
 
-pub record Tries (o : ℕ) (l : List ℤ) (s : Setting) (g : Region) (before : List ℕ) (r : Outcome) (after : List ℕ) : Type 0 where
+pub record Tries (o : ℕ) (l : List ℤ) (s : Setting) (g : Region) (before : List ℕ) (r : ScoredSetting) (after : List ℕ) : Type 0 where
   pub tried : r .tried ≡ triedBy o l g s
   pub sky : r .sky ≡ skyOf s g
   pub lists-left : after ≡ bothListed (budgetOf (s .budget)) (coverBy s g) before
 
-abbrev pub TriesRows : ℕ → List ℤ → Setting → List ℤ → ℕ → List ℕ → Outcome → List ℕ → Type 0
+abbrev pub TriesRows : ℕ → List ℤ → Setting → List ℤ → ℕ → List ℕ → ScoredSetting → List ℕ → Type 0
 TriesRows o l s rs n before r after = (g : Region) → RowsOf g n rs → Tries o l s g before r after
 
 -- ---- the trial

@@ -5,17 +5,17 @@ use answer::DEPTH;
 use answer::OWNER;
 use answer::SPACE;
 use frames_calls::Searched;
-use index::LEAST;
+use index::INDEX_LENGTH;
+use index::OWNER_CAPACITY;
 use index::OWNERS;
-use index::SHARE;
-use limits::DEEPEST;
 use limits::HALFSPACES;
+use limits::MAX_DEPTH;
 use region::Header;
 use region::HeaderOf;
 use trial::Setting;
+use trial::SettingResult;
 use trial::Trial;
 use trial::TrialOf;
-use trial::Tried;
 ghost use mathlib.Core.Path.{_≡_};
 ghost use mathlib.Core.Bool.{true};
 ghost use mathlib.Core.List.{List};
@@ -23,20 +23,19 @@ ghost use Prim.Native.Nat.{ℕ, _+_, _*_, _^_, _≤_};
 ghost use lib.Dec.{leb};
 ghost use lib.ListN.{length};
 ghost use denote.Ref.{ptr};
-ghost use Rattle.answer.specs.Lent.{put};
 ghost use Rattle.region.specs.Budgets.{budgetOf};
 ghost use Rattle.index.specs.Exposures.{isOwner};
-ghost use Rattle.index.specs.Entries.{Least};
-ghost use Rattle.cutting_walk.specs.Walk.{SomeRows};
-ghost use Rattle.cutting_cover.specs.Decoded.{Decoded};
+ghost use Rattle.index.specs.Entries.{IndexLength};
+ghost use Rattle.covering_walk.specs.Walk.{SomeRows};
+ghost use Rattle.covering_calls.specs.Decoded.{Decoded};
 ghost use Rattle.frames_calls.specs.Searches.{FileIs};
 ghost use Rattle.trial.specs.Trials.{choiceOf};
-ghost use Rattle.trial.specs.Answers.{trialAnswer, firstAfter, secondAfter, trialGiven, trialList, counted, fitting, partBy, partOf, bufferBy, bufferOf};
+ghost use Rattle.trial.specs.Answers.{trialAnswer, firstAfter, secondAfter, trialGiven, fitting, partBy, partOf, bufferBy, bufferOf};
 ghost use Rattle.trial_calls.specs.Tries.{Settles, Checks, outcomeOf, trialBy, TriesRows, Answers};
 
 // What one setting comes to, and the share of the sky that its outer list spans, in identifiers of depth 12.
-pub struct Outcome {
-    pub tried: Tried,
+pub struct ScoredSetting {
+    pub tried: SettingResult,
     pub sky: u64,
 }
 
@@ -80,20 +79,20 @@ fn refusal(index: usize, s: Setting, t: Setting, first: usize, second: usize) ->
     if !has_room(t, second) {
         return SPACE;
     }
-    if index < LEAST {
+    if index < INDEX_LENGTH {
         return SPACE;
     }
     0
 }
 
 // What a search at a depth comes to.
-fn outcome_of(depth: u32, made: Searched) -> Outcome
+fn score_of(depth: u32, made: Searched) -> ScoredSetting
     requires { ⌜ (1 ≤ depth) × (depth ≤ 12) × (made .counts .full + made .counts .partial + made .counts .swallowed ≤ 2 ^ 25) ⌝ }
     ensures { λ r. ⌜ r ≡ outcomeOf depth made ⌝ }
 {
-    let span = cutting_cover::power(DEEPEST - depth);
-    Outcome {
-        tried: Tried {
+    let span = covering_calls::power(MAX_DEPTH - depth);
+    ScoredSetting {
+        tried: SettingResult {
             unchecked: made.tests.unchecked,
             held: made.tests.held,
             discarded: made.tests.discarded,
@@ -105,19 +104,19 @@ fn outcome_of(depth: u32, made: Searched) -> Outcome
 }
 
 // One setting on the region of `count` rows: its lists in its buffer, and what it comes to.
-fn tried(
+fn try_setting(
     index: &[i64],
     owner: u32,
     s: Setting,
     rows: &[i32; 5 * HALFSPACES],
     count: usize,
     ranges: &mut [u64],
-) -> Outcome
+) -> ScoredSetting
     requires { ⌜ (1 ≤ s .depth) × (s .depth ≤ 12) × SomeRows count (now rows) ⌝ }
-    requires { ⌜ (4 * budgetOf (s .budget) ≤ length (now ranges)) × (Least ≤ length (now index)) ⌝ }
+    requires { ⌜ (4 * budgetOf (s .budget) ≤ length (now ranges)) × (IndexLength ≤ length (now index)) ⌝ }
     ensures { λ r. ⌜ TriesRows owner (now (index .entry)) s (now (rows .entry)) count (now (ranges .entry)) r (now (ranges .exit)) ⌝ }
 {
-    let mut numbers = [0u32; SHARE];
+    let mut numbers = [0u32; OWNER_CAPACITY];
     let made = frames_calls::search(
         index,
         owner,
@@ -128,7 +127,7 @@ fn tried(
         ranges,
         &mut numbers,
     );
-    outcome_of(s.depth, made)
+    score_of(s.depth, made)
 }
 
 // 1 where the first share is the smaller one or they are equal, else 2.
@@ -139,7 +138,7 @@ fn choice(first: u64, second: u64) -> u32
 }
 
 // What both settings come to, and the choice.
-fn compared(a: Outcome, b: Outcome) -> Trial
+fn compared(a: ScoredSetting, b: ScoredSetting) -> Trial
     ensures { λ r. ⌜ r ≡ trialBy a b ⌝ }
 {
     let first = a.tried;
@@ -170,8 +169,8 @@ fn trial_in(
     if refused != 0 {
         return TrialOf::Refused(refused);
     }
-    let one = tried(index, owner, s, rows, h.count as usize, first);
-    let two = tried(index, owner, t, rows, h.count as usize, second);
+    let one = try_setting(index, owner, s, rows, h.count as usize, first);
+    let two = try_setting(index, owner, t, rows, h.count as usize, second);
     TrialOf::Gives(compared(one, two))
 }
 
@@ -231,22 +230,4 @@ pub fn chosen<'a>(result: TrialOf, first: &'a [u64], second: &'a [u64]) -> &'a [
         TrialOf::Gives(t) => part_by(t, first, second),
         TrialOf::Refused(_) => &first[..0],
     }
-}
-
-// What both settings come to, at the beginning of a list.
-pub fn put_trial(numbers: &mut [u64], r: Trial)
-    requires { ⌜ counted ≤ length (now numbers) ⌝ }
-    ensures { λ _. ⌜ now (numbers .exit) ≡ put 0 (trialList r) (now (numbers .entry)) ⌝ }
-{
-    numbers[0] = r.first.unchecked;
-    numbers[1] = r.first.held;
-    numbers[2] = r.first.discarded;
-    numbers[3] = r.first.outer;
-    numbers[4] = r.first.inner;
-    numbers[5] = r.second.unchecked;
-    numbers[6] = r.second.held;
-    numbers[7] = r.second.discarded;
-    numbers[8] = r.second.outer;
-    numbers[9] = r.second.inner;
-    numbers[10] = r.choice as u64;
 }

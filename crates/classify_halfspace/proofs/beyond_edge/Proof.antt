@@ -11,8 +11,8 @@ use Rattle.vector.specs.Numbers.{Kℕ}
 use Rattle.vector.proofs.Sizes.{Small}
 use Rattle.vector.proofs.SizeLaws.{at-most-mono, dot-upto}
 use Rattle.classify.specs.Shape.{positive, beyondEdge}
-use Rattle.classify_measures.specs.Measures.{Rest}
-use Rattle.classify_measures.proofs.PreparedLaws.{sound-small}
+use Rattle.classify_prepared.specs.Measures.{Rest}
+use Rattle.classify_prepared.proofs.PreparedLaws.{sound-small}
 use Rattle.classify_halfspace.proofs.FarLaws.{rest-prepared}
 use Rattle.classify_halfspace.proofs.EdgeLaws.{normal-rest, edge-is}
 use Rattle.classify_halfspace.proofs.beyond_edge.Statement.{statement}
@@ -30,7 +30,7 @@ along c = subst (Upto (Kℕ * Kℕ + Kℕ * Kℕ + Kℕ * Kℕ)) (sym (c .dot .e
 normal : (c : tie.After-dot2) → Rest (c .dot2 .result)
 normal c = subst Rest (sym (c .dot2 .ensures .0)) (normal-rest (normal-small (c .before .before)))
 
-beyond-requires : tie.Need-beyond-requires
+beyond-requires : tie.Need-square-exceeds-requires
 beyond-requires c κs =
     let z = is-sub (lit 0 tt) (held (along (c .before .before)) tt) tt in
     let p = rest-prepared (c .before .before .before .before .before .pre .0) in
@@ -45,7 +45,7 @@ returns c =
     let z = is-sub (lit 0 tt) (held (along d) tt) tt .eq ∙ ap (λ x. pos 0 -ℤ x) (d .dot .ensures .0) in
     let p = held (rest-prepared (s .pre .0) .size) tt .eq in
     let q = held (normal (c .before .before) .size) tt .eq ∙ c .before .before .dot2 .ensures .0 in
-    c .beyond .ensures
+    c .square-exceeds .ensures
     ∙ (λ i. positive (z i) && ltZ (p i *ℤ q i) (z i *ℤ z i))
     ∙ edge-is (s .pre .0) (v .vec-in .result)
     ∙ ap (beyondEdge (s .args .q .f) (s .args .q .low)) (v .vec-in .ensures)

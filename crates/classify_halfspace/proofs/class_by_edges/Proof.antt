@@ -6,7 +6,7 @@ use Rattle.algebra.proofs.Sized.{held}
 use Rattle.vector.specs.declared.Vec3.{Vec3}
 use Rattle.vector.proofs.Sizes.{Small}
 use Rattle.classify.specs.Shape.{beyondEdge}
-use Rattle.classify_measures.proofs.PreparedLaws.{sound-offset}
+use Rattle.classify_prepared.proofs.PreparedLaws.{sound-offset}
 use Rattle.classify_halfspace.specs.Halfspaces.{classApart}
 use Rattle.classify_halfspace.proofs.EdgeLaws.{first-beyond, second-beyond, third-beyond, none-beyond}
 use Rattle.classify_halfspace.proofs.class_by_edges.Statement.{statement}

@@ -2,8 +2,8 @@
 use mathlib.Core.Path.{sym, ap, _∙_}
 use Rattle.algebra.proofs.Sized.{held}
 use Rattle.classify_halfspace.specs.Halfspaces.{classApart}
-use Rattle.classify_measures.proofs.PreparedLaws.{sound-offset}
-use Rattle.classify_halfspace.proofs.JudgedLaws.{apart-far, apart-near}
+use Rattle.classify_prepared.proofs.PreparedLaws.{sound-offset}
+use Rattle.classify_halfspace.proofs.ClassLaws.{apart-far, apart-near}
 use Rattle.classify_halfspace.proofs.class_by_middle.Statement.{statement}
 use Rattle.classify_halfspace.proofs.class_by_middle.Tie as tie
 

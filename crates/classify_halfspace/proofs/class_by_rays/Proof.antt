@@ -8,16 +8,16 @@ use Rattle.algebra.proofs.Sized.{held, upto-held}
 use Rattle.classify.specs.Shape.{positive, volume}
 use Rattle.classify.proofs.RaysFirst.{allPass}
 use Rattle.classify_halfspace.specs.Halfspaces.{classWithin, edgesClass, raysClass}
-use Rattle.classify_measures.proofs.PreparedLaws.{sound-small, sound-offset, sound-high}
-use Rattle.classify_middle.proofs.CapLaws.{sound-beside}
+use Rattle.classify_prepared.proofs.PreparedLaws.{sound-small, sound-offset, sound-high}
+use Rattle.classify_cap.proofs.CapLaws.{sound-beside}
 use Rattle.classify_rays.proofs.RayLaws.{own-rays, rays-all}
-use Rattle.classify_halfspace.proofs.JudgedLaws.{rays-within, rays-edges}
+use Rattle.classify_halfspace.proofs.ClassLaws.{rays-within, rays-edges}
 use Rattle.classify_halfspace.proofs.EdgeLaws.{flat}
 use Rattle.classify_halfspace.proofs.class_by_rays.Statement.{statement}
 use Rattle.classify_halfspace.proofs.class_by_rays.Tie as tie
 
-solid : (c : tie.Start) → positive (volume (c .args .t)) ≡ true
-solid c = sym (c .pre .0 .0 .solid) ∙ c .pre .0 .1
+oriented : (c : tie.Start) → positive (volume (c .args .t)) ≡ true
+oriented c = sym (c .pre .0 .0 .oriented) ∙ c .pre .0 .1
 
 -- whether all rays of the trixel pass
 rays : (c : tie.After-all-pass) → c .all-pass .result ≡ allPass (c .before .before .before .args .q .f) (c .before .before .before .args .q .high) (c .before .before .before .args .t)
@@ -29,11 +29,11 @@ returns : tie.Need-returns
 returns c =
     let a = c .before .before .before in
     let s = a .before .before .before in
-    c .class-within .ensures ∙ ap classWithin (held (sound-offset (s .pre .1 .1)) tt .eq) ∙ sym (rays-within (s .args .q) (s .args .t) (solid s) (sym (rays a) ∙ c .before .before .if1 .taken))
+    c .class-within .ensures ∙ ap classWithin (held (sound-offset (s .pre .1 .1)) tt .eq) ∙ sym (rays-within (s .args .q) (s .args .t) (oriented s) (sym (rays a) ∙ c .before .before .if1 .taken))
 
 -- where not all pass, the class is that by the edges
 edges : (c : tie.Else1) → raysClass (c .before .before .before .before .args .q) (c .before .before .before .before .args .t) ≡ edgesClass (c .before .before .before .before .args .q) (c .before .before .before .before .args .t)
-edges c = let s = c .before .before .before .before in rays-edges (s .args .q) (s .args .t) (solid s) (sym (rays (c .before)) ∙ c .if1 .left)
+edges c = let s = c .before .before .before .before in rays-edges (s .args .q) (s .args .t) (oriented s) (sym (rays (c .before)) ∙ c .if1 .left)
 
 returns-2 : tie.Need-returns-2
 returns-2 c =

@@ -13,8 +13,8 @@ use Rattle.algebra.proofs.Sized.{held, upto-mono, is-mul, is-sub, fits-mul, fit
 use Rattle.vector.specs.Numbers.{Kℕ}
 use Rattle.vector.proofs.SizeLaws.{at-most-mono, dot-upto}
 use Rattle.classify.specs.Shape.{positive, ahead, bOf}
-use Rattle.classify_measures.proofs.PreparedLaws.{sound-near}
-use Rattle.classify_middle.proofs.CapLaws.{Beside, sound-beside, cap-beside}
+use Rattle.classify_prepared.proofs.PreparedLaws.{sound-near}
+use Rattle.classify_cap.proofs.CapLaws.{Beside, sound-beside, cap-beside}
 use Rattle.classify_halfspace.proofs.FarLaws.{rest-prepared, cap-rest, cap-clearance, no-rest, too-wide, enclosed-is, enclosed-beyond}
 use Rattle.classify_halfspace.proofs.encloses.Statement.{statement}
 use Rattle.classify_halfspace.proofs.encloses.Tie as tie
@@ -75,7 +75,7 @@ returns-4 c =
     (sym (same-lt (is-mul z reach tt) (is-mul (held (rest e) tt) high tt)) ∙ c .if4 .taken)
     ∙ in-front e _
 
-beyond-requires : tie.Need-beyond-requires
+beyond-requires : tie.Need-square-exceeds-requires
 beyond-requires c κs =
     let e = c .before .before .before .before .before .before .before .before .before .before .before .before .before .before .before .before .before .before .before .before .before .before in
     let s = e .before .before in
@@ -94,7 +94,7 @@ returns-5 c =
     let z = is-sub (held (along d) tt) (is-mul high reach tt) tt in
     let p = held (rest-prepared (s .pre .0) .size) tt in
     let q = held (rest e) tt in
-    c .beyond .ensures
+    c .square-exceeds .ensures
     ∙ (λ i. positive (z .eq i) && ltZ (p .eq i *ℤ q .eq i) (z .eq i *ℤ z .eq i))
     ∙ enclosed-is (s .pre .0) (s .pre .1) (not-false _ (e .if1 .left)) (ap (λ x. x -ℤ s .args .q .high *ℤ s .args .m .reach) (d .dot .ensures .0))
     (ap (λ x. leZ x (pos 0)) (sym (q .eq)) ∙ c .before .before .before .before .before .before .before .before .before .before .if3 .left)

@@ -12,7 +12,7 @@ use Rattle.algebra.proofs.Sized.{held, upto-mono, is-mul, is-sub, fits-mul, fit
 use Rattle.vector.specs.Numbers.{Kℕ}
 use Rattle.vector.proofs.SizeLaws.{at-most-mono, dot-upto}
 use Rattle.classify.specs.Shape.{positive}
-use Rattle.classify_middle.proofs.CapLaws.{Beside, sound-beside, cap-beside}
+use Rattle.classify_cap.proofs.CapLaws.{Beside, sound-beside, cap-beside}
 use Rattle.classify_halfspace.proofs.FarLaws.{rest-prepared, cap-rest, cap-clearance, far-is, far-beyond}
 use Rattle.classify_halfspace.proofs.far.Statement.{statement}
 use Rattle.classify_halfspace.proofs.far.Tie as tie
@@ -39,7 +39,7 @@ returns-2 c =
     far-beyond (s .pre .0) (s .pre .1) a (le-yes l) (upto-mono (lit≤ tt) (z .size)) (ap (λ x. s .args .q .low *ℤ s .args .m .reach -ℤ x) (d .dot .ensures .0))
     ∙ and-then _ (sym (s .pre .1 .ahead) ∙ a)
 
-beyond-requires : tie.Need-beyond-requires
+beyond-requires : tie.Need-square-exceeds-requires
 beyond-requires c κs =
     let e = c .before .before .before .before .before .before .before .before .before .before .before .before in
     let s = c .before .before .before .before .before .before .before .before .before .before .before .before .before .before in
@@ -57,7 +57,7 @@ returns-3 c =
     let z = is-sub (is-mul (held (half s .size) tt) (held (cap e .size) tt) tt) (held (d .dot .ensures .1) tt) tt in
     let p = held (rest-prepared (s .pre .0) .size) tt in
     let q = held (cap-rest (s .pre .1) a .size) tt in
-    c .beyond .ensures
+    c .square-exceeds .ensures
     ∙ (λ i. positive (z .eq i) && ltZ (p .eq i *ℤ q .eq i) (z .eq i *ℤ z .eq i))
     ∙ far-is (s .pre .0) (s .pre .1) a (ap (λ x. s .args .q .low *ℤ s .args .m .reach -ℤ x) (d .dot .ensures .0))
     ∙ and-then _ (sym (s .pre .1 .ahead) ∙ a)

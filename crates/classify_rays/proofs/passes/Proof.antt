@@ -13,7 +13,7 @@ use Rattle.algebra.proofs.Sized.{squares-by-size, held, upto-held, upto-mono, f
 use Rattle.algebra.proofs.Tests.{and-then, and-no-left, le-yes, yes-lt, no-lt, no-le}
 use Rattle.vector.specs.Vectors.{dot}
 use Rattle.vector.proofs.SizeLaws.{dot-self-positive}
-use Rattle.classify_measures.specs.Measures.{squareOf}
+use Rattle.classify_prepared.specs.Measures.{squareOf}
 use Rattle.classify.proofs.RaysFirst.{passes}
 use Rattle.classify_rays.proofs.RayLaws.{ray-most, told-right}
 use Rattle.classify_rays.proofs.passes.Statement.{statement}

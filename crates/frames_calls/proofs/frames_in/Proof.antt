@@ -7,8 +7,8 @@ use borrow.Author.Needs.{needs}
 use denote.Ref.{now}
 use Rattle.region.specs.Budgets.{budgetOf}
 use Rattle.region.proofs.BudgetLaws.{budget-one}
-use Rattle.cutting_cover.specs.Decoded.{Decoded}
-use Rattle.cutting_cover.proofs.DecodedLaws.{some-rows, depth-fits}
+use Rattle.covering_calls.specs.Decoded.{Decoded}
+use Rattle.covering_calls.proofs.DecodedLaws.{some-rows, depth-fits}
 use Rattle.frames.specs.declared.FramesOf.{FramesOf}
 use Rattle.frames_calls.specs.Searches.{SearchesRows, Answers}
 use Rattle.frames_calls.proofs.AnswerLaws.{no-ranges, no-numbers, no-index, delivered}

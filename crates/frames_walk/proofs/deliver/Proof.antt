@@ -8,16 +8,16 @@ use borrow.Author.Needs.{needs}
 use lib.ListN.{length, set}
 use Rattle.answer.specs.Lent.{put}
 use Rattle.answer.proofs.PutLaws.{set-put}
-use Rattle.frames.specs.declared.Fate.{Fate}
+use Rattle.frames.specs.declared.Disposition.{Disposition}
 use Rattle.frames.specs.Walk.{isDelivered}
 use Rattle.frames_walk.proofs.deliver.Statement.{statement}
 use Rattle.frames_walk.proofs.deliver.Tie as tie
 
 module _ (k : ℕ) (before : List ℕ) where
-  abbrev after : Fate → ℕ → List ℕ
+  abbrev after : Disposition → ℕ → List ℕ
   after f n = cond (isDelivered f) (put k (n ∷ []) before) before
 
-  stored : (f : Fate) {m n : ℕ} → k < length before → m ≡ n → isDelivered f ≡ true → set before k m ≡ after f n
+  stored : (f : Disposition) {m n : ℕ} → k < length before → m ≡ n → isDelivered f ≡ true → set before k m ≡ after f n
   stored f {m} h e d = rw d (set-put k m before h ∙ ap (λ x. put k (x ∷ []) before) e)
 
 pub deliver-spec : {M : Type 1} → statement M

@@ -42,10 +42,10 @@ walk-spec =
     let n = l .before in
     let v = n .before .before .before .args in (
       omega arith,
-      p .pass .ensures .1 .0,
-      p .pass .ensures .1 .1 ∙ l .loop .inv .2,
-      past-next (v .owner) (v .index .now) (v .lists) (v .ranges .now) (v .rows .now) (v .count) (v .numbers .now) (l .loop .i) (e .entry-at .result) (l .loop .at) (p .pass .result) (l .loop .numbers) _
-          (omega (arith, n .count-in .ensures .0)) (e .entry-at .ensures) (p .pass .ensures .0) (l .loop .inv .3),
+      p .visit-if-owned .ensures .1 .0,
+      p .visit-if-owned .ensures .1 .1 ∙ l .loop .inv .2,
+      past-next (v .owner) (v .index .now) (v .lists) (v .ranges .now) (v .rows .now) (v .count) (v .numbers .now) (l .loop .i) (e .entry-at .result) (l .loop .at) (p .visit-if-owned .result) (l .loop .numbers) _
+          (omega (arith, n .count-in .ensures .0)) (e .entry-at .ensures) (p .visit-if-owned .ensures .0) (l .loop .inv .3),
     ))
     (λ c. c .before .before .loop .inv .2)
     (λ c.

@@ -8,9 +8,9 @@ use Rattle.answer.specs.Answer.{gives, with-value}
 use Rattle.region.specs.Reader as reader
 use Rattle.region.specs.Answers.{headerOf, headerGiven}
 use Rattle.region.proofs.BudgetLaws.{budget-one}
-use Rattle.cutting_walk.specs.Walk.{CoversRows}
-use Rattle.cutting_cover.specs.Decoded.{Decoded}
-use Rattle.cutting_cover.proofs.DecodedLaws.{decoded, depth-fits, some-rows}
+use Rattle.covering_walk.specs.Walk.{CoversRows}
+use Rattle.covering_calls.specs.Decoded.{Decoded}
+use Rattle.covering_calls.proofs.DecodedLaws.{decoded, depth-fits, some-rows}
 use Rattle.htm.proofs.CoverAnswers.{file-refused, no-room, covered}
 use Rattle.htm.proofs.cover.Statement.{statement}
 use Rattle.htm.proofs.cover.Tie as tie

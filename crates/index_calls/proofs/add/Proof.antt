@@ -42,8 +42,8 @@ entered c =
     let n : v .number ≤ 2 ^ 32 = omega arith in
     let id = nat (small f) tt .eq ∙ ap pos (sym (l .2)) in
     by-add _ _ _ _
-    (added (exposed (v .owner) (v .number) (v .p)) _ (now (v .index)) (c .before .enter .last .0) (c .before .enter .result) (lt-ltb (v .owner) 2 (omega arith)) (l .0)
-    (λ j. entry (id j) (nat n tt .eq j) (nat o tt .eq j) (v .p)) (c .before .enter .ensures))
+    (added (exposed (v .owner) (v .number) (v .p)) _ (now (v .index)) (c .before .insert .last .0) (c .before .insert .result) (lt-ltb (v .owner) 2 (omega arith)) (l .0)
+    (λ j. entry (id j) (nat n tt .eq j) (nat o tt .eq j) (v .p)) (c .before .insert .ensures))
 
 pub add-spec : {M : Type 1} → statement M
 add-spec =
@@ -58,5 +58,5 @@ add-spec =
     (λ c. record { sfits = omega arith })
     (λ c κs. tt)
     sent-back
-    (λ c. c .before .enter .kept .0)
+    (λ c. c .before .insert .kept .0)
     entered)

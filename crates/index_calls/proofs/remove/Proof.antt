@@ -28,7 +28,7 @@ removed c =
     by-remove _ _ _ _
     (of-owner (lt-ltb (v .owner) 2 (omega arith))
     (is-removed (v .index .now) (h .count-in .result) (e .if2 .left) (h .count-in .ensures .0) (key (v .owner) (v .number)) (a .find .result .place) (a .find .ensures .0 .0) _
-    (omega arith) (omega arith) (r .lower .ensures)))
+    (omega arith) (omega arith) (r .shift-down .ensures)))
 
 pub remove-spec : {M : Type 1} → statement M
 remove-spec =

@@ -4,14 +4,14 @@ use mathlib.Core.Path.{_≡_, sym, ap, subst, _∙_}
 use Rattle.vector.specs.declared.Vec3.{Vec3}
 use Rattle.mesh.specs.declared.Corners.{Corners}
 use Rattle.mesh_lookup.specs.declared.Child.{Child}
-use Rattle.mesh_lookup.specs.Places.{childAt, Stepped}
+use Rattle.mesh_lookup.specs.LookupSteps.{childAt, ChildStep}
 use Rattle.mesh_lookup.proofs.StepLaws.{stepped-0, stepped-1, stepped-2, stepped-3}
 use Rattle.mesh_lookup.proofs.step.Statement.{statement}
 use Rattle.mesh_lookup.proofs.step.Tie as tie
 
 -- a child with the corners t, which are u
-done : (p : Vec3) (c : Corners) {d : ℕ} {r : Child} {t u : Corners} → r ≡ childAt d t → t ≡ u → Stepped p c (childAt d u) → Stepped p c r
-done p c {d} e h s = subst (Stepped p c) (sym (e ∙ ap (childAt d) h)) s
+done : (p : Vec3) (c : Corners) {d : ℕ} {r : Child} {t u : Corners} → r ≡ childAt d t → t ≡ u → ChildStep p c (childAt d u) → ChildStep p c r
+done p c {d} e h s = subst (ChildStep p c) (sym (e ∙ ap (childAt d) h)) s
 
 pub step-spec : {M : Type 1} → statement M
 step-spec =

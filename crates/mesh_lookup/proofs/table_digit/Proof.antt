@@ -1,7 +1,7 @@
 -- `mesh_lookup::table_digit` chooses by three vectors of the table. Assumes nothing.
 use borrow.Author.Needs.{needs}
 use mathlib.Core.Path.{_∙_}
-use Rattle.mesh_lookup.specs.Places.{digitBy}
+use Rattle.mesh_lookup.specs.LookupSteps.{digitBy}
 use Rattle.mesh_lookup.proofs.table_digit.Statement.{statement}
 use Rattle.mesh_lookup.proofs.table_digit.Tie as tie
 

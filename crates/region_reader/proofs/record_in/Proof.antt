@@ -13,8 +13,8 @@ use Rattle.region.specs.Reader.{File, lengthOf, payload, after, recordAt, halfs
 use Rattle.region.proofs.ReaderLaws.{begins}
 use Rattle.region_records.proofs.FrameLaws.{Framed, frame-says, record-refused, begins-least, end-within, left-after, payload-at}
 use Rattle.region_records.proofs.FrameLaws.{record-mixed, record-by, is-end}
-use Rattle.region_contents.specs.Contents.{groupOf}
-use Rattle.region_contents.proofs.OutcomeLaws.{taken-refused, taken-as, convex-taken, end-taken}
+use Rattle.region_payloads.specs.Payloads.{groupOf}
+use Rattle.region_payloads.proofs.OutcomeLaws.{taken-refused, taken-as, convex-taken, end-taken}
 use Rattle.region_reader.proofs.RecordLaws.{group-of}
 use Rattle.region_reader.proofs.record_in.Statement.{statement}
 use Rattle.region_reader.proofs.record_in.Tie as tie

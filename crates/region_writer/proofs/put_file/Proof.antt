@@ -6,7 +6,7 @@ use lib.ListN.{length}
 use Rattle.answer.specs.Lent.{put}
 use Rattle.region.specs.Bytes.{wordBytes}
 use Rattle.region.specs.Writer.{regionBytes}
-use Rattle.region_writer.specs.Writing.{Room}
+use Rattle.region_writer.specs.Writing.{FileFits}
 use Rattle.answer.proofs.PutLaws.{put-next}
 use Rattle.region_writer.proofs.WriterLaws.{header-rows-end}
 use Rattle.region_writer.proofs.put_file.Statement.{statement}
@@ -53,7 +53,7 @@ put-file-spec =
     (λ c κs.
     let w = c .before .before .before in
     let s = w .before .before .before .before .before .before .before .before .before .before .before in
-    subst (Room (s .args .style) (s .args .rows .now)) (sym (header-length w)) (s .pre .1))
+    subst (FileFits (s .args .style) (s .args .rows .now)) (sym (header-length w)) (s .pre .1))
     end-room
     (λ c.
     let n = c .before .before in

@@ -7,8 +7,8 @@ use borrow.Author.Tests.{leb-true, not-true, not-false}
 use Rattle.vector.specs.Numbers.{isDepth}
 use Rattle.vector.proofs.DepthLaws.{depth-range}
 use Rattle.region.specs.Budgets.{isBudget}
-use Rattle.region_counts.specs.Counts.{countsGiven}
-use Rattle.region_writer.proofs.WriterLaws.{no-depth, no-budget, no-rows, no-room, has-file, Passed, passed, counted-length, has-room}
+use Rattle.region_rows.specs.RegionSizes.{countsGiven}
+use Rattle.region_writer.proofs.WriterLaws.{no-depth, no-budget, no-rows, no-room, has-file, RowsWithin, passed, counted-length, has-room}
 use Rattle.region_writer.proofs.write.Statement.{statement}
 use Rattle.region_writer.proofs.write.Tie as tie
 
@@ -19,7 +19,7 @@ budget : (c : tie.Else2) → isBudget (c .before .before .before .before .before
 budget c = sym (c .before .is-budget .ensures) ∙ not-false _ (c .if2 .left)
 
 -- the rows passed, and these are their counts
-counts : (c : tie.After-c) → Passed (c .before .before .before .before .before .before .before .before .args .rows .now) (c .c .given .0 .0)
+counts : (c : tie.After-c) → RowsWithin (c .before .before .before .before .before .before .before .before .args .rows .now) (c .c .given .0 .0)
 counts c = let k = c .before .before in passed _ (c .c .given .0 .0) (sym (ap countsGiven (c .c .given .1)) ∙ k .checked .ensures)
 
 refused : tie.Need-returns-4

@@ -7,7 +7,7 @@ use borrow.Author.Tests.{not-true, not-false, lt-leb, le-leb}
 use Rattle.answer.specs.Answer.{Answer}
 use Rattle.region.specs.Budgets.{budgetOf}
 use Rattle.region.specs.Reader.{File}
-use Rattle.index.specs.Entries.{Least}
+use Rattle.index.specs.Entries.{IndexLength}
 use Rattle.trial.specs.Answers.{settled}
 use Rattle.trial_calls.proofs.CheckLaws.{no-first, no-second, both-settled, by-lengths}
 use Rattle.trial_calls.proofs.refusal.Statement.{statement}
@@ -64,14 +64,14 @@ index-short c =
     let f = c .before .before .before in
     let d = f .before .before in
     let a = d .before .before .before .before .args in
-    by-lengths (a .index) (a .s) (a .t) (a .first) (a .second) (good d) (one f) (two (c .before)) (lt-leb Least (a .index) (c .if5 .taken))
+    by-lengths (a .index) (a .s) (a .t) (a .first) (a .second) (good d) (one f) (two (c .before)) (lt-leb IndexLength (a .index) (c .if5 .taken))
 
 none : tie.Need-returns-6
 none c =
     let f = c .before .before .before in
     let d = f .before .before in
     let a = d .before .before .before .before .args in
-    by-lengths (a .index) (a .s) (a .t) (a .first) (a .second) (good d) (one f) (two (c .before)) (le-leb Least (a .index) (c .if5 .left))
+    by-lengths (a .index) (a .s) (a .t) (a .first) (a .second) (good d) (one f) (two (c .before)) (le-leb IndexLength (a .index) (c .if5 .left))
 
 pub refusal-spec : {M : Type 1} → statement M
 refusal-spec =

@@ -3,10 +3,10 @@ use mathlib.Core.Path.{sym, subst}
 use lib.ListN.{length}
 use denote.Ref.{now}
 use borrow.Author.Needs.{needs}
-use Rattle.cutting_cover.proofs.DecodedLaws.{some-rows}
+use Rattle.covering_calls.proofs.DecodedLaws.{some-rows}
 use Rattle.trial.specs.declared.TrialOf.{TrialOf}
 use Rattle.trial_calls.specs.Tries.{Answers}
-use Rattle.trial_calls.proofs.CheckLaws.{Passed, passed}
+use Rattle.trial_calls.proofs.CheckLaws.{SettingsPassed, passed}
 use Rattle.trial_calls.proofs.AnswerLaws.{check-refused, tried-both}
 use Rattle.trial_calls.proofs.trial_in.Statement.{statement}
 use Rattle.trial_calls.proofs.trial_in.Tie as tie
@@ -21,20 +21,20 @@ refused c f k =
 -- every check passed
 passes : (c : tie.Else1) →
     let a = c .before .before .before .before .args in
-    Passed (length (now (a .index))) (a .s) (a .t) (length (now (a .first))) (length (now (a .second)))
+    SettingsPassed (length (now (a .index))) (a .s) (a .t) (length (now (a .first))) (length (now (a .second)))
 passes c =
     let e = c .before in
     let s = e .before .before .before in
     let a = s .args in
     passed (length (now (a .index))) (a .s) (a .t) (length (now (a .first))) (length (now (a .second))) (e .refusal .result) (e .refusal .ensures) (c .if1 .left) (s .pre .0 .1 .file)
 
-wants-one : tie.Need-tried-requires
+wants-one : tie.Need-try-setting-requires
 wants-one c κs =
     let e = c .before .before in
     let p = passes e in
     ((p .one .0, p .one .1, some-rows (e .before .before .before .before .pre .0 .1)), (p .first, p .index))
 
-wants-two : tie.Need-tried-requires-2
+wants-two : tie.Need-try-setting-requires-2
 wants-two c κs =
     let e = c .before .before .before .before .before .before .before in
     let p = passes e in
@@ -48,11 +48,11 @@ given c f k =
     let r = e .before in
     let s = r .before .before .before in
     let a = s .args in
-    let one = u .tried .last .1 .1 .1 .1 .1 .0 in
-    let two = v .tried2 .last .1 .1 .1 .1 .1 .0 in
+    let one = u .try-setting .last .1 .1 .1 .1 .1 .0 in
+    let two = v .try-setting2 .last .1 .1 .1 .1 .1 .0 in
     subst (λ t. Answers (a .owner) (now (a .index)) f (a .s) (a .t) (now (a .first)) (now (a .second)) (TrialOf.Gives t) one two) (sym (c .compared .ensures))
     (tried-both (a .owner) (now (a .index)) f (a .s) (a .t) (now (a .first)) (now (a .second)) (s .pre .1) k (r .refusal .result) (r .refusal .ensures) (e .if1 .left)
-    (u .tried .result) (v .tried2 .result) one two (u .tried .ensures (k .file .region) (k .rows)) (v .tried2 .ensures (k .file .region) (k .rows)))
+    (u .try-setting .result) (v .try-setting2 .result) one two (u .try-setting .ensures (k .file .region) (k .rows)) (v .try-setting2 .ensures (k .file .region) (k .rows)))
 
 pub trial-in-spec : {M : Type 1} → statement M
 trial-in-spec =

@@ -7,7 +7,7 @@ use denote.Ref.{now}
 use Rattle.algebra.proofs.Sized.{held}
 use Rattle.vector.specs.Vectors.{vec}
 use Rattle.region.specs.Answers.{heldGiven, pointTest}
-use Rattle.htm_values.specs.Values.{heldForC}
+use Rattle.htm_abi.specs.Values.{heldForC}
 use Rattle.htm.proofs.from_c.htm_holds.Statement.{statement}
 use Rattle.htm.proofs.from_c.htm_holds.Tie as tie
 

@@ -1,6 +1,6 @@
 -- `htm::from_c::htm_identifier` is the identifier of the name, or 0. Assumes nothing.
 use mathlib.Core.Path.{ap, _∙_}
-use Rattle.htm_values.specs.Values.{orZero}
+use Rattle.htm_abi.specs.Values.{orZero}
 use Rattle.htm.proofs.from_c.htm_identifier.Statement.{statement}
 use Rattle.htm.proofs.from_c.htm_identifier.Tie as tie
 

@@ -3,13 +3,13 @@ use mathlib.Core.Path.{ap, _∙_}
 use mir.Facts.{toZ-ofZ}
 use Rattle.vector.specs.Vectors.{vec}
 use Rattle.mesh.specs.Lookup as mesh
-use Rattle.htm_values.specs.Values.{orZero}
-use Rattle.htm.specs.Answers.{entry}
+use Rattle.htm_abi.specs.Values.{orZero}
+use Rattle.htm.specs.Answers.{lookupForC}
 use Rattle.htm.proofs.from_c.lookup.Statement.{statement}
 use Rattle.htm.proofs.from_c.lookup.Tie as tie
 
 returns : tie.Need-returns
-unfolding entry
+unfolding lookupForC
 returns c =
     let s = c .before .before in
     c .or-zero .ensures ∙ ap orZero (c .before .locate .ensures ∙ (λ i. mesh.lookup (vec (toZ-ofZ (s .fits .x) i) (toZ-ofZ (s .fits .y) i) (toZ-ofZ (s .fits .z) i)) (s .args .depth)))

@@ -7,7 +7,7 @@ use mir.Facts.{toZ-ofZ}
 use Rattle.algebra.proofs.Sized.{held}
 use Rattle.index.specs.Exposures.{exposure}
 use Rattle.index.specs.Answers.{addAnswer, addAfter, changeGiven}
-use Rattle.htm_values.specs.Values.{statusOf}
+use Rattle.htm_abi.specs.Values.{statusOf}
 use Rattle.htm.proofs.index_from_c.htm_add.Statement.{statement}
 use Rattle.htm.proofs.index_from_c.htm_add.Tie as tie
 

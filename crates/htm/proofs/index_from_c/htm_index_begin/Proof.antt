@@ -1,7 +1,7 @@
 -- `htm::index_from_c::htm_index_begin` is 0 where the list is an empty index now, or minus the refusal. Assumes nothing.
 use mathlib.Core.Path.{ap, _∙_}
 use Rattle.algebra.proofs.Sized.{held}
-use Rattle.htm_values.specs.Values.{statusOf}
+use Rattle.htm_abi.specs.Values.{statusOf}
 use Rattle.htm.proofs.index_from_c.htm_index_begin.Statement.{statement}
 use Rattle.htm.proofs.index_from_c.htm_index_begin.Tie as tie
 

@@ -3,7 +3,7 @@ use native.Mathlib.Omega.{arith}
 use mathlib.Core.Path.{sym, ap, _∙_}
 use Rattle.algebra.proofs.Sized.{held}
 use Rattle.index.proofs.WrittenLaws.{count-few}
-use Rattle.htm_values.specs.Values.{numberForC}
+use Rattle.htm_abi.specs.Values.{numberForC}
 use Rattle.htm.proofs.index_from_c.htm_index_count.Statement.{statement}
 use Rattle.htm.proofs.index_from_c.htm_index_count.Tie as tie
 

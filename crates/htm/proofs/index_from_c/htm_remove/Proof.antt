@@ -1,7 +1,7 @@
 -- `htm::index_from_c::htm_remove` is 0 where the exposure is removed, or minus the refusal. Assumes nothing.
 use mathlib.Core.Path.{ap, _∙_}
 use Rattle.algebra.proofs.Sized.{held}
-use Rattle.htm_values.specs.Values.{statusOf}
+use Rattle.htm_abi.specs.Values.{statusOf}
 use Rattle.htm.proofs.index_from_c.htm_remove.Statement.{statement}
 use Rattle.htm.proofs.index_from_c.htm_remove.Tie as tie
 

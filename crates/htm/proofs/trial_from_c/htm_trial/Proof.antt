@@ -8,9 +8,9 @@ use Rattle.answer.specs.Answer.{Answer, refused}
 use Rattle.answer.specs.Lent.{put, stored}
 use Rattle.trial.specs.declared.Trial.{Trial}
 use Rattle.trial.specs.Answers.{trialGiven, trialAnswer, firstAfter, secondAfter, trialList}
-use Rattle.trial_values.specs.Values.{anywayRefused}
-use Rattle.htm_values.specs.Values.{statusOf}
-use Rattle.htm.proofs.TrialCLaws.{Tried, short-settings, short-numbers, long-numbers}
+use Rattle.htm_abi.specs.TrialValues.{anywayRefused}
+use Rattle.htm_abi.specs.Values.{statusOf}
+use Rattle.htm.proofs.TrialCLaws.{TrialLists, short-settings, short-numbers, long-numbers}
 use Rattle.htm.proofs.trial_from_c.htm_trial.Statement.{statement}
 use Rattle.htm.proofs.trial_from_c.htm_trial.Tie as tie
 
@@ -37,7 +37,7 @@ few-numbers c =
 -- what the trial answered, and the lists as it left them
 results : (v : tie.After-trial) (a : Answer Trial) → a ≡ trialGiven (v .trial .result) →
     let b = v .before .before .before .before .before .before .before .before .before .before .before .before .args in
-    Tried (b .owner) (now (b .index)) (now (b .file)) (now (b .settings)) (now (b .first)) (now (b .second)) (now (b .numbers)) (statusOf a)
+    TrialLists (b .owner) (now (b .index)) (now (b .file)) (now (b .settings)) (now (b .first)) (now (b .second)) (now (b .numbers)) (statusOf a)
     (v .trial .last .1 .1 .1 .1 .1 .0) (v .trial .last .1 .1 .1 .1 .1 .1 .0) (stored (λ r before. put 0 (trialList r) before) a (now (b .numbers)))
 results v a q =
     let i = v .before .before .before in

@@ -1,0 +1,234 @@
+// Lines of input over one index, each answered as it ends: the commands add, remove, list, frames and trial. After a read that failed the line that has begun
+// is not answered, and after a write that failed nothing more is read.
+use answer::OWNER;
+use check::same;
+use command_words::NaturalAt;
+use command_words::PointAt;
+use index::Change;
+use index::Entry;
+use index::EntryOf;
+use index::INDEX_CAPACITY;
+use index::OWNERS;
+use print::Buffer;
+use print::LOST;
+use streams::Input;
+
+pub mod frame_search;
+pub mod setting_trial;
+
+// A loop must end, and no run reads so many blocks.
+const BLOCKS: u64 = u64::MAX;
+
+// Between two bytes of the input: how many bytes of a line are kept, and the place in what is printed.
+struct LineState {
+    kept: usize,
+    at: usize,
+}
+
+// Between two entries of a list: whether one is printed, and the place in what is printed.
+struct Listed {
+    some: bool,
+    at: usize,
+}
+
+// Answers the lines of the input. The result is how many bytes `line` holds of a last one that has no line feed and is to be answered.
+pub fn answer_lines(index: &mut [i64], line: &mut Buffer, out: &mut Buffer) -> usize {
+    let mut block = io::large_buffer();
+    let mut kept = 0;
+    for _ in 0..BLOCKS {
+        let Input::Bytes(n) = streams::read(&mut block) else {
+            return 0;
+        };
+        if n == 0 {
+            return kept;
+        }
+        let place = answer_block(&block[..n], index, line, kept, out);
+        if place.at == LOST {
+            return 0;
+        }
+        kept = place.kept;
+    }
+    0
+}
+
+// Answers the lines that end in a block; `line` has so many bytes of the first one already.
+fn answer_block(
+    block: &[u8],
+    index: &mut [i64],
+    line: &mut Buffer,
+    kept: usize,
+    out: &mut Buffer,
+) -> LineState {
+    let mut place = LineState { kept: kept, at: 0 };
+    for i in 0..block.len() {
+        place = answer_byte(block[i], index, line, place, out);
+    }
+    LineState {
+        kept: place.kept,
+        at: print::flush(out, place.at),
+    }
+}
+
+fn answer_byte(
+    b: u8,
+    index: &mut [i64],
+    line: &mut Buffer,
+    place: LineState,
+    out: &mut Buffer,
+) -> LineState {
+    if b == b'\n' {
+        return LineState {
+            kept: 0,
+            at: answer_line(index, line, place.kept, out, place.at),
+        };
+    }
+    LineState {
+        kept: command_words::append_byte(line, place.kept, b),
+        at: place.at,
+    }
+}
+
+pub fn answer_line(
+    index: &mut [i64],
+    line: &Buffer,
+    n: usize,
+    out: &mut Buffer,
+    at: usize,
+) -> usize {
+    if at == LOST {
+        return LOST;
+    }
+    let all: &[u8] = line;
+    if n <= all.len() {
+        answer(index, &all[0..n], out, at)
+    } else {
+        print::usage(out, at)
+    }
+}
+
+// The answer to a line, by its first word.
+fn answer(index: &mut [i64], line: &[u8], out: &mut Buffer, at: usize) -> usize {
+    let word = command_words::word(line, 0);
+    let next = command_words::after(line, 0);
+    if same(word, b"add") {
+        return add(index, line, next, out, at);
+    }
+    if same(word, b"remove") {
+        return remove(index, line, next, out, at);
+    }
+    if same(line, b"list") {
+        return list(index, OWNERS, out, at);
+    }
+    if same(word, b"list") {
+        return list_owner(index, line, next, out, at);
+    }
+    if same(word, b"frames") {
+        return crate::frame_search::frames(index, line, next, out, at);
+    }
+    if same(word, b"trial") {
+        return crate::setting_trial::trial(index, line, next, out, at);
+    }
+    print::usage(out, at)
+}
+
+// add OWNER NUMBER X Y Z
+fn add(index: &mut [i64], line: &[u8], next: usize, out: &mut Buffer, at: usize) -> usize {
+    let NaturalAt::Is(owner, number_at) = command_words::natural_at(line, next) else {
+        return print::usage(out, at);
+    };
+    let NaturalAt::Is(number, point_at) = command_words::natural_at(line, number_at) else {
+        return print::usage(out, at);
+    };
+    let PointAt::Is { x, y, z, next: end } = command_words::point_at(line, point_at) else {
+        return print::usage(out, at);
+    };
+    if !command_words::is_over(line, end) {
+        return print::usage(out, at);
+    }
+    changed(out, at, htm::add(index, owner, number, x, y, z))
+}
+
+// remove OWNER NUMBER
+fn remove(index: &mut [i64], line: &[u8], next: usize, out: &mut Buffer, at: usize) -> usize {
+    let NaturalAt::Is(owner, number_at) = command_words::natural_at(line, next) else {
+        return print::usage(out, at);
+    };
+    let NaturalAt::Is(number, end) = command_words::natural_at(line, number_at) else {
+        return print::usage(out, at);
+    };
+    if !command_words::is_over(line, end) {
+        return print::usage(out, at);
+    }
+    changed(out, at, htm::remove(index, owner, number))
+}
+
+fn changed(out: &mut Buffer, at: usize, answer: Change) -> usize {
+    match answer {
+        Change::Made => print::text(out, at, b"ok\n"),
+        Change::Refused(n) => print::refused(out, at, n),
+    }
+}
+
+// list OWNER
+fn list_owner(index: &[i64], line: &[u8], next: usize, out: &mut Buffer, at: usize) -> usize {
+    let NaturalAt::Is(owner, end) = command_words::natural_at(line, next) else {
+        return print::usage(out, at);
+    };
+    if !command_words::is_over(line, end) {
+        return print::usage(out, at);
+    }
+    if OWNERS <= owner {
+        return print::refused(out, at, OWNER);
+    }
+    list(index, owner, out, at)
+}
+
+// The entries of an owner in their order; those of both for OWNERS, which is no owner.
+fn list(index: &[i64], owner: u32, out: &mut Buffer, at: usize) -> usize {
+    let mut listed = Listed {
+        some: false,
+        at: at,
+    };
+    for place in 0..INDEX_CAPACITY {
+        let EntryOf::Gives(e) = htm::index_entry(index, place as u32) else {
+            return ended(out, listed);
+        };
+        listed = list_entry(listed, e, owner, out);
+    }
+    ended(out, listed)
+}
+
+// One entry more, where it is one of the owner's.
+fn list_entry(listed: Listed, e: Entry, owner: u32, out: &mut Buffer) -> Listed {
+    if owner < OWNERS && e.owner != owner as i64 {
+        return listed;
+    }
+    let at = if listed.some {
+        print::byte(out, listed.at, b'|')
+    } else {
+        listed.at
+    };
+    Listed {
+        some: true,
+        at: entry(out, at, e),
+    }
+}
+
+fn entry(out: &mut Buffer, at: usize, e: Entry) -> usize {
+    let p = e.pointing;
+    let end = print::whole(out, at, e.id, b' ');
+    let end = print::whole(out, end, e.number, b' ');
+    let end = print::whole(out, end, e.owner, b' ');
+    let end = print::whole(out, end, p.x, b' ');
+    let end = print::whole(out, end, p.y, b' ');
+    print::integer(out, end, p.z)
+}
+
+// The end of a list: a line feed, after `-` where it has no entry.
+fn ended(out: &mut Buffer, listed: Listed) -> usize {
+    if listed.some {
+        print::byte(out, listed.at, b'\n')
+    } else {
+        print::text(out, listed.at, b"-\n")
+    }
+}

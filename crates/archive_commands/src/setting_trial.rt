@@ -1,0 +1,104 @@
+// The command of archive that tries two settings for a region: trial. It is answered from the word at `next` on.
+use command_words::NaturalAt;
+use command_words::WORD_CAPACITY;
+use limits::MAX_BUDGET;
+use print::Buffer;
+use trial::Setting;
+use trial::SettingResult;
+use trial::Trial;
+use trial::TrialOf;
+
+// Two lists of pairs, each within the largest budget.
+const ELEMENTS: usize = 4 * MAX_BUDGET as usize;
+
+enum SettingAt {
+    Is(Setting, usize),
+    Not,
+}
+
+// trial OWNER HEX D1 B1 D2 B2
+pub fn trial(index: &[i64], line: &[u8], next: usize, out: &mut Buffer, at: usize) -> usize {
+    let NaturalAt::Is(owner, file_at) = command_words::natural_at(line, next) else {
+        return print::usage(out, at);
+    };
+    let SettingAt::Is(s, second_at) = setting_at(line, command_words::after(line, file_at)) else {
+        return print::usage(out, at);
+    };
+    let SettingAt::Is(t, end) = setting_at(line, second_at) else {
+        return print::usage(out, at);
+    };
+    if !command_words::is_over(line, end) {
+        return print::usage(out, at);
+    }
+    let mut file = [0u8; WORD_CAPACITY];
+    let n = command_words::file(command_words::word(line, file_at), &mut file);
+    try_both(index, owner, &file, n, s, t, out, at)
+}
+
+// Two words: a depth and a budget.
+fn setting_at(line: &[u8], at: usize) -> SettingAt {
+    let NaturalAt::Is(depth, budget_at) = command_words::natural_at(line, at) else {
+        return SettingAt::Not;
+    };
+    let NaturalAt::Is(budget, next) = command_words::natural_at(line, budget_at) else {
+        return SettingAt::Not;
+    };
+    SettingAt::Is(Setting { depth, budget }, next)
+}
+
+// The trial of a file of n bytes, if it has a length.
+fn try_both(
+    index: &[i64],
+    owner: u32,
+    file: &[u8; WORD_CAPACITY],
+    n: usize,
+    s: Setting,
+    t: Setting,
+    out: &mut Buffer,
+    at: usize,
+) -> usize {
+    let all: &[u8] = file;
+    if all.len() < n {
+        return print::usage(out, at);
+    }
+    let mut first = [0u64; ELEMENTS];
+    let mut second = [0u64; ELEMENTS];
+    let result = htm::trial(index, owner, &all[0..n], s, t, &mut first, &mut second);
+    match result {
+        TrialOf::Gives(both) => compared(out, at, both, htm::chosen(result, &first, &second)),
+        TrialOf::Refused(k) => print::refused(out, at, k),
+    }
+}
+
+// What both settings come to, the choice, and the ranges of the part that is handed back.
+fn compared(out: &mut Buffer, at: usize, both: Trial, part: &[u64]) -> usize {
+    let end = tried(out, at, both.first);
+    let end = tried(out, end, both.second);
+    let end = print::digits(out, end, both.choice as u64);
+    let end = ranges(out, end, part);
+    print::byte(out, end, b'\n')
+}
+
+// What one setting comes to, each number with a blank behind it.
+fn tried(out: &mut Buffer, at: usize, one: SettingResult) -> usize {
+    let end = print::natural(out, at, one.unchecked, b' ');
+    let end = print::natural(out, end, one.held, b' ');
+    let end = print::natural(out, end, one.discarded, b' ');
+    let end = print::natural(out, end, one.outer, b' ');
+    print::natural(out, end, one.inner, b' ')
+}
+
+// The ranges of a list of pairs.
+fn ranges(out: &mut Buffer, at: usize, pairs: &[u64]) -> usize {
+    let mut end = at;
+    for i in 0..pairs.len() / 2 {
+        end = range(out, end, pairs[i * 2], pairs[i * 2 + 1]);
+    }
+    end
+}
+
+fn range(out: &mut Buffer, at: usize, low: u64, high: u64) -> usize {
+    let end = print::byte(out, at, b'|');
+    let end = print::natural(out, end, low, b' ');
+    print::digits(out, end, high)
+}

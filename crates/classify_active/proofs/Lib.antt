@@ -1,0 +1,3 @@
+pub mod NarrowLaws
+pub mod OpenLaws
+pub mod AnchorLaws

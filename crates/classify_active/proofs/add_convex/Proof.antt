@@ -1,0 +1,41 @@
+-- `classify_active::add_convex` keeps what is active of a convex. Assumes nothing.
+use native.Mathlib.Omega.{arith}
+use mathlib.Core.Bool.{false≢true}
+use borrow.Author.Needs.{needs}
+use Rattle.classify_active.proofs.NarrowLaws.{end-read, some-convex, add-outside, add-halves}
+use Rattle.classify_active.proofs.add_convex.Statement.{statement}
+use Rattle.classify_active.proofs.add_convex.Tie as tie
+
+-- the next place for an end
+place : tie.Need-slice-write-stops
+place c =
+    let o = c .before .before .before .before .before in
+    let s = o .before .before .before .before .before in
+    let a = s .pre .1 .3 in
+    let f = add-halves _ _ _ _ _ (s .pre .1 .1) a (o .active-in-convex .ensures) (c .before .before .o .given .1) (omega arith) .0 in
+    omega (arith, a .wide)
+
+pub add-convex-spec : {M : Type 1} → statement M
+add-convex-spec =
+    tie.close
+    (tie.spec
+    (λ c. let s = c .before .before in let h = end-read _ _ _ _ _ (s .pre .1 .1) (s .pre .1 .3) in omega arith)
+    (λ c. let s = c .before .before .before in end-read _ _ _ _ _ (s .pre .1 .1) (s .pre .1 .3))
+    (λ c κs. let s = c .before .before .before .before in let a = s .pre .1 .3 in ((s .pre .0 .0, a .few, a .long, s .pre .0 .1), some-convex _ _ _ _ _ (s .pre .1 .1) a))
+    (λ c. search needs)
+    (λ c. search needs)
+    (λ c. search needs)
+    (λ c. search needs)
+    (λ c n g h a e. absurd (false≢true e))
+    (λ c. let h = place c in omega arith)
+    place
+    (λ c. let h = place c in omega arith)
+    (λ c. search needs)
+    (λ c n g h a e. let o = c .before .before .before in add-outside _ _ _ _ g h a (o .active-in-convex .ensures) (c .enum-told .given .1))
+    (λ c. search needs)
+    (λ c n g h a e. absurd (false≢true e))
+    (λ c. search needs)
+    (λ c. search needs)
+    (λ c n g h a e.
+    let o = c .before .before .before .before .before in
+    add-halves _ _ _ _ g h a (o .active-in-convex .ensures) (c .before .before .o .given .1) (omega arith) .1))

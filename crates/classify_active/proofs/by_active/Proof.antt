@@ -1,0 +1,26 @@
+-- `classify_active::by_active` has looked at the count, the volume and the anchor. Assumes nothing.
+use native.Mathlib.Omega.{arith}
+use mathlib.Core.Path.{sym, ap, subst, _∙_}
+use mathlib.Core.Bool.{false≢true}
+use borrow.Author.Needs.{needs}
+use borrow.Author.Tests.{not-false}
+use Rattle.classify_active.specs.Anchor.{IsAnchor, closeTo}
+use Rattle.classify_active.proofs.by_active.Statement.{statement}
+use Rattle.classify_active.proofs.by_active.Tie as tie
+
+pub by-active-spec : {M : Type 1} → statement M
+by-active-spec =
+    tie.close
+    (tie.spec
+    (λ c κs. search needs)
+    (λ c e. absurd (false≢true e))
+    (λ c e. absurd (false≢true e))
+    (λ c κs. search needs)
+    (λ c κs. let s = c .before .before .before .before .before .before in (subst IsAnchor (sym (c .anchor-behind .ensures)) (s .pre .1), s .pre .0 .1))
+    (λ c e.
+    let s = c .before .before .before .before .before .before .before in
+    record {
+      some = omega (arith, c .before .before .before .before .before .before .active-count .ensures);
+      oriented = sym (s .pre .0 .0 .oriented) ∙ not-false _ (c .before .before .before .if2 .left);
+      close = ap (λ r. closeTo r (s .args .m)) (sym (c .before .anchor-behind .ensures)) ∙ sym (c .is-close .ensures) ∙ e;
+    }))

@@ -1,0 +1,3 @@
+pub mod CapLaws
+pub mod ClearanceLaws
+pub mod ReachLaws

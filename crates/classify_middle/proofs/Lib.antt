@@ -1,2 +1,0 @@
-pub mod CapLaws
-pub mod ClearanceLaws

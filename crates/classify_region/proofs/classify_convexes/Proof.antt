@@ -1,0 +1,127 @@
+-- `classify_region::classify_convexes`. Assumes nothing.
+use Prim.Native.Nat.{ℕ, _+_, _-_, _*_, _^_, _≤_, _<_}
+use native.Mathlib.Omega.{arith}
+use mathlib.Core.Path.{_≡_, refl, sym, ap, subst, _∙_}
+use mathlib.Core.Logic.{⊎-elim}
+use mathlib.Core.List.{List}
+use lib.ListN.{length, getD}
+use lib.IntN.{ℤ}
+use Rattle.mesh.specs.declared.Trixel.{Trixel}
+use Rattle.classify.specs.declared.Class.{Class}
+use Rattle.classify_prepared.specs.declared.PreparedHalfspace.{PreparedHalfspace}
+use Rattle.region.specs.Regions.{Region}
+use Rattle.classify_halfspace.specs.Halfspaces.{judged}
+use Rattle.classify_prepared.specs.Measures.{SoundHalfspace}
+use Rattle.classify_prepared.specs.PreparedLists.{preparedIn, Prepared, meet, join}
+use Rattle.classify_region.proofs.ScanLaws.{AtConvex, AtHalfspace, start, opened, ended, full, stands, exhausted, left-out, Stands}
+use Rattle.classify_region.proofs.classify_convexes.Statement.{statement}
+use Rattle.classify_region.proofs.classify_convexes.Tie as tie
+
+abbrev Inv-halfspaces : tie.InvT-halfspaces
+Inv-halfspaces t s m ps xs ends n settled i₀ k end class₀ i class = (i₀ < end) × (end ≤ n) × ((g : Region) → Prepared g xs ends n → AtHalfspace t xs ends n g k end i settled class)
+
+abbrev μ-halfspaces : tie.MeasureT-halfspaces
+μ-halfspaces t s m ps xs ends n settled i₀ k end class₀ i class = end - i
+
+abbrev Inv-convexes : tie.InvT-convexes
+Inv-convexes t s m ps xs ends n settled₀ i₀ k₀ settled i k = (g : Region) → Prepared g xs ends n → AtConvex t xs ends n g i k settled
+
+abbrev μ-convexes : tie.MeasureT-convexes
+μ-convexes t s m ps xs ends n settled₀ i₀ k₀ settled i k = n - i
+
+-- a halfspace more is taken
+module _ (t : Trixel) (xs : List ℤ) (es : List ℕ) (n k end i : ℕ) (settled class : Class) where
+  abbrev Each : ℕ → Class → Type 0
+  Each i class = (g : Region) → Prepared g xs es n → AtHalfspace t xs es n g k end i settled class
+
+  taken : Each i class → i < end → {q : PreparedHalfspace} {b r : Class} → q ≡ preparedIn xs (7 * i) → b ≡ judged q t → r ≡ meet class b → Each (i + 1) r
+  taken inv h e f m g p =
+      let s = stands t xs es n g k end i settled class (inv g p) h in
+      subst (AtHalfspace t xs es n g k end (i + 1) settled) (sym m) (s .taken _ (f ∙ ap (λ q. judged q t) e))
+
+-- the place of the next end
+opening : (c : tie.In-convexes Inv-halfspaces μ-halfspaces Inv-convexes μ-convexes) → c .before .convexes .k < length (c .before .before .before .args .ends .now)
+opening c =
+    let l = c .before in
+    let r = l .before .before .pre .1 in
+    opened _ _ _ _ (r .0) _ _ _ (l .convexes .inv (r .0) (r .1)) (omega arith) .0
+
+-- a convex more is still counted
+counted : (c : tie.In-convexes Inv-halfspaces μ-halfspaces Inv-convexes μ-convexes) → c .before .convexes .k + 1 < 2 ^ 64
+counted c = omega (arith, opening c, c .before .before .before .good .1 .1 .1 .1 .1 .0)
+
+-- the halfspace at the next place
+module _ (c : tie.In-halfspaces Inv-halfspaces μ-halfspaces Inv-convexes μ-convexes) where
+  next-half :
+      Stands (c .before .before .before .before .before .before .args .t)
+      (c .before .before .before .before .before .before .args .prepared .now)
+      (c .before .before .before .before .before .before .args .ends .now)
+      (c .before .before .before .before .before .before .args .n)
+      (c .before .before .before .before .before .before .pre .1 .0)
+      (c .before .before .before .before .convexes .k)
+      (getD (c .before .before .before .before .before .before .args .ends .now) (c .before .before .before .before .convexes .k) 0)
+      (c .before .halfspaces .i)
+      (c .before .before .before .before .convexes .settled)
+      (c .before .halfspaces .class)
+  next-half =
+      let r = c .before .before .before .before .before .before .pre .1 in
+      stands _ _ _ _ (r .0) _ _ _ _ _ (c .before .halfspaces .inv .2 (r .0) (r .1)) (omega arith)
+
+  below : 7 * c .before .halfspaces .i + 1 < 2 ^ 64
+  below = let h = next-half .room in omega arith
+
+-- where the scan of a convex has ended, at its own end or at a halfspace that leaves the trixel outside
+module _ (c : tie.Left-halfspaces Inv-halfspaces μ-halfspaces Inv-convexes μ-convexes) where
+  closing : (g : Region) → Prepared g (c .before .before .before .before .before .before .args .prepared .now) (c .before .before .before .before .before .before .args .ends .now) (c .before .before .before .before .before .before .args .n)
+      → AtConvex (c .before .before .before .before .before .before .args .t) (c .before .before .before .before .before .before .args .prepared .now) (c .before .before .before .before .before .before .args .ends .now) (c .before .before .before .before .before .before .args .n) g (getD (c .before .before .before .before .before .before .args .ends .now) (c .before .before .before .before .convexes .k) 0) ((c .before .before .before .before .convexes .k) + 1) (join (c .before .before .before .before .convexes .settled) (c .halfspaces-test .class))
+  closing g p = ⊎-elim
+      (λ w. subst (λ a. AtConvex (c .before .before .before .before .before .before .args .t) (c .before .before .before .before .before .before .args .prepared .now) (c .before .before .before .before .before .before .args .ends .now) (c .before .before .before .before .before .before .args .n) g (getD (c .before .before .before .before .before .before .args .ends .now) (c .before .before .before .before .convexes .k) 0) ((c .before .before .before .before .convexes .k) + 1) (join (c .before .before .before .before .convexes .settled) a)) (sym (w .1))
+      (exhausted _ _ _ _ g _ _ _ _ _ (c .before .halfspaces .inv .2 g p) (omega (arith, w .0 .left))))
+      (λ w. subst (λ a. AtConvex (c .before .before .before .before .before .before .args .t) (c .before .before .before .before .before .before .args .prepared .now) (c .before .before .before .before .before .before .args .ends .now) (c .before .before .before .before .before .before .args .n) g (getD (c .before .before .before .before .before .before .args .ends .now) (c .before .before .before .before .convexes .k) 0) ((c .before .before .before .before .convexes .k) + 1) (join (c .before .before .before .before .convexes .settled) a)) (sym (w .6))
+      (left-out _ _ _ _ g _ _ _ _ _
+      (taken _ _ _ _ _ _ _ _ _ (c .before .halfspaces .inv .2) (omega (arith, w .0 .taken)) (w .1 .ensures) (w .2 .ensures) (w .3 .ensures) g p)
+      (sym (w .4 .ensures) ∙ w .5 .taken)))
+      (c .halfspaces-test .came)
+
+pub classify-convexes-spec : {M : Type 1} → statement M
+classify-convexes-spec =
+    tie.close
+    (tie.spec
+    Inv-halfspaces
+    μ-halfspaces
+    Inv-convexes
+    μ-convexes
+    (λ c g p. start _ _ _ _ g p)
+    (λ c. omega (arith, opening c, c .before .before .before .good .1 .1 .1 .1 .1 .0))
+    (λ c. opening (c .before))
+    (λ c.
+    let l = c .before .before in
+    let r = l .before .before .pre .1 in
+    let o = opened _ _ _ _ (r .0) _ _ _ (l .convexes .inv (r .0) (r .1)) (omega arith) .1 _ refl in
+    (o .0, omega (arith, o .1 .after .count), λ g p. opened _ _ _ _ g _ _ _ (l .convexes .inv g p) (omega arith) .1 _ refl .1))
+    (λ c. let h = next-half c .room in omega arith)
+    (λ c κs. next-half c .room)
+    (λ c κs. let p = c .before .before .before .before .before .before .before .pre .0 in (p .0, (p .1, (p .2, subst SoundHalfspace (sym (c .prepared-at .ensures)) (next-half (c .before) .sound)))))
+    (λ c κs. tt)
+    (λ c κs. tt)
+    (λ c. let h = below (c .before .before .before .before .before) in omega arith)
+    (λ c. omega arith)
+    (λ c.
+    let j = c .before .before .before in
+    let q = j .before in
+    let l = q .before .before in (
+      l .halfspaces .inv .0,
+      l .halfspaces .inv .1,
+      taken _ _ _ _ _ _ _ _ _ (l .halfspaces .inv .2) (omega arith) (q .prepared-at .ensures) (j .classify-one .ensures) (c .before .before .meet .ensures),
+    ))
+    (λ c κs. tt)
+    (λ c κs. tt)
+    (λ c. let h = counted (c .before .before .before .before .before .before) in omega arith)
+    (λ c. omega arith)
+    (λ c.
+    let t = c .before .before .before in
+    λ g p. subst (AtConvex _ _ _ _ g _ _) (sym (c .before .before .join .ensures)) (closing t g p))
+    (λ c g p. let l = c .before in ended _ _ _ _ g _ _ _ (l .convexes .inv g p) (omega arith))
+    (λ c g p.
+    let j = c .before .before in
+    full _ _ _ _ g _ _ _ (sym (c .before .is-full .ensures) ∙ c .if2 .taken) (subst (AtConvex _ _ _ _ g _ _) (sym (j .join .ensures)) (closing (j .before) g p))))

@@ -1,0 +1,275 @@
+// A command line as it is kept, and its words: numbers, pointings, files and floats in hexadecimal digits, lists of numbers.
+use check::same;
+ghost use mathlib.Core.Path.{_≡_};
+ghost use mathlib.Core.List.{[], _∷_};
+ghost use Rattle.command_words.specs.Numbers.{UpTo, naturalFrom, naturalIn, wholeIn, plain, negated};
+ghost use Prim.Native.Nat.{_≤_};
+ghost use lib.ListN.{length};
+
+// A line of 65536 bytes has no more bytes in digits, and no more numbers.
+pub const WORD_CAPACITY: usize = 32768;
+
+// More than the arrays hold.
+const NONE: usize = 32769;
+
+const BLANK: u8 = b' ';
+
+pub enum NaturalAt {
+    Is(u32, usize),
+    Not,
+}
+
+pub enum WholeAt {
+    Is(i32, usize),
+    Not,
+}
+
+pub enum PointAt {
+    Is { x: i32, y: i32, z: i32, next: usize },
+    Not,
+}
+
+pub enum Natural {
+    Is(u64),
+    Not,
+}
+
+pub enum Whole {
+    Is(i32),
+    Not,
+}
+
+// One byte more of a line of which n are kept. A line that is too long counts as one byte more than `line` can hold.
+pub fn append_byte(line: &mut [u8], n: usize, b: u8) -> usize {
+    if n < line.len() {
+        line[n] = b;
+        return n + 1;
+    }
+    line.len() + 1
+}
+
+// The word that begins at `at`.
+pub fn word(line: &[u8], at: usize) -> &[u8] {
+    let to = end(line, at);
+    if at < to {
+        return &line[at..to];
+    }
+    &line[..0]
+}
+
+// Where the word after that begins.
+pub fn after(line: &[u8], at: usize) -> usize {
+    end(line, at) + 1
+}
+
+// The word that begins at `at`, if no other follows.
+pub fn last(line: &[u8], at: usize) -> &[u8] {
+    if is_over(line, after(line, at)) {
+        return word(line, at);
+    }
+    &line[..0]
+}
+
+// Whether no word begins at `at`: the word before it was the last.
+pub fn is_over(line: &[u8], at: usize) -> bool {
+    line.len() < at
+}
+
+fn end(line: &[u8], at: usize) -> usize
+    ensures { λ r. ⌜ r ≤ length (now (line .entry)) ⌝ }
+{
+    if at < line.len() {
+        return bytes::scan::find(line, at, line.len(), BLANK);
+    }
+    line.len()
+}
+
+// A number up to `most`.
+pub fn natural_of(word: &[u8], most: u64) -> Natural
+    ensures { λ r. ⌜ r ≡ naturalIn most (now (word .entry)) ⌝ }
+    ensures { λ r. ⌜ UpTo most r ⌝ }
+{
+    if word.len() == 0 {
+        return Natural::Not;
+    }
+    let mut n: u64 = 0;
+    for i in 0..word.len() {
+        let Natural::Is(more) = with_digit(n, word[i], most) else {
+            return Natural::Not;
+        };
+        n = more;
+    }
+    Natural::Is(n)
+}
+
+// A number of 32 bits, with a minus or with no sign.
+pub fn whole_of(word: &[u8]) -> Whole
+    ensures { λ r. ⌜ r ≡ wholeIn (now (word .entry)) ⌝ }
+{
+    if word.len() == 0 {
+        return Whole::Not;
+    }
+    if word[0] == b'-' {
+        return negative(natural_of(&word[1..], 2147483648));
+    }
+    positive(natural_of(word, 2147483647))
+}
+
+// One digit more at the end of n.
+fn with_digit(n: u64, byte: u8, most: u64) -> Natural
+    ensures { λ r. ⌜ r ≡ naturalFrom most n (byte ∷ []) ⌝ }
+{
+    if byte < b'0' {
+        return Natural::Not;
+    }
+    if b'9' < byte {
+        return Natural::Not;
+    }
+    let digit = (byte - b'0') as u64;
+    if most < digit {
+        return Natural::Not;
+    }
+    if (most - digit) / 10 < n {
+        return Natural::Not;
+    }
+    Natural::Is(n * 10 + digit)
+}
+
+fn positive(n: Natural) -> Whole
+    requires { ⌜ UpTo 2147483647 n ⌝ }
+    ensures { λ r. ⌜ r ≡ plain n ⌝ }
+{
+    match n {
+        Natural::Is(k) => Whole::Is(k as i32),
+        Natural::Not => Whole::Not,
+    }
+}
+
+fn negative(n: Natural) -> Whole
+    requires { ⌜ UpTo 2147483648 n ⌝ }
+    ensures { λ r. ⌜ r ≡ negated n ⌝ }
+{
+    match n {
+        Natural::Is(k) => Whole::Is((-(k as i64)) as i32),
+        Natural::Not => Whole::Not,
+    }
+}
+
+// A number of 32 bits with no sign.
+pub fn natural_at(line: &[u8], at: usize) -> NaturalAt {
+    let Natural::Is(n) = natural_of(word(line, at), 4294967295) else {
+        return NaturalAt::Not;
+    };
+    NaturalAt::Is(n as u32, after(line, at))
+}
+
+// A number of 32 bits with a minus or with no sign.
+pub fn whole_at(line: &[u8], at: usize) -> WholeAt {
+    let Whole::Is(n) = whole_of(word(line, at)) else {
+        return WholeAt::Not;
+    };
+    WholeAt::Is(n, after(line, at))
+}
+
+// Three whole numbers.
+pub fn point_at(line: &[u8], at: usize) -> PointAt {
+    let WholeAt::Is(x, y_at) = whole_at(line, at) else {
+        return PointAt::Not;
+    };
+    let WholeAt::Is(y, z_at) = whole_at(line, y_at) else {
+        return PointAt::Not;
+    };
+    let WholeAt::Is(z, next) = whole_at(line, z_at) else {
+        return PointAt::Not;
+    };
+    PointAt::Is { x, y, z, next }
+}
+
+// An identifier that is the line's last word.
+pub fn identifier(line: &[u8], at: usize) -> Natural {
+    natural_of(last(line, at), u64::MAX)
+}
+
+// The bytes of a file: two digits each, and `-` for a file with no bytes.
+pub fn file(word: &[u8], to: &mut [u8; WORD_CAPACITY]) -> usize {
+    if same(word, b"-") {
+        return 0;
+    }
+    let n = word.len() / 2;
+    if n == 0 {
+        return NONE;
+    }
+    if n * 2 < word.len() {
+        return NONE;
+    }
+    if WORD_CAPACITY < n {
+        return NONE;
+    }
+    for i in 0..n {
+        let value = digit(word[i * 2]) * 16 + digit(word[i * 2 + 1]);
+        if 255 < value {
+            return NONE;
+        }
+        to[i] = value as u8;
+    }
+    n
+}
+
+// The bits of a float: so many hexadecimal digits, no more and no fewer, and at most 16.
+pub fn bits_of(word: &[u8], digits: usize) -> Natural {
+    if word.len() != digits {
+        return Natural::Not;
+    }
+    let mut n: u64 = 0;
+    for i in 0..word.len() {
+        let value = digit(word[i]);
+        if 15 < value {
+            return Natural::Not;
+        }
+        n = n << 4 | value as u64;
+    }
+    Natural::Is(n)
+}
+
+// The value of a digit; 256 for another byte, so that two bytes give at most 255 only if both are digits.
+pub fn digit(byte: u8) -> u32
+    ensures { λ r. ⌜ r ≤ 256 ⌝ }
+{
+    if byte < b'0' {
+        return 256;
+    }
+    if byte <= b'9' {
+        return (byte - b'0') as u32;
+    }
+    letter(byte, b'a', letter(byte, b'A', 256))
+}
+
+// The value of a letter from `first` on, or `other` for another byte.
+fn letter(byte: u8, first: u8, other: u32) -> u32
+    requires { ⌜ other ≤ 256 ⌝ }
+    ensures { λ r. ⌜ r ≤ 256 ⌝ }
+{
+    if byte < first {
+        return other;
+    }
+    if 5 < byte - first {
+        return other;
+    }
+    (byte - first) as u32 + 10
+}
+
+// The words from `at` on to the line's end, each a whole number.
+pub fn numbers(line: &[u8], at: usize, to: &mut [i32; WORD_CAPACITY]) -> usize {
+    let mut next = at;
+    for i in 0..WORD_CAPACITY {
+        if is_over(line, next) {
+            return i;
+        }
+        let WholeAt::Is(n, after) = whole_at(line, next) else {
+            return NONE;
+        };
+        to[i] = n;
+        next = after;
+    }
+    NONE
+}

@@ -1,0 +1,4 @@
+pub mod ContentsLaws
+pub mod CoverLaws
+pub mod Examples
+pub mod ListedLaws

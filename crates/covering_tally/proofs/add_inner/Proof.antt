@@ -1,0 +1,19 @@
+-- `covering_tally::add_inner` pushes the range by what the tally knows, and notes what it knows then. Assumes nothing.
+use borrow.Author.Needs.{needs}
+use Rattle.covering_tally.proofs.TallyLaws.{inner-known, inside}
+use Rattle.covering_tally.proofs.add_inner.Statement.{statement}
+use Rattle.covering_tally.proofs.add_inner.Tie as tie
+
+pub add-inner-spec : {M : Type 1} → statement M
+add-inner-spec =
+    tie.close
+    (tie.spec
+    (λ c κs. search needs)
+    (λ c κs. search needs)
+    (λ c κs. search (needs, inner-known))
+    (λ c κs. search needs)
+    (λ c. search needs)
+    (λ c. search needs)
+    (λ c.
+    let p = c .before .before .before .before .before in
+    inside (p .push-inner .ensures) (p .before .before .before .budget-of .ensures) (p .before .pending .ensures) (c .before .before .note-inner .ensures)))

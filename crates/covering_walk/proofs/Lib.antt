@@ -1,0 +1,3 @@
+pub mod StoredTrixelLaws
+pub mod RowsLaws
+pub mod VisitLaws

@@ -1,0 +1,2 @@
+pub mod StoredTrixels
+pub mod Walk

@@ -1,4 +1,0 @@
-pub mod ContentsLaws
-pub mod CuttingLaws
-pub mod Examples
-pub mod ListedLaws

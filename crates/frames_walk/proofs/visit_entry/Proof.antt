@@ -1,0 +1,75 @@
+-- `frames_walk::visit_entry` does one turn of the walk. Assumes nothing.
+use Prim.Native.Nat.{_+_, _≤_}
+use mathlib.Core.Path.{_≡_, refl, sym, subst}
+use native.Mathlib.Omega.{arith}
+use lib.ListN.{drop}
+use Rattle.ranges.specs.Ranges.{rangesIn}
+use Rattle.frames.specs.Walk.{ahead, begins}
+use Rattle.frames_walk.specs.declared.WalkState.{WalkState}
+use Rattle.frames_walk.proofs.RangeLaws.{tail}
+use Rattle.frames_walk.proofs.MetLaws.{noted-most}
+use Rattle.frames_walk.proofs.WalkLaws.{Turn, turned}
+use Rattle.frames_walk.proofs.visit_entry.Statement.{statement}
+use Rattle.frames_walk.proofs.visit_entry.Tie as tie
+
+-- the function's entry, as seen from its end
+abbrev start : tie.After-struct-known2 → tie.Start
+start c = c .before .before .before .before .before .before .before .before .before .before .before .before .before .before .before .before .before
+
+-- the places after the calls, the last one first: deliver, fate_of, begins and ahead, each of the outer ranges (o) and of the inner ones (n), shortened
+returns : tie.Need-returns
+returns c =
+    let d = c .before .before .before .before in
+    let f = d .before .before .before .before in
+    let o = f .before in
+    let n = o .before in
+    let n₁ = n .before .before in
+    let o₁ = n₁ .before .before in
+    let s = o₁ .before in
+    let p = start (c .before) .pre in
+    let v = start (c .before) .args in
+    let id = s .shortened .result in
+    let t = tail (v .lists .from) (v .ranges .now) in
+    let b : WalkState = record { met = v .at .met + 1; outer = o₁ .ahead .result; inner = n₁ .ahead2 .result; tests = c .count-disposition .result } in
+    let turn : Turn (v .lists) (v .ranges .now) (v .rows .now) (v .count) (v .e) (v .at) (v .numbers .now) b (d .deliver .last .0) id (n .begins .result) (o .begins2 .result) (f .disposition-of .result) =
+    record {
+      id = s .shortened .ensures;
+      outer = o₁ .ahead .ensures .0;
+      inner = subst (λ xs. drop (b .inner) (rangesIn (v .lists .inner) xs) ≡ ahead id (drop (v .at .inner) (rangesIn (v .lists .inner) xs))) t (n₁ .ahead2 .ensures .0);
+      in-inner = subst (λ xs. n .begins .result ≡ begins id (drop (b .inner) (rangesIn (v .lists .inner) xs))) t (n .begins .ensures);
+      in-outer = o .begins2 .ensures;
+      fate = f .disposition-of .ensures;
+      met = refl;
+      tests = c .count-disposition .ensures;
+      numbers = d .deliver .ensures;
+    } in
+    let few = subst (λ t. t .unchecked + t .held + t .discarded ≤ v .at .met + 1) (sym (c .count-disposition .ensures))
+    (omega (arith, noted-most (v .at .tests) (f .disposition-of .result), p .0 .1 .tests)) in (
+      turned (v .lists) (v .ranges .now) (v .rows .now) (v .count) (v .e) (v .at) (v .numbers .now) b (d .deliver .last .0) id (n .begins .result) (o .begins2 .result) (f .disposition-of .result) turn,
+      (record { outer = o₁ .ahead .ensures .1; inner = n₁ .ahead2 .ensures .1; tests = few; met = omega (arith, p .0 .2) }, refl, d .deliver .kept .0),
+    )
+
+pub visit-entry-spec : {M : Type 1} → statement M
+visit-entry-spec =
+    tie.close
+    (tie.spec
+    (λ c κs. omega arith)
+    (λ c κs. omega arith)
+    (λ c. omega arith)
+    (λ c. omega arith)
+    (λ c. omega arith)
+    (λ c. omega arith)
+    (λ c κs. omega arith)
+    (λ c. omega arith)
+    (λ c. omega arith)
+    (λ c. omega arith)
+    (λ c. omega arith)
+    (λ c κs. omega arith)
+    (λ c κs. omega arith)
+    (λ c κs. omega arith)
+    (λ c. omega arith)
+    (λ c κs. omega arith)
+    (λ c. record { fits = omega (arith, start c .pre .0 .2) })
+    (λ c κs. omega (arith, start c .pre .0 .1 .tests, start c .pre .0 .2))
+    (λ c. omega arith)
+    returns)

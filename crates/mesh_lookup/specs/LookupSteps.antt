@@ -1,0 +1,36 @@
+-- What the steps of a lookup give. Document 01, 'Pointings and the mesh': the lookup, and the table that deeper lookups begin at.
+--   childAt d c       the digit d with the corners c
+--   digitBy p a b c   the child that p goes to, by the normals a, b and c of the cuts turned round
+--   ChildStep p c r   r has the digit of p in the trixel with corners c, and the corners of that child
+--   TableStart p k s  s is the trixel of depth 3 on p's way from the root k: the descent goes on from it as from the root
+use Prim.Native.Nat.{ℕ, suc, _+_, _<_}
+use mathlib.Core.Path.{_≡_}
+use mathlib.Core.Bool.{cond}
+use lib.IntN.{pos}
+use lib.Signed.{leZ}
+use Rattle.vector.specs.declared.Vec3.{Vec3}
+use Rattle.vector.specs.Vectors.{dot}
+use Rattle.mesh.specs.declared.Corners.{Corners}
+use Rattle.mesh.specs.Trixels.{rootTrixel, child}
+use Rattle.mesh.specs.Identifiers.{cornersOf}
+use Rattle.mesh.specs.Lookup.{digit, descend}
+use Rattle.mesh_trixels.specs.Corners.{bare, SmallCorners}
+use Rattle.mesh_lookup.specs.declared.Child.{Child}
+use Rattle.mesh_lookup.specs.declared.LocatedTrixel.{LocatedTrixel}
+
+abbrev pub childAt : ℕ → Corners → Child
+childAt d c = record { digit = d; corners = c }
+
+abbrev pub digitBy : Vec3 → Vec3 → Vec3 → Vec3 → ℕ
+digitBy p a b c = cond (leZ (dot a p) (pos 0)) 0 (cond (leZ (dot b p) (pos 0)) 1 (cond (leZ (dot c p) (pos 0)) 2 3))
+
+pub record ChildStep (p : Vec3) (c : Corners) (r : Child) : Type 0 where
+  pub is : r .digit ≡ digit p (bare c)
+  pub child : r .corners ≡ cornersOf (child (digit p (bare c)) (bare c))
+  pub small : SmallCorners (r .corners)
+  pub low : r .digit < 4
+
+pub record TableStart (p : Vec3) (k : ℕ) (s : LocatedTrixel) : Type 0 where
+  pub goes-on : (n : ℕ) → descend p n (bare (s .corners)) (s .id) ≡ descend p (suc (suc n)) (rootTrixel k) (8 + k)
+  pub small : SmallCorners (s .corners)
+  pub low : s .id < 256

@@ -1,0 +1,132 @@
+// Lines of input, each answered as it ends. After a read that failed the line that has begun is not answered, and after a write that failed nothing
+// more is read.
+use check::same;
+use print::Buffer;
+use print::LOST;
+use region::Style;
+use streams::Input;
+
+pub mod files;
+pub mod regions;
+pub mod reports;
+pub mod trixels;
+
+// A loop must end, and no run reads so many blocks.
+const BLOCKS: u64 = u64::MAX;
+
+// Between two bytes of the input: how many bytes of a line are kept, and the place in what is printed.
+struct LineState {
+    kept: usize,
+    at: usize,
+}
+
+// Answers the lines of the input. The result is how many bytes `line` holds of a last one that has no line feed and is to be answered.
+pub fn answer_lines(line: &mut Buffer, out: &mut Buffer) -> usize {
+    let mut block = io::large_buffer();
+    let mut kept = 0;
+    for _ in 0..BLOCKS {
+        let Input::Bytes(n) = streams::read(&mut block) else {
+            return 0;
+        };
+        if n == 0 {
+            return kept;
+        }
+        let place = answer_block(&block[..n], line, kept, out);
+        if place.at == LOST {
+            return 0;
+        }
+        kept = place.kept;
+    }
+    0
+}
+
+// Answers the lines that end in a block; `line` has so many bytes of the first one already.
+fn answer_block(block: &[u8], line: &mut Buffer, kept: usize, out: &mut Buffer) -> LineState {
+    let mut place = LineState { kept: kept, at: 0 };
+    for i in 0..block.len() {
+        place = answer_byte(block[i], line, place, out);
+    }
+    LineState {
+        kept: place.kept,
+        at: print::flush(out, place.at),
+    }
+}
+
+fn answer_byte(b: u8, line: &mut Buffer, place: LineState, out: &mut Buffer) -> LineState {
+    if b == b'\n' {
+        return LineState {
+            kept: 0,
+            at: answer_line(line, place.kept, out, place.at),
+        };
+    }
+    LineState {
+        kept: command_words::append_byte(line, place.kept, b),
+        at: place.at,
+    }
+}
+
+pub fn answer_line(line: &Buffer, n: usize, out: &mut Buffer, at: usize) -> usize {
+    if at == LOST {
+        return LOST;
+    }
+    let all: &[u8] = line;
+    if n <= all.len() {
+        answer(&all[0..n], out, at)
+    } else {
+        print::usage(out, at)
+    }
+}
+
+// The answer to a line, by its first word.
+fn answer(line: &[u8], out: &mut Buffer, at: usize) -> usize {
+    let word = command_words::word(line, 0);
+    let next = command_words::after(line, 0);
+    if same(word, b"lookup") {
+        return crate::trixels::lookup(line, next, out, at);
+    }
+    if same(word, b"double") {
+        return crate::reports::double(line, next, out, at);
+    }
+    if same(word, b"single") {
+        return crate::reports::single(line, next, out, at);
+    }
+    if same(word, b"line") {
+        return crate::trixels::line(line, next, out, at);
+    }
+    if same(word, b"name") {
+        return crate::trixels::name(line, next, out, at);
+    }
+    if same(word, b"id") {
+        return crate::trixels::id(line, next, out, at);
+    }
+    if same(word, b"corners") {
+        return crate::trixels::corners(line, next, out, at);
+    }
+    answer_of_region(word, line, next, out, at)
+}
+
+// The answer to a line about a region file, by its first word.
+fn answer_of_region(word: &[u8], line: &[u8], next: usize, out: &mut Buffer, at: usize) -> usize {
+    if same(word, b"rows") {
+        return crate::files::rows(line, next, out, at);
+    }
+    if same(word, b"file") {
+        return crate::files::file(Style::Plain, line, next, out, at);
+    }
+    if same(word, b"grouped") {
+        return crate::files::file(Style::Grouped, line, next, out, at);
+    }
+    if same(word, b"togrouped") {
+        return crate::files::convert(Style::Grouped, line, next, out, at);
+    }
+    if same(word, b"toplain") {
+        return crate::files::convert(Style::Plain, line, next, out, at);
+    }
+    if same(word, b"holds") {
+        return crate::regions::holds(line, next, out, at);
+    }
+    if same(word, b"cover") {
+        return crate::regions::cover(line, next, out, at);
+    }
+    print::usage(out, at)
+}

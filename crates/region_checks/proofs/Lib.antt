@@ -1,2 +1,0 @@
-pub mod CheckingPass
-pub mod NumberLaws

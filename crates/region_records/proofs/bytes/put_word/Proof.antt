@@ -1,0 +1,18 @@
+-- The two stores put the two bytes at their place. Assumes nothing.
+use native.Mathlib.Omega.{arith}
+use lib.ListN.{length-set}
+use Rattle.answer.proofs.PutLaws.{set-set-put}
+use Rattle.region_records.proofs.bytes.put_word.Statement.{statement}
+use Rattle.region_records.proofs.bytes.put_word.Tie as tie
+
+pub put-word-spec : {M : Type 1} → statement M
+put-word-spec =
+    tie.close
+    (tie.spec
+    (λ c. omega arith)
+    (λ c. omega arith)
+    (λ c. omega arith)
+    (λ c. omega arith)
+    (λ c. simp length-set (omega arith))
+    (λ c. simp length-set)
+    (λ c. set-set-put _ _ _ _ (c .pre .0)))

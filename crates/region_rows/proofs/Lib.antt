@@ -1,0 +1,3 @@
+pub mod CheckingPass
+pub mod NumberLaws
+pub mod CountLaws

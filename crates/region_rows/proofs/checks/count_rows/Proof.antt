@@ -1,0 +1,62 @@
+-- The loop's invariant: the rows so far make a region with the counts, and the rows that are left lead on from it (`Checking`). Assumes nothing.
+use Prim.Native.Nat.{_-_}
+use native.Mathlib.Omega.{arith}
+use mathlib.Core.Path.{_≡_, sym, ap, _∙_}
+use lib.ListN.{length, getD, drop}
+use lib.IntN.{pos}
+use mir.Syntax.{w32}
+use mir.Facts.{toZ-ofZ}
+use Rattle.answer.specs.Answer.{with-value}
+use Rattle.region.specs.Regions.{Region}
+use Rattle.region.specs.Rows.{rowIn, halfspaceAt}
+use Rattle.region_rows.specs.RegionSizes.{countsOf, countsGiven}
+use Rattle.region_rows.proofs.CheckingPass.{Checking, start, few-counted, done, whole-row, row-refused, row-passed}
+use Rattle.region_rows.proofs.checks.count_rows.Statement.{statement}
+use Rattle.region_rows.proofs.checks.count_rows.Tie as tie
+
+abbrev Inv-loop : tie.InvT-loop
+Inv-loop rows at₀ i₀ at i = Checking rows at i
+
+abbrev μ-loop : tie.MeasureT-loop
+μ-loop rows at₀ i₀ at i = length rows - i
+
+-- what the row from element i on answered
+row : (c : tie.After-with-row Inv-loop μ-loop) → let l = c .before .before .before .before in let rs = l .before .before .args .rows .now in
+    (g : Region) → countsOf g ≡ l .loop .at → countsGiven (c .with-row .result) ≡ with-value countsOf (rowIn g (getD rs (l .loop .i) (pos 0)) (halfspaceAt (drop (l .loop .i) rs)))
+row c g e =
+    let l = c .before .before .before .before in
+    let number = toZ-ofZ {w = w32} {z = getD (l .before .before .args .rows .now) (l .loop .i) (pos 0)} (record { sfits = c .before .before .with-row-arg .given }) in
+    c .with-row .ensures g e ∙ (λ j. with-value countsOf (rowIn g (number j) (c .before .halfspace-at .ensures .0 j)))
+
+refused : tie.Need-returns Inv-loop μ-loop
+refused c =
+    let r = c .before .before in
+    let l = r .before .before .before in
+    let e = ap countsGiven (c .enum-told .given .1) in
+    e ∙ row-refused (l .before .loop .inv) (l .loop-test .taken) _ (λ g q. sym e ∙ row r g q)
+
+again : tie.Need-loop-again Inv-loop μ-loop
+again c =
+    let r = c .before .before .before in
+    let l = r .before .before .before in
+    row-passed (l .before .loop .inv) (l .loop-test .taken) _ (λ g q. sym (ap countsGiven (c .before .r .given .1)) ∙ row r g q)
+
+pub count-rows-spec : {M : Type 1} → statement M
+count-rows-spec =
+    tie.close
+    (tie.spec
+    Inv-loop
+    μ-loop
+    (λ c κs. tt)
+    (λ c. start _ (c .before .pre) _ (c .none .ensures))
+    (λ c. omega arith)
+    (λ c. omega arith)
+    (λ c κs. whole-row (c .before .before .loop .inv) (c .before .loop-test .taken))
+    (λ c κs. few-counted (c .before .before .before .loop .inv))
+    (λ c. c .match .keys1)
+    (λ c. c .match .keys2)
+    refused
+    (λ c. let l = c .before .before .before .before .before .before in omega (arith, whole-row (l .before .loop .inv) (l .loop-test .taken)))
+    (λ c. omega arith)
+    again
+    (λ c. done (c .before .loop .inv) (c .loop-test .left)))
