@@ -6,7 +6,8 @@
  * region files to depth 12.
  *
  * Boundaries: a halfspace of direction n and offset d holds the point p when n.p >= d*K: a point on the plane is held, also by
- * the opposite halfspace. A range of identifiers has both its ends in it. A point on the edge of two trixels is in one of them, that of lookup.
+ * the opposite halfspace. Ranges of identifiers include both ends. A point on the edge of two trixels is in one of them, that of
+ * lookup.
  *
  * Memory: a list is passed as a pointer and its number of elements. The caller owns every list; the library reads or writes it
  * during the call, allocates nothing and keeps nothing. A pointer is not null, and lists that are written do not overlap others.
@@ -121,21 +122,21 @@ int64_t htm_cover(const uint8_t *file, size_t bytes, uint64_t *out, size_t eleme
  * number may be used by both owners. The index is a list of the caller's: index[0] is the count of the exposures, and then they stand
  * six numbers each, identifier at depth 12, number, owner, x, y, z, ordered by identifier, then by number, then by owner. A list of
  * zeros is an empty index; htm_index_begin makes any list one. From an empty one on, changed by htm_add and htm_remove only, it has
- * exactly the exposures that their owners added and did not remove since, each once, and what these two calls answer an owner does
- * not depend on the other's calls. htm_index_count and htm_index_entry tell of both owners, htm_frames and htm_trial of one. Write to
- * the list by these calls only: on another list, such as one of five numbers an exposure, a call still ends, and neither reads nor
- * writes outside it, but its answer means nothing.
+ * exactly the exposures that their owners added and did not remove since, each once, and what these two calls, htm_frames and
+ * htm_trial give an owner does not depend on the other's calls. htm_index_count and htm_index_entry are of both owners. Write to the
+ * list by these calls only: on another list, such as one of five numbers an exposure, a call still ends, and neither reads nor writes
+ * outside it, but its answer means nothing.
  * Each call gives -10 where elements is under HTM_INDEX_LENGTH. */
 
 /* Makes the list an empty index, whatever it holds: 0, or -10. */
 int64_t htm_index_begin(int64_t *index, size_t elements);
 
-/* One exposure more of the owner. 0, or -N for refusal N: 18 where there is no such owner, then 8 where (x, y, z) is no pointing, then
+/* Adds an exposure for the owner. 0, or -N for refusal N: 18 where there is no such owner, then 8 where (x, y, z) is no pointing, then
  * 10, then 15 where the number is one of the owner's, then 16 where 1024 exposures are. */
 int64_t htm_add(int64_t *index, size_t elements, uint32_t owner, uint32_t number, int32_t x, int32_t y, int32_t z);
 
-/* One exposure less of the owner. Its place serves the owner again. 0, or -N for refusal N: 18 where there is no such owner, then 10,
- * then 17 where the number is not one of the owner's. */
+/* Removes an exposure of the owner, who may then add another. 0, or -N for refusal N: 18 where there is no such owner, then 10, then
+ * 17 where the number is not one of the owner's. */
 int64_t htm_remove(int64_t *index, size_t elements, uint32_t owner, uint32_t number);
 
 /* How many exposures are in the index, 0 to 2048; or -10. */
@@ -147,7 +148,7 @@ int64_t htm_index_entry(const int64_t *index, size_t elements, uint32_t place, i
 
 /* The owner's exposures that the region of a region file of so many bytes holds: their numbers from numbers[0] on, in the order of the
  * index. ranges is left as htm_cover leaves it. With its identifier shortened to the file's depth, an exposure in an inner range is
- * delivered unchecked, one in an outer range only is put to the point test, and any other is skipped.
+ * delivered unchecked, one that is only in an outer range goes through the point test, and any other is skipped.
  * counts[0] is how many numbers there are, at most 1024, and counts[1] how many tests were made: as many as the owner's exposures in
  * outer ranges and in no inner one. The elements of numbers behind them keep their values, and so do the elements of counts from 2 on.
  * 0, or -N for refusal N: 18 where there is no such owner; then that of the file's first failed check, 1 to 9 or 14; then -10 where
@@ -160,8 +161,8 @@ int64_t htm_frames(const int64_t *index, size_t elements, uint32_t owner, const 
  * and budget of the first, settings[2] and settings[3] those of the second. They stand in for the depth and budget of the file's header,
  * and a budget of 0 counts as HTM_DEFAULT_BUDGET. first and second are left as htm_cover leaves its list under that setting: the outer
  * list from element 0 on, the inner list from element 2 * budget on.
- * numbers[0] to numbers[4] are what the first setting comes to: how many of the owner's exposures htm_frames would deliver unchecked, test
- * and hold, and test and discard, and how many ranges the outer and the inner list have. numbers[5] to numbers[9] are the same of the
+ * numbers[0] to numbers[4] are the result of the first setting: how many of the owner's exposures htm_frames would deliver unchecked, test
+ * and hold, and test and discard, and how many ranges the outer and the inner list have. numbers[5] to numbers[9] are that of the
  * second. Unchecked plus held is the same under both settings: the exposures that the region holds. numbers[10] is the choice, 1 or 2:
  * the setting whose outer list spans the smaller share of the sky, counted in identifiers of depth 12, and 1 where they are equal.
  * The elements of numbers from 11 on keep their values.
