@@ -52,13 +52,13 @@ extern "C" {
  * 0 for a refusal: a depth not from 1 to 12, or a pointing that breaks the rule above. No identifier is 0. */
 uint64_t lookup(int32_t x, int32_t y, int32_t z, uint32_t depth);
 
-/* The same of a mount's report, three floats in double or in single precision: each is multiplied by K and truncated toward zero,
+/* As above, for a mount's report, three floats in double or in single precision: each is multiplied by K and truncated toward zero,
  * so that -0.3 becomes -314572; then the lookup follows. The identifier, below 2^26.
  * -N for refusal N: 5, then 12 where a float is a NaN, an infinity or beyond 1 in size, then 8. */
 int64_t htm_lookup_f64(double x, double y, double z, uint32_t depth);
 int64_t htm_lookup_f32(float x, float y, float z, uint32_t depth);
 
-/* The same of a catalogue line of so many bytes, its line feed included: three decimals parted by one blank and closed by one line
+/* As above, for a catalogue line of so many bytes, its line feed included: three decimals parted by one blank and closed by one line
  * feed, with nothing after it, in ASCII. A decimal is an optional minus, a 0 or 1, a point and one to seven digits. Its value times K
  * is truncated toward zero, and the sign belongs to the whole number: -0.5 is -524288, -0.0 is 0. The longest line has 33 bytes.
  * The identifier, or -N for refusal N: 5, then 13 where the line has another shape, then 8. */
@@ -106,10 +106,10 @@ int64_t htm_to_plain(const uint8_t *file, size_t bytes, uint8_t *out, size_t roo
 int64_t htm_holds(const uint8_t *file, size_t bytes, int32_t x, int32_t y, int32_t z);
 
 /* The cover of a region file of so many bytes: two lists of ranges of identifiers at the depth of the file's header.
- * A range is a pair low, high, both ends in it. The outer list begins at out[0], the inner list at out[2 * budget], where budget
+ * A range is a pair low, high and includes both ends. The outer list begins at out[0], the inner list at out[2 * budget], where budget
  * is that of the header and 0 there counts as HTM_DEFAULT_BUDGET. Both lists ascend and have at most budget ranges. With the identifier of a
  * pointing by lookup at that depth: in an inner range, the region holds the pointing; in no outer range, it does not; in an outer
- * range only, htm_holds tells.
+ * range only, htm_holds decides.
  * counts[0] and counts[1] are how many ranges the outer and the inner list have, counts[2] how many trixels were classified.
  * counts[3] to counts[5] are in identifiers at the depth: those below full trixels, the partial trixels, and those in the gaps
  * that the outer list was joined over to keep to the budget. Their sum is how many identifiers the outer ranges contain.
