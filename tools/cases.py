@@ -1,10 +1,12 @@
 #!/usr/bin/env python3
-"""Makes the stored cases of the programs query, catalogue and archive: stdin and stdout in crates/query, crates/catalogue and crates/archive.
+"""cases.py [--compare]: makes the stored cases of the programs query, catalogue and archive: stdin and stdout in crates/query, crates/catalogue and
+crates/archive. With --compare it writes nothing, and ends with 1 where a stored file is another.
 
 Each run writes the same bytes. The answers come from the model, tools/htm.py; how a line is read is written here again, apart from the
 program (its head, crates/query/src/main.rt, has the grammar in words)."""
 import pathlib
 import re
+import sys
 from math import gcd, isqrt
 
 import cover_cases
@@ -450,15 +452,26 @@ def cases():
     yield b'id N00000000000'                        # the last line, which ends without a line feed
 
 
-def main():
+def runs():
+    """The stored runs: the folder of a program, its input and its output."""
     lines = list(cases())
     assert not any(b'\n' in l for l in lines)
-    (HOME / 'stdin').write_bytes(b'\n'.join(lines))
-    (HOME / 'stdout').write_bytes(b''.join(answer(l).encode() + b'\n' for l in lines))
+    yield HOME, b'\n'.join(lines), [answer(l) for l in lines]
     text = line_cases.text(DRAWS, direction)
-    (CATALOGUE / 'stdin').write_bytes(text)
-    (CATALOGUE / 'stdout').write_text(''.join(a + '\n' for a in line_cases.catalogue(text, int((CATALOGUE / 'args').read_text()))))
-    archive()
+    yield CATALOGUE, text, line_cases.catalogue(text, int((CATALOGUE / 'args').read_text()))
+    yield archive()
+
+
+def main():
+    differ = []
+    for folder, given, answers in runs():
+        for name, content in (('stdin', given), ('stdout', ''.join(a + '\n' for a in answers).encode())):
+            if '--compare' not in sys.argv:
+                (folder / name).write_bytes(content)
+            elif (folder / name).read_bytes() != content:
+                differ.append(f'crates/{folder.name}/{name}')
+    if differ:
+        sys.exit('not what the model makes: ' + ' '.join(differ))
 
 
 def archive():
@@ -466,8 +479,7 @@ def archive():
     draws = Draws(20250306)
     lines = list(index_cases.lines(draws, lambda: direction(draws), into_rule))
     assert not any(b'\n' in l for l in lines)
-    (ARCHIVE / 'stdin').write_bytes(b'\n'.join(lines))
-    (ARCHIVE / 'stdout').write_text(''.join(a + '\n' for a in index_cases.answers(lines, number)))
+    return ARCHIVE, b'\n'.join(lines), list(index_cases.answers(lines, number))
 
 
 if __name__ == '__main__':
