@@ -19,13 +19,13 @@ pub mod setting_trial;
 // A loop must end, and no run reads so many blocks.
 const BLOCKS: u64 = u64::MAX;
 
-// Between two bytes of the input: how many bytes of a line are kept, and the place in what is printed.
+// Between two bytes of the input: how many bytes of a line are stored, and the end of what is printed.
 struct LineState {
-    kept: usize,
+    stored: usize,
     at: usize,
 }
 
-// Between two entries of a list: whether one is printed, and the place in what is printed.
+// Between two entries of a list: whether one is printed, and the end of what is printed.
 struct Listed {
     some: bool,
     at: usize,
@@ -34,19 +34,19 @@ struct Listed {
 // Answers the lines of the input. The result is how many bytes `line` holds of a last one that has no line feed and is to be answered.
 pub fn answer_lines(index: &mut [i64], line: &mut Buffer, out: &mut Buffer) -> usize {
     let mut block = io::large_buffer();
-    let mut kept = 0;
+    let mut stored = 0;
     for _ in 0..BLOCKS {
         let Input::Bytes(n) = streams::read(&mut block) else {
             return 0;
         };
         if n == 0 {
-            return kept;
+            return stored;
         }
-        let place = answer_block(&block[..n], index, line, kept, out);
-        if place.at == LOST {
+        let state = answer_block(&block[..n], index, line, stored, out);
+        if state.at == LOST {
             return 0;
         }
-        kept = place.kept;
+        stored = state.stored;
     }
     0
 }
@@ -56,16 +56,19 @@ fn answer_block(
     block: &[u8],
     index: &mut [i64],
     line: &mut Buffer,
-    kept: usize,
+    stored: usize,
     out: &mut Buffer,
 ) -> LineState {
-    let mut place = LineState { kept: kept, at: 0 };
+    let mut state = LineState {
+        stored: stored,
+        at: 0,
+    };
     for i in 0..block.len() {
-        place = answer_byte(block[i], index, line, place, out);
+        state = answer_byte(block[i], index, line, state, out);
     }
     LineState {
-        kept: place.kept,
-        at: print::flush(out, place.at),
+        stored: state.stored,
+        at: print::flush(out, state.at),
     }
 }
 
@@ -73,18 +76,18 @@ fn answer_byte(
     b: u8,
     index: &mut [i64],
     line: &mut Buffer,
-    place: LineState,
+    state: LineState,
     out: &mut Buffer,
 ) -> LineState {
     if b == b'\n' {
         return LineState {
-            kept: 0,
-            at: answer_line(index, line, place.kept, out, place.at),
+            stored: 0,
+            at: answer_line(index, line, state.stored, out, state.at),
         };
     }
     LineState {
-        kept: command_words::append_byte(line, place.kept, b),
-        at: place.at,
+        stored: command_words::append_byte(line, state.stored, b),
+        at: state.at,
     }
 }
 

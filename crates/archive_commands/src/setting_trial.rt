@@ -70,17 +70,17 @@ fn try_both(
     }
 }
 
-// What both settings come to, the choice, and the ranges of the part that is handed back.
+// The results of both settings, the choice, and the ranges of the part that is handed back.
 fn compared(out: &mut Buffer, at: usize, both: Trial, part: &[u64]) -> usize {
-    let end = tried(out, at, both.first);
-    let end = tried(out, end, both.second);
+    let end = setting_result(out, at, both.first);
+    let end = setting_result(out, end, both.second);
     let end = print::digits(out, end, both.choice as u64);
     let end = ranges(out, end, part);
     print::byte(out, end, b'\n')
 }
 
-// What one setting comes to, each number with a blank behind it.
-fn tried(out: &mut Buffer, at: usize, one: SettingResult) -> usize {
+// The result of one setting, each number with a blank behind it.
+fn setting_result(out: &mut Buffer, at: usize, one: SettingResult) -> usize {
     let end = print::natural(out, at, one.unchecked, b' ');
     let end = print::natural(out, end, one.held, b' ');
     let end = print::natural(out, end, one.discarded, b' ');

@@ -16,7 +16,7 @@ fn main() {
     let mut line = [0u8; LINE_CAPACITY];
     let n = catalogue_stream::answer_lines(depth, &mut line, &mut out);
     if 0 < n {
-        let at = catalogue_stream::answer_kept(depth, &line, n, &mut out, 0);
+        let at = catalogue_stream::answer_stored(depth, &line, n, &mut out, 0);
         print::flush(&out, at);
     }
 }

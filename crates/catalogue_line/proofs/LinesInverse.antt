@@ -297,8 +297,8 @@ line-only l =
     then-only (nextIn (y .rest)) _ (next-only (y .rest)) (λ z. check-only (isEnd (z .rest)) (gives _) (gives-only _))))
 
 pub other-shapes : OtherShapes
-other-shapes = (line-only, λ l h. told l h (decimalsIn l) refl)
+other-shapes = (line-only, λ l h. too-long l h (decimalsIn l) refl)
   where
-    told : (l : List ℕ) → 33 < length l → (a : Answer Line) → decimalsIn l ≡ a → decimalsIn l ≡ refused answer.Line
-    told l h (refused n) e = e ∙ ap refused (line-only l n e)
-    told l h (gives t) e = absurd (omega (arith, longest t l e))
+    too-long : (l : List ℕ) → 33 < length l → (a : Answer Line) → decimalsIn l ≡ a → decimalsIn l ≡ refused answer.Line
+    too-long l h (refused n) e = e ∙ ap refused (line-only l n e)
+    too-long l h (gives t) e = absurd (omega (arith, longest t l e))

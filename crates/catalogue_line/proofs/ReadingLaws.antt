@@ -1,4 +1,4 @@
--- A line read byte by byte. What the bytes from a place on give is told by the byte there: past the end it is 0, which no shape has. The number of the
+-- A line read byte by byte. What the bytes from a place on give is decided by the byte there: past the end it is 0, which no shape has. The number of the
 -- digits read so far, with those that are left after it, is the number of all of them. Assumes nothing.
 use Prim.Native.Nat.{ℕ, zero, suc, _+_, _-_, _*_, _/_, _^_, _≤_, _<_}
 use native.Mathlib.Nat.{pow-succ', one-le-pow, lt-of-not-le, mul-assoc, add-mul, add-assoc, le-mul-of-pos-right, le-trans}

@@ -1,5 +1,5 @@
 // Lines of a catalogue, each looked up as it ends, and the argument of the program. A line that lies in one block of the input is answered where it lies;
-// of one that does not, the bytes are kept until it ends. After a read that failed the line that has begun is not answered, and after a write that failed
+// of one that does not, the bytes are stored until it ends. After a read that failed the line that has begun is not answered, and after a write that failed
 // nothing more is read.
 use command_words::NaturalAt;
 use print::Buffer;
@@ -9,7 +9,7 @@ use streams::Input;
 // A loop must end, and no run reads so many blocks.
 const BLOCKS: u64 = u64::MAX;
 
-// So many bytes of a line are kept: more than the longest line has, so that what is kept of a longer one is too long too.
+// So many bytes of a line are stored: more than the longest line has, so that what is stored of a longer one is too long too.
 pub const LINE_CAPACITY: usize = 64;
 
 // What the program is asked for: a depth, or nothing that it can do.
@@ -18,9 +18,9 @@ pub enum Asked {
     Not,
 }
 
-// Between two parts of the input: how many bytes of a line are kept, and the place in what is printed.
+// Between two parts of the input: how many bytes of a line are stored, and the end of what is printed.
 struct LineState {
-    kept: usize,
+    stored: usize,
     at: usize,
 }
 
@@ -49,19 +49,19 @@ pub fn usage(out: &mut Buffer, at: usize) -> usize {
 // Answers the lines of the input. The result is how many bytes `line` holds of a last one that has no line feed and is to be answered.
 pub fn answer_lines(depth: u32, line: &mut [u8; LINE_CAPACITY], out: &mut Buffer) -> usize {
     let mut block = io::large_buffer();
-    let mut kept = 0;
+    let mut stored = 0;
     for _ in 0..BLOCKS {
         let Input::Bytes(n) = streams::read(&mut block) else {
             return 0;
         };
         if n == 0 {
-            return kept;
+            return stored;
         }
-        let place = answer_block(&block[..n], depth, line, kept, out);
-        if place.at == LOST {
+        let state = answer_block(&block[..n], depth, line, stored, out);
+        if state.at == LOST {
             return 0;
         }
-        kept = place.kept;
+        stored = state.stored;
     }
     0
 }
@@ -71,58 +71,61 @@ fn answer_block(
     block: &[u8],
     depth: u32,
     line: &mut [u8; LINE_CAPACITY],
-    kept: usize,
+    stored: usize,
     out: &mut Buffer,
 ) -> LineState {
-    let mut place = LineState { kept: kept, at: 0 };
+    let mut state = LineState {
+        stored: stored,
+        at: 0,
+    };
     let mut start = 0;
     while start < block.len() {
         let end = bytes::scan::find(block, start, block.len(), b'\n');
         if end < block.len() {
-            place = answer_part(&block[start..end + 1], depth, line, place, out);
+            state = answer_part(&block[start..end + 1], depth, line, state, out);
             start = end + 1;
         } else {
-            place = append_part(&block[start..], line, place);
+            state = append_part(&block[start..], line, state);
             start = end;
         }
     }
     LineState {
-        kept: place.kept,
-        at: print::flush(out, place.at),
+        stored: state.stored,
+        at: print::flush(out, state.at),
     }
 }
 
-// The part of a line that ends it: the whole line, or what is left of one whose beginning is kept.
+// The part of a line that ends it: the whole line, or what is left of one whose beginning is stored.
 fn answer_part(
     part: &[u8],
     depth: u32,
     line: &mut [u8; LINE_CAPACITY],
-    place: LineState,
+    state: LineState,
     out: &mut Buffer,
 ) -> LineState {
-    if place.kept == 0 {
+    if state.stored == 0 {
         return LineState {
-            kept: 0,
-            at: print::located(out, place.at, htm::locate_line(part, depth)),
+            stored: 0,
+            at: print::located(out, state.at, htm::locate_line(part, depth)),
         };
     }
-    let n = append_byte(line, place.kept, part);
+    let n = append_byte(line, state.stored, part);
     LineState {
-        kept: 0,
-        at: answer_kept(depth, line, n, out, place.at),
+        stored: 0,
+        at: answer_stored(depth, line, n, out, state.at),
     }
 }
 
-fn append_part(part: &[u8], line: &mut [u8; LINE_CAPACITY], place: LineState) -> LineState {
+fn append_part(part: &[u8], line: &mut [u8; LINE_CAPACITY], state: LineState) -> LineState {
     LineState {
-        kept: append_byte(line, place.kept, part),
-        at: place.at,
+        stored: append_byte(line, state.stored, part),
+        at: state.at,
     }
 }
 
-// More bytes of a line, while there is room for them. The result is how many bytes are kept.
-fn append_byte(line: &mut [u8; LINE_CAPACITY], kept: usize, part: &[u8]) -> usize {
-    let mut n = kept;
+// More bytes of a line, while there is room for them. The result is how many bytes are stored.
+fn append_byte(line: &mut [u8; LINE_CAPACITY], stored: usize, part: &[u8]) -> usize {
+    let mut n = stored;
     for i in 0..part.len() {
         if LINE_CAPACITY <= n {
             return n;
@@ -133,8 +136,8 @@ fn append_byte(line: &mut [u8; LINE_CAPACITY], kept: usize, part: &[u8]) -> usiz
     n
 }
 
-// Answers a line of which n bytes are kept.
-pub fn answer_kept(
+// Answers a line of which n bytes are stored.
+pub fn answer_stored(
     depth: u32,
     line: &[u8; LINE_CAPACITY],
     n: usize,

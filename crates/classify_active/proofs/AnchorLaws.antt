@@ -24,7 +24,7 @@ use Rattle.classify_cap.specs.declared.BoundingCap.{BoundingCap}
 use Rattle.classify_active.specs.declared.anchor.Anchor.{Anchor}
 use Rattle.classify.specs.Classes.{isOutside, isFull}
 use Rattle.classify_prepared.specs.Measures.{SoundHalfspace}
-use Rattle.classify_halfspace.specs.Halfspaces.{judged, classWithin, classApart}
+use Rattle.classify_halfspace.specs.Halfspaces.{preparedClass, classWithin, classApart}
 use Rattle.classify_active.specs.Anchor.{IsAnchor, stepsTo, closeTo, settledBy, Close}
 use Rattle.classify_prepared.proofs.PreparedLaws.{sound-high}
 use Rattle.classify_cap.proofs.CapLaws.{Beside, sound-beside, cap-beside}
@@ -57,20 +57,20 @@ module _ {q : PreparedHalfspace} {r : Anchor} {t : Trixel} (h : SoundHalfspace q
   cap : Beside (k .cap .b) (k .cap .reach) (k .cap .rest)
   cap = cap-beside (k .bounds) front
 
-  close-far : leZ (r .margin) (q .low *ℤ r .reach -ℤ dot (q .f) (r .b)) ≡ true → judged q t ≡ classApart (q .d)
+  close-far : leZ (r .margin) (q .low *ℤ r .reach -ℤ dot (q .f) (r .b)) ≡ true → preparedClass q t ≡ classApart (q .d)
   close-far e =
       let s = sound-beside h in
       let u = upto-mono (lit≤ tt) (upto-sub (upto-mul (s .size) (cap .size)) (dot-upto (s .small) (cap .small))) in
       when-far q t (k .oriented) h (and-both (sym (k .bounds .ahead) ∙ front) (sym (far-beyond h (k .bounds) front (still-beyond left (le-yes e) (past-moved r (k .cap) h)) u refl)))
 
-  close-enclosed : leZ (r .margin) (dot (q .f) (r .b) -ℤ q .high *ℤ r .reach) ≡ true → judged q t ≡ classWithin (q .d)
+  close-enclosed : leZ (r .margin) (dot (q .f) (r .b) -ℤ q .high *ℤ r .reach) ≡ true → preparedClass q t ≡ classWithin (q .d)
   close-enclosed e =
       let u = upto-mono (lit≤ tt) (upto-sub (dot-upto (sound-beside h .small) (cap .small)) (upto-mul (sound-high h) (cap .size))) in
       when-enclosed q t (k .oriented) h
       (and-both (sym (k .bounds .ahead) ∙ front) (sym (enclosed-beyond h (k .bounds) front (still-beyond left (le-yes e) (inward-moved r (k .cap) h)) u refl)))
 
-  -- the class, where it is not left open
-  stays : {c : Class} → (Partial ≡ c → ⊥) → settledBy q r ≡ c → judged q t ≡ c
+  -- the class, where it is not left partial
+  stays : {c : Class} → (Partial ≡ c → ⊥) → settledBy q r ≡ c → preparedClass q t ≡ c
   unfolding settledBy
   stays {c} n e =
       split (leZ (r .margin) (q .low *ℤ r .reach -ℤ dot (q .f) (r .b))) (λ a. close-far a ∙ (rw a at e))
@@ -78,8 +78,8 @@ module _ {q : PreparedHalfspace} {r : Anchor} {t : Trixel} (h : SoundHalfspace q
       split (leZ (r .margin) (dot (q .f) (r .b) -ℤ q .high *ℤ r .reach)) (λ b. close-enclosed b ∙ (rw (a, b) at e)) (λ b. absurd (n (rw (a, b) at e))))
 
 module _ {q : PreparedHalfspace} {r : Anchor} {t : Trixel} (p : IsAnchor r) (h : SoundHalfspace q) (k : Close r t) where
-  pub stays-outside : settledBy q r ≡ Outside → judged q t ≡ Outside
+  pub stays-outside : settledBy q r ≡ Outside → preparedClass q t ≡ Outside
   stays-outside = stays h k (λ e. false≢true (ap isOutside e))
 
-  pub stays-full : settledBy q r ≡ Full → judged q t ≡ Full
+  pub stays-full : settledBy q r ≡ Full → preparedClass q t ≡ Full
   stays-full = stays h k (λ e. false≢true (ap isFull e))

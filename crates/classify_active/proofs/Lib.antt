@@ -1,3 +1,3 @@
-pub mod NarrowLaws
-pub mod OpenLaws
+pub mod ActiveRegionLaws
+pub mod ActiveConvexLaws
 pub mod AnchorLaws

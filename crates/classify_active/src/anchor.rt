@@ -54,28 +54,28 @@ pub fn anchor_of(t: Trixel, m: BoundingCap) -> Anchor
 }
 
 // The anchor of five numbers.
-pub fn anchor_in(near: &[i64]) -> Anchor
-    requires { ⌜ length (now near) ≡ 5 ⌝ }
-    ensures { λ r. ⌜ r ≡ anchorIn (now (near .entry)) ⌝ }
+pub fn anchor_in(numbers: &[i64]) -> Anchor
+    requires { ⌜ length (now numbers) ≡ 5 ⌝ }
+    ensures { λ r. ⌜ r ≡ anchorIn (now (numbers .entry)) ⌝ }
 {
     Anchor {
-        b: vector_products::vec_in(near, 0),
-        reach: near[3],
-        margin: near[4],
+        b: vector_products::vec_in(numbers, 0),
+        reach: numbers[3],
+        margin: numbers[4],
     }
 }
 
 // Stores the five numbers of an anchor.
-pub fn store_anchor(near: &mut [i64], r: Anchor)
-    requires { ⌜ length (now near) ≡ 5 ⌝ }
-    ensures { λ _. ⌜ anchorIn (now (near .exit)) ≡ r ⌝ }
+pub fn store_anchor(numbers: &mut [i64], r: Anchor)
+    requires { ⌜ length (now numbers) ≡ 5 ⌝ }
+    ensures { λ _. ⌜ anchorIn (now (numbers .exit)) ≡ r ⌝ }
 {
     let b = r.b;
     let reach = r.reach;
     let margin = r.margin;
-    vector_products::store(near, 0, b);
-    near[3] = reach;
-    near[4] = margin;
+    vector_products::store(numbers, 0, b);
+    numbers[3] = reach;
+    numbers[4] = margin;
 }
 
 // The class beside r for the halfspace that q was prepared from; partial where it is active.
@@ -114,8 +114,8 @@ fn steps(a: Vec3, b: Vec3) -> u64
     step(a.x, b.x) + step(a.y, b.y) + step(a.z, b.z)
 }
 
-// Whether the middle of t is ahead of its rays and close to r: what is beyond the margin of r is beyond the clearance of m, by K for each step and 2K for each
-// of E.
+// Whether the middle of t is ahead of its rays and close to r: what is beyond the margin of r is beyond the clearance of m, by K for each step and 2K
+// for each of E.
 pub fn is_close(r: Anchor, t: Trixel, m: BoundingCap) -> bool
     requires { ⌜ IsAnchor r ⌝ }
     requires { ⌜ IsBoundingCap t m ⌝ }

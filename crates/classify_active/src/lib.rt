@@ -1,4 +1,4 @@
-// The active halfspaces of a region beside a trixel, in two lists of their own, and the class of a trixel by them. specs/Narrow says what they are.
+// The active halfspaces of a region beside a trixel, in two lists of their own, and the class of a trixel by them. specs/Active says what they are.
 use crate::anchor::Anchor;
 use classify::Class;
 use classify_cap::BoundingCap;
@@ -17,7 +17,7 @@ ghost use Rattle.classify_cap.specs.Middle.{IsBoundingCap};
 ghost use Rattle.classify_halfspace.specs.Halfspaces.{NormalsIn};
 ghost use Rattle.classify_active.specs.Anchor.{IsAnchor, anchorIn};
 ghost use Rattle.classify_prepared.specs.PreparedLists.{countIn, Ready, Classed};
-ghost use Rattle.classify_active.specs.Narrow.{Narrowed, ActiveListsIn, ByActive, activeCount, SomeConvex, ActiveConvex, activeStoredCount, activeStoredList, SomeNarrowing, NarrowsOn};
+ghost use Rattle.classify_active.specs.Active.{ActivePrepared, ActiveListsIn, ByActive, activeCount, SomeConvex, ActiveConvex, activeStoredCount, activeStoredList, SomeRegionSearch, RegionSearchOn};
 
 pub mod anchor;
 
@@ -40,10 +40,10 @@ pub enum ActiveResult {
     Crowded,
 }
 
-// How far the narrowing came: whether it goes on, and how many halfspaces and convexes are kept.
+// How far the search for active halfspaces came: whether it goes on, and how many halfspaces and convexes are stored.
 pub struct ActiveCounts {
     pub more: bool,
-    pub halves: usize,
+    pub halfspaces: usize,
     pub convexes: usize,
 }
 
@@ -63,7 +63,7 @@ pub fn store_active(active: &mut [i64], w: usize, q: PreparedHalfspace, c: Class
     }
 }
 
-// The active halfspaces of a convex, stored from number w on; `most` are the most that are kept.
+// The active halfspaces of a convex, stored from number w on; `most` are the most that are stored.
 fn active_in_convex(
     r: Anchor,
     prepared: &[i64],
@@ -94,8 +94,8 @@ fn active_in_convex(
     ActiveResult::Active(m)
 }
 
-// Convex number k, whose first halfspace is number i: its active halfspaces and its end are kept, or nothing where it is outside. It goes on unless they
-// are too many, or there are none.
+// Convex number k, whose first halfspace is number i: its active halfspaces and its end are stored, or nothing where it is outside. The search
+// goes on unless they are too many, or there are none.
 fn add_convex(
     r: Anchor,
     prepared: &[i64],
@@ -108,35 +108,35 @@ fn add_convex(
     most: usize,
 ) -> ActiveCounts
     requires { ⌜ IsAnchor r × (most ≤ 32) ⌝ }
-    requires { ⌜ SomeNarrowing r (now prepared) (now ends) i k s (now active) (now stops) ⌝ }
-    ensures { λ z. ⌜ NarrowsOn r (now (prepared .entry)) (now (ends .entry)) i k s (now (active .entry)) (now (stops .entry)) z (now (active .exit)) (now (stops .exit)) ⌝ }
+    requires { ⌜ SomeRegionSearch r (now prepared) (now ends) i k s (now active) (now stops) ⌝ }
+    ensures { λ z. ⌜ RegionSearchOn r (now (prepared .entry)) (now (ends .entry)) i k s (now (active .entry)) (now (stops .entry)) z (now (active .exit)) (now (stops .exit)) ⌝ }
 {
-    let w = s.halves;
+    let w = s.halfspaces;
     let c = s.convexes;
     let o = active_in_convex(r, prepared, i, ends[k] as usize, active, w, most);
     match o {
         ActiveResult::Outside => ActiveCounts {
             more: true,
-            halves: w,
+            halfspaces: w,
             convexes: c,
         },
         ActiveResult::Crowded => ActiveCounts {
             more: false,
-            halves: 0,
+            halfspaces: 0,
             convexes: 0,
         },
         ActiveResult::Active(m) => {
             if m <= w {
                 return ActiveCounts {
                     more: false,
-                    halves: 0,
+                    halfspaces: 0,
                     convexes: 0,
                 };
             }
             stops[c] = m as u64;
             ActiveCounts {
                 more: true,
-                halves: m,
+                halfspaces: m,
                 convexes: c + 1,
             }
         }
@@ -155,11 +155,11 @@ fn active_in_region(
 ) -> usize
     requires { ⌜ IsAnchor r × (7 * 32 ≤ length (now active)) × (32 ≤ length (now stops)) × (most ≤ 32) ⌝ }
     requires { ⌜ Ready (now prepared) (now ends) n ⌝ }
-    ensures { λ w. ⌜ (0 < w → Narrowed (now (prepared .entry)) (now (ends .entry)) n (now (active .exit)) (now (stops .exit)) w r) ⌝ }
+    ensures { λ w. ⌜ (0 < w → ActivePrepared (now (prepared .entry)) (now (ends .entry)) n (now (active .exit)) (now (stops .exit)) w r) ⌝ }
 {
     let mut s = ActiveCounts {
         more: true,
-        halves: 0,
+        halfspaces: 0,
         convexes: 0,
     };
     let mut i: usize = 0;
@@ -172,10 +172,10 @@ fn active_in_region(
         i = ends[k] as usize;
         k += 1;
     }
-    s.halves
+    s.halfspaces
 }
 
-// How many active halfspaces of n are kept: a third, and at most 32. Where more are active it is better to look again below.
+// How many active halfspaces of n are stored at most: a third, and at most 32. Where more are active it is better to look again below.
 fn active_limit(n: usize) -> usize
     ensures { λ m. ⌜ m ≤ 32 ⌝ }
 {
@@ -276,9 +276,9 @@ fn by_active(
     crate::anchor::is_close(anchor_behind(active), t, m)
 }
 
-// The class of a trixel, whose numbers stand in `ps`, for the region that was prepared to `prepared` and `ends`: by the active halfspaces beside an anchor where there
-// are some and the trixel is close.
-pub fn class_near(
+// The class of a trixel, whose numbers stand in `ps`, for the region that was prepared to `prepared` and `ends`: by the active halfspaces
+// beside an anchor where there are some and the trixel is close.
+pub fn class_beside(
     t: Trixel,
     s: TrixelRays,
     ps: &[i64],

@@ -1,8 +1,9 @@
--- The bounding cap of a trixel as it is kept. Document 01, 'Classifying'.
+-- The bounding cap of a trixel as it is stored. Document 01, 'Classifying'.
 --   IsBoundingCap t m           m has b and E of t: whether b is ahead of the rays, and then E, b·b − E² and their clearance
---   rootAbove s          a number whose square is not below s, for s up to 2⁴²: the first of 256, 512, 1024 and so on, or 2²¹ (proofs/ClearanceLaws)
---   clearanceOf rest e        the bound beyond which every halfspace is settled (proofs/ClearanceLaws)
---   capAhead b e, capBehind b   what is kept of b where it is ahead of the rays and reaches e, and where it is not ahead
+--   rootAbove s                 a number whose square is not below s, for s up to 2⁴²: the first of 256, 512, 1024 and so on, or 2²¹
+--                               (proofs/ClearanceLaws)
+--   clearanceOf rest e          the bound beyond which every halfspace is settled (proofs/ClearanceLaws)
+--   capAhead b e, capBehind b   what is stored of b where it is ahead of the rays and reaches e, and where it is not ahead
 use Prim.Native.Nat.{ℕ, zero, suc, _*_, _^_}
 use mathlib.Core.Path.{_≡_}
 use mathlib.Core.Bool.{true, false, cond}

@@ -1,9 +1,9 @@
 -- The search for E. Document 01, 'Classifying'.
---   reachAll x0 x1 x2 s n    n² (r·r) ≤ x² for each ray r of s and its x: where each x is b·r, and positive, b reaches n at all three
---   greatestReach x0 x1 x2 s   the greatest such n up to K, which is E (proofs/ReachLaws)
---   Bounded x0 x1 x2 s   how large these numbers are, for rays with their heights
+--   reachAll ..          n² (r·r) ≤ x² for each ray r of s and its x: where each x is b·r, and positive, b reaches n at all three
+--   greatestReach ..     the greatest such n up to K, which is E (proofs/ReachLaws)
+--   Bounded ..           how large these numbers are, for rays with their heights
 --   OnAxes s             each ray of s is 2⁴⁰ long, as those of a root are
---   Spanned x0 x1 x2 s low high   the search for it: low is such an n, and none from high up to K is
+--   Spanned ..           the search for it: low is such an n, and none from high up to K is
 use Prim.Native.Nat.{ℕ, _+_, _*_, _^_, _≤_, _<_}
 use mathlib.Core.Path.{_≡_}
 use mathlib.Core.Bool.{Bool, true, false, _&&_}

@@ -1,5 +1,5 @@
 // The bounding cap of a trixel: b, E and the clearance beyond which no squares need be compared. The rules are `bOf` and `EOf` of classify/specs/Shape,
-// what is kept stands in specs/Middle.
+// what is stored of it stands in specs/Middle.
 use classify_prepared::Ray;
 use classify_prepared::TrixelRays;
 use mesh::Trixel;

@@ -16,14 +16,14 @@ use Rattle.classify_rays.specs.declared.Passed.the-variants.{None, Some, All}
 use Rattle.classify.specs.Shape.{fOf, positive, ray0, ray1, ray2, volume, ahead, bOf, EOf, within, far, apart, withinBy, byCap, beyond, apartBy}
 use Rattle.classify.specs.Classes.{halfspaceClass}
 use Rattle.classify_prepared.specs.Measures.{prepared, SoundHalfspace}
-use Rattle.classify_halfspace.specs.Halfspaces.{judged, enclosed, classWithin, classApart, apartClass, edgesClass, raysClass}
+use Rattle.classify_halfspace.specs.Halfspaces.{preparedClass, enclosed, classWithin, classApart, apartClass, edgesClass, raysClass}
 use Rattle.classify.proofs.RaysFirst.{passes, allPass, onePasses, by-rays, one-refutes}
 use Rattle.classify_rays.specs.Rays.{passedOf, raysPassed}
 use Rattle.classify_halfspace.proofs.Enclosing.{enclosed-passes}
 
-pub judged-is : (h : Halfspace) (t : Trixel) → judged (prepared h) t ≡ halfspaceClass h t
-unfolding judged halfspaceClass within apart
-judged-is h t = refl
+pub prepared-class-is : (h : Halfspace) (t : Trixel) → preparedClass (prepared h) t ≡ halfspaceClass h t
+unfolding preparedClass halfspaceClass within apart
+prepared-class-is h t = refl
 
 -- for what a halfspace was prepared to
 pub sound-refutes : (q : PreparedHalfspace) → SoundHalfspace q → (t : Trixel) → positive (volume t) ≡ true
@@ -45,9 +45,9 @@ module _ (q : PreparedHalfspace) (t : Trixel) where
   abbrev withinFirst : Class → Class
   withinFirst c = cond (withinBy (q .f) (q .high) t) (classWithin (q .d)) c
 
-  judged-first : judged q t ≡ withinFirst (apartClass q t)
-  unfolding judged apartClass
-  judged-first = by-sign (nonNeg (q .d)) (withinBy (q .f) (q .high) t) (apartBy (q .f) (q .low) t)
+  prepared-class-first : preparedClass q t ≡ withinFirst (apartClass q t)
+  unfolding preparedClass apartClass
+  prepared-class-first = by-sign (nonNeg (q .d)) (withinBy (q .f) (q .high) t) (apartBy (q .f) (q .low) t)
 
   rays-first : raysClass q t ≡ withinFirst (edgesClass q t)
   unfolding raysClass
@@ -120,8 +120,8 @@ no-ray f g t = none-passed (passes f g (ray0 t)) (passes f g (ray1 t)) (passes f
 -- ---- the class, as a program finds it
 
 module _ (q : PreparedHalfspace) (t : Trixel) where
-  pub not-oriented : positive (volume t) ≡ false → judged q t ≡ edgesClass q t
-  not-oriented v = judged-first q t ∙ not-within q t (apartClass q t) (and-no-left _ v) ∙ by-edges q t (and-no-left _ v)
+  pub not-oriented : positive (volume t) ≡ false → preparedClass q t ≡ edgesClass q t
+  not-oriented v = prepared-class-first q t ∙ not-within q t (apartClass q t) (and-no-left _ v) ∙ by-edges q t (and-no-left _ v)
 
   -- by the rays, where V > 0
   module _ (v : positive (volume t) ≡ true) where
@@ -131,16 +131,16 @@ module _ (q : PreparedHalfspace) (t : Trixel) where
     by-count : {x : Bool} → isAll (raysPassed (q .f) (q .high) t) ≡ x → withinBy (q .f) (q .high) t ≡ x
     by-count e = within-rays ∙ sym (all-rays (q .f) (q .high) t) ∙ e
 
-    pub when-all : raysPassed (q .f) (q .high) t ≡ All → judged q t ≡ classWithin (q .d)
-    when-all e = judged-first q t ∙ is-within q t (apartClass q t) (by-count (ap isAll e))
+    pub when-all : raysPassed (q .f) (q .high) t ≡ All → preparedClass q t ≡ classWithin (q .d)
+    when-all e = prepared-class-first q t ∙ is-within q t (apartClass q t) (by-count (ap isAll e))
 
-    pub when-some : SoundHalfspace q → raysPassed (q .f) (q .high) t ≡ Some → judged q t ≡ Partial
+    pub when-some : SoundHalfspace q → raysPassed (q .f) (q .high) t ≡ Some → preparedClass q t ≡ Partial
     when-some s e =
-        judged-first q t ∙ not-within q t (apartClass q t) (by-count (ap isAll e))
+        prepared-class-first q t ∙ not-within q t (apartClass q t) (by-count (ap isAll e))
         ∙ not-apart q t (sound-refutes q s t v (not-false (onePasses (q .f) (q .high) t) (sym (no-ray (q .f) (q .high) t) ∙ ap isNone e)))
 
-    pub when-none : raysPassed (q .f) (q .high) t ≡ None → judged q t ≡ apartClass q t
-    when-none e = judged-first q t ∙ not-within q t (apartClass q t) (by-count (ap isAll e))
+    pub when-none : raysPassed (q .f) (q .high) t ≡ None → preparedClass q t ≡ apartClass q t
+    when-none e = prepared-class-first q t ∙ not-within q t (apartClass q t) (by-count (ap isAll e))
 
     -- the same, where the bounding cap does not tell
     pub rays-within : allPass (q .f) (q .high) t ≡ true → raysClass q t ≡ classWithin (q .d)
@@ -150,17 +150,17 @@ module _ (q : PreparedHalfspace) (t : Trixel) where
     rays-edges e = rays-first q t ∙ not-within q t (edgesClass q t) (within-rays ∙ e)
 
     -- by b and E
-    pub when-enclosed : SoundHalfspace q → ahead (bOf t) t && enclosed (q .f) (q .low) (q .high) (bOf t) (EOf t) ≡ true → judged q t ≡ classWithin (q .d)
+    pub when-enclosed : SoundHalfspace q → ahead (bOf t) t && enclosed (q .f) (q .low) (q .high) (bOf t) (EOf t) ≡ true → preparedClass q t ≡ classWithin (q .d)
     when-enclosed s w =
-        judged-first q t
+        prepared-class-first q t
         ∙ is-within q t (apartClass q t) (within-rays ∙ enclosed-passes q s t (and-left (ahead (bOf t) t) _ w) (and-right (ahead (bOf t) t) _ w))
 
     pub apart-far : ahead (bOf t) t && far (q .f) (q .low) (bOf t) (EOf t) ≡ true → apartClass q t ≡ classApart (q .d)
     apart-far w = is-apart q t (or-left _ (and-both v w))
 
-    pub when-far : SoundHalfspace q → ahead (bOf t) t && far (q .f) (q .low) (bOf t) (EOf t) ≡ true → judged q t ≡ classApart (q .d)
+    pub when-far : SoundHalfspace q → ahead (bOf t) t && far (q .f) (q .low) (bOf t) (EOf t) ≡ true → preparedClass q t ≡ classApart (q .d)
     when-far s w =
-        judged-first q t
+        prepared-class-first q t
         ∙ not-within q t (apartClass q t)
         (split (withinBy (q .f) (q .high) t)
         (λ k. absurd (true≢false (sym (or-left _ (and-both v w)) ∙ sound-refutes q s t v (one-of-all (passes (q .f) (q .high) (ray0 t)) _ _ (sym within-rays ∙ k)))))
@@ -170,5 +170,5 @@ module _ (q : PreparedHalfspace) (t : Trixel) where
   pub apart-near : ahead (bOf t) t && far (q .f) (q .low) (bOf t) (EOf t) ≡ false → apartClass q t ≡ edgesClass q t
   apart-near n = by-edges q t (and-no-right (positive (volume t)) n)
 
-  pub when-near : ahead (bOf t) t && far (q .f) (q .low) (bOf t) (EOf t) ≡ false → judged q t ≡ raysClass q t
-  when-near n = judged-first q t ∙ ap (withinFirst q t) (apart-near n) ∙ sym (rays-first q t)
+  pub when-near : ahead (bOf t) t && far (q .f) (q .low) (bOf t) (EOf t) ≡ false → preparedClass q t ≡ raysClass q t
+  when-near n = prepared-class-first q t ∙ ap (withinFirst q t) (apart-near n) ∙ sym (rays-first q t)

@@ -1,5 +1,5 @@
 -- The class of a trixel for one halfspace, by what was prepared of it. Document 01, 'Classifying', and document 02, F-8.
---   judged q t           the class of t for the halfspace that q was prepared from (proofs/ClassLaws: it is halfspaceClass)
+--   preparedClass q t                the class of t for the halfspace that q was prepared from (proofs/ClassLaws: it is halfspaceClass)
 --   enclosed f D G b E               the cap of b and E lies in that of f and G, by a test that is enough (proofs/Enclosing)
 --   classWithin d, classApart d      the class where within holds, and where apart holds
 --   apartClass q t                   the class where within does not hold
@@ -23,8 +23,8 @@ use Rattle.classify.specs.declared.Class.the-variants.{Outside, Partial, Full}
 use Rattle.classify_prepared.specs.declared.PreparedHalfspace.{PreparedHalfspace}
 use Rattle.classify.specs.Shape.{square, positive, withinBy, beyond, apartBy}
 
-unfoldable pub judged : PreparedHalfspace → Trixel → Class
-judged q t =
+unfoldable pub preparedClass : PreparedHalfspace → Trixel → Class
+preparedClass q t =
     cond (nonNeg (q .d))
     (cond (withinBy (q .f) (q .high) t) Full (cond (apartBy (q .f) (q .low) t) Outside Partial))
     (cond (withinBy (q .f) (q .high) t) Outside (cond (apartBy (q .f) (q .low) t) Full Partial))

@@ -17,7 +17,7 @@ ghost use Rattle.vector_products.specs.Stored.{vecIn};
 ghost use lib.ListN.{length};
 ghost use Rattle.classify.specs.Shape as rule;
 ghost use Rattle.classify.specs.Shape.{positive, ahead, bOf, EOf, volume};
-ghost use Rattle.classify_halfspace.specs.Halfspaces.{enclosed, judged, classWithin, classApart, apartClass, edgesClass, raysClass, NormalsIn};
+ghost use Rattle.classify_halfspace.specs.Halfspaces.{enclosed, preparedClass, classWithin, classApart, apartClass, edgesClass, raysClass, NormalsIn};
 ghost use Rattle.classify_prepared.specs.Measures.{SoundHalfspace, Rest, RaysOf};
 ghost use Rattle.classify_cap.specs.Middle.{IsBoundingCap};
 
@@ -201,7 +201,7 @@ pub fn classify_one(
     requires { ⌜ IsBoundingCap t m ⌝ }
     requires { ⌜ NormalsIn t (now ps) ⌝ }
     requires { ⌜ SoundHalfspace q ⌝ }
-    ensures { λ r. ⌜ r ≡ judged q t ⌝ }
+    ensures { λ r. ⌜ r ≡ preparedClass q t ⌝ }
 {
     if !s.oriented {
         return class_by_edges(t, ps, q);

@@ -58,7 +58,7 @@ module _ (rs : List ℤ) (n : ℕ) (before : List ℤ) (first : List ℕ) where
   -- before row number i
   pub record Preparing (i : ℕ) (xs : List ℤ) (es : List ℕ) : Type 0 where
     pub upto : i ≤ n
-    pub halves : stored i (n - i) (drop (5 * i) rs) xs ≡ stored 0 n rs before
+    pub halfspaces : stored i (n - i) (drop (5 * i) rs) xs ≡ stored 0 n rs before
     pub ends : marked i (n - i) (drop (5 * i) rs) es ≡ marked 0 n rs first
     pub long : length xs ≡ length before
     pub wide : length es ≡ length first
@@ -66,7 +66,7 @@ module _ (rs : List ℤ) (n : ℕ) (before : List ℤ) (first : List ℕ) where
   pub prepare-start : Preparing 0 before first
   prepare-start =
       let e : n - 0 ≡ n = omega arith in
-      record { upto = omega arith; halves = ap (λ m. stored 0 m rs before) e; ends = ap (λ m. marked 0 m rs first) e; long = refl; wide = refl }
+      record { upto = omega arith; halfspaces = ap (λ m. stored 0 m rs before) e; ends = ap (λ m. marked 0 m rs first) e; long = refl; wide = refl }
 
   taken : (i : ℕ) (xs : List ℤ) (es : List ℕ) → Preparing i xs es → i < n → 7 * n ≤ length before
       → Preparing (i + 1) (put (7 * i) (seven (prepared (halfspaceAt (drop (5 * i) rs)))) xs) (set es (natAbs (getD (drop (5 * i) rs) 0 (pos 0))) (i + 1))
@@ -80,7 +80,7 @@ module _ (rs : List ℤ) (n : ℕ) (before : List ℤ) (first : List ℕ) where
       let k = natAbs (getD (drop (5 * i) rs) 0 (pos 0)) in
       record {
         upto = omega arith;
-        halves = (λ j. stored (one j) (n - (i + 1)) (further j) (put (7 * i) q xs)) ∙ ap (λ m. stored i m (drop (5 * i) rs) xs) e ∙ p .halves;
+        halfspaces = (λ j. stored (one j) (n - (i + 1)) (further j) (put (7 * i) q xs)) ∙ ap (λ m. stored i m (drop (5 * i) rs) xs) e ∙ p .halfspaces;
         ends = (λ j. marked (one j) (n - (i + 1)) (further j) (set es k (one j))) ∙ ap (λ m. marked i m (drop (5 * i) rs) es) e ∙ p .ends;
         long = put-length (7 * i) q xs (omega (arith, p .long)) ∙ p .long;
         wide = length-set es k (i + 1) ∙ p .wide;
@@ -95,7 +95,7 @@ module _ (rs : List ℤ) (n : ℕ) (before : List ℤ) (first : List ℕ) where
   unfolding stored marked
   prepare-end i xs es p h =
       let e : 0 ≡ n - i = omega (arith, p .upto) in
-      (ap (λ m. stored i m (drop (5 * i) rs) xs) e ∙ p .halves, ap (λ m. marked i m (drop (5 * i) rs) es) e ∙ p .ends)
+      (ap (λ m. stored i m (drop (5 * i) rs) xs) e ∙ p .halfspaces, ap (λ m. marked i m (drop (5 * i) rs) es) e ∙ p .ends)
 
 -- ---- the rows of a region
 
@@ -206,7 +206,7 @@ module _ (g : Region) (l : List ℤ) (fine : good g ≡ true) (filled : Filled g
     filled = filled;
     good = fine;
     more = drop (0 + length (sevens g)) before;
-    halves = x ∙ ap (λ k. stored 0 k (rows g ++ l) before) e ∙ region-stored 0 0 g l before (omega (arith, e));
+    halfspaces = x ∙ ap (λ k. stored 0 k (rows g ++ l) before) e ∙ region-stored 0 0 g l before (omega (arith, e));
     further = drop (0 + length (endsFrom 0 g)) first;
     ends = y ∙ ap (λ k. marked 0 k (rows g ++ l) first) e ∙ region-marked 0 0 g l first filled (omega arith);
   }

@@ -1,5 +1,5 @@
 -- The prepared halfspaces of a region in two lists of numbers, and the classes put together. Document 01, 'Classifying'.
---   seven q, preparedIn xs k    the seven numbers of a prepared halfspace; the prepared halfspace whose numbers begin at number k of xs
+--   seven q                 the seven numbers of a prepared halfspace; preparedIn xs k: the one whose numbers begin at number k of xs
 --   sevens g                those of all halfspaces of a region, convex after convex
 --   endsFrom n g            where each convex ends: the number of halfspaces before its end, where n are before the first
 --   Prepared g xs es n      the list xs begins with the sevens of the region g, es with its ends; g has n halfspaces, at least one in each convex, and is good
@@ -7,7 +7,8 @@
 --   ConvexAt, RegionAt      a convex that stands in the list from a halfspace on; a region that stands in both lists from a convex on
 --   Ready xs es n           some region was prepared to the two lists
 --   Classed t xs es n c     c is the class of t for every region that was
---   stored i n rs xs, marked i n rs es   the two lists after n rows more, from row number i on (proofs/PreparingLaws: they are those of the rows' region)
+--   stored i n rs xs        the list of halfspaces after n rows more, from row number i on, and marked i n rs es that of the ends (proofs/PreparingLaws:
+--                           they are those of the rows' region)
 --   FitRows n rs            n rows as an accepted file has them
 --   meet a b                the class of a convex, from the classes of two parts of it
 --   join a b                the class of a region, from the classes of two parts of it
@@ -62,7 +63,7 @@ pub record Prepared (g : Region) (xs : List ℤ) (es : List ℕ) (n : ℕ) : Typ
   pub filled : Filled g
   pub good : good g ≡ true
   pub more : List ℤ
-  pub halves : xs ≡ sevens g ++ more
+  pub halfspaces : xs ≡ sevens g ++ more
   pub further : List ℕ
   pub ends : es ≡ endsFrom 0 g ++ further
 
@@ -74,7 +75,7 @@ pub record ConvexAt (xs : List ℤ) (i end : ℕ) (v : Convex) : Type 0 where
   pub stop : end ≡ i + length v
   pub good : goodConvex v ≡ true
   pub more : List ℤ
-  pub halves : drop (7 * i) xs ≡ convexSevens v ++ more
+  pub halfspaces : drop (7 * i) xs ≡ convexSevens v ++ more
 
 -- the convexes of the region g are those from number k on, their halfspaces those from number i up to number n
 pub record RegionAt (xs : List ℤ) (es : List ℕ) (n i k : ℕ) (g : Region) : Type 0 where
@@ -82,7 +83,7 @@ pub record RegionAt (xs : List ℤ) (es : List ℕ) (n i k : ℕ) (g : Region) :
   pub filled : Filled g
   pub good : good g ≡ true
   pub more : List ℤ
-  pub halves : drop (7 * i) xs ≡ sevens g ++ more
+  pub halfspaces : drop (7 * i) xs ≡ sevens g ++ more
   pub further : List ℕ
   pub ends : drop k es ≡ endsFrom i g ++ further
 

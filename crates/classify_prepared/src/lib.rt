@@ -1,5 +1,5 @@
 // What is measured once: of a halfspace f, D, G and f·f − D², of a trixel its rays with their heights and the sign of V. The rules stand in
-// classify/specs/Shape, what is kept in specs/Measures.
+// classify/specs/Shape, what is stored in specs/Measures.
 use limits::UNSIGNED_K as K;
 use mesh::Trixel;
 use vector::Vec3;

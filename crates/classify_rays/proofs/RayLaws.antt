@@ -22,7 +22,7 @@ use Rattle.classify_rays.specs.declared.FilterResult.{FilterResult}
 use Rattle.classify_rays.specs.declared.FilterResult.the-variants.{Yes, No, Unsure}
 use Rattle.classify_prepared.specs.Measures.{heightOf, squareOf, IsRay, RaysOf, OwnRays}
 use Rattle.classify.proofs.RaysFirst.{passes, allPass}
-use Rattle.classify_rays.specs.Rays.{toldReach, passedOf, raysPassed}
+use Rattle.classify_rays.specs.Rays.{filterReach, passedOf, raysPassed}
 
 pub own-ray : {v : Vec3} {y : Ray} → IsRay v y → IsRay (y .r) y
 own-ray {y} i = subst (λ v. IsRay v y) (sym (i .r)) i
@@ -61,7 +61,7 @@ ray-most i = subst (λ h. h ≤ 3 * 2 ^ 30) (sym (i .height)) (height-most (i .s
 
 -- ---- the filter
 
--- what is told of a test is right
+-- what the filter says of a test is right
 abbrev pub Right : FilterResult → Bool → Type 0
 Right Yes t = true ≡ t
 Right No t = false ≡ t
@@ -79,5 +79,5 @@ module _ (x g : ℕ) {y : Ray} (i : IsRay (y .r) y) where
   sure-not : leb ((x / 2 ^ 31 + 1) * (x / 2 ^ 31 + 1)) (g * g / 1024 * y .height) ≡ true → false ≡ leb (g * g * squareOf y) (x * x)
   sure-not e = sym (lt-leb _ _ (filters.reach-surely-not x g (squareOf y) (y .height) (subst (λ h. 2 ^ 52 * h ≤ squareOf y) (sym (i .height)) (height-low (i .size))) (leb-true _ _ e)))
 
-  pub told-right : {r t : FilterResult} → r ≡ toldReach x (y .height) g → r ≡ t → Right t (leb (g * g * squareOf y) (x * x))
-  told-right e k = subst (λ t. Right t (leb (g * g * squareOf y) (x * x))) (sym e ∙ k) (right-by sure sure-not)
+  pub filter-right : {r t : FilterResult} → r ≡ filterReach x (y .height) g → r ≡ t → Right t (leb (g * g * squareOf y) (x * x))
+  filter-right e k = subst (λ t. Right t (leb (g * g * squareOf y) (x * x))) (sym e ∙ k) (right-by sure sure-not)

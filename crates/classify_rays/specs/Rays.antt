@@ -1,6 +1,6 @@
 -- A halfspace against the rays of a trixel, one after the other. Document 01, 'Classifying': within asks that all three pass, and one that passes
 -- refutes apart (classify/proofs/RaysFirst).
---   toldReach x h g                  what the filter tells of x² ≥ g² (r·r) for a ray r of height h (proofs/RayLaws)
+--   filterReach x h g                what the filter says of x² ≥ g² (r·r) for a ray r of height h (proofs/RayLaws)
 --   passedOf a b c                   none, some or all of three tests passed
 --   raysPassed f g t                 none, some or all of the rays of t pass
 use Prim.Native.Nat.{ℕ, _+_, _*_, _/_}
@@ -16,8 +16,8 @@ use Rattle.classify_rays.specs.declared.FilterResult.the-variants.{Yes, 
 use Rattle.classify.specs.Shape.{ray0, ray1, ray2}
 use Rattle.classify.proofs.RaysFirst.{passes}
 
-abbrev pub toldReach : ℕ → ℕ → ℕ → FilterResult
-toldReach x h g =
+abbrev pub filterReach : ℕ → ℕ → ℕ → FilterResult
+filterReach x h g =
     cond (leb ((g * g / 1024 + 1) * (h + 5)) (x / 2147483648 * (x / 2147483648))) Yes
     (cond (leb ((x / 2147483648 + 1) * (x / 2147483648 + 1)) (g * g / 1024 * h)) No Unsure)
 

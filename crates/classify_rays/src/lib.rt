@@ -1,5 +1,5 @@
 // A halfspace against the rays of a trixel: squares compared by their upper bits in one word, and exactly in two words where these do not tell. The rule
-// is `passes` of classify/proofs/RaysFirst; what the filter tells stands in specs/Rays.
+// is `passes` of classify/proofs/RaysFirst; what the filter decides stands in specs/Rays.
 use classify_prepared::Ray;
 use classify_prepared::TrixelRays;
 use vector::Vec3;
@@ -15,7 +15,7 @@ ghost use Rattle.vector.proofs.Sizes.{AtMost, Small};
 ghost use Rattle.vector.specs.Vectors as vectors;
 ghost use Rattle.classify_prepared.specs.Measures.{squareOf, IsRay, OwnRays};
 ghost use Rattle.classify.proofs.RaysFirst as rule;
-ghost use Rattle.classify_rays.specs.Rays.{passedOf, toldReach};
+ghost use Rattle.classify_rays.specs.Rays.{passedOf, filterReach};
 
 // How many of the three rays of a trixel pass.
 pub enum Passed {
@@ -24,7 +24,7 @@ pub enum Passed {
     All,
 }
 
-// What a filter tells of a test.
+// What a filter says of a test.
 pub enum FilterResult {
     Yes,
     No,
@@ -78,7 +78,7 @@ fn reaches_exactly(x: u64, r: Vec3, g: u64) -> bool
 // to be where (q + 1)² ≤ p h.
 fn filtered(x: u64, h: u64, g: u64) -> FilterResult
     requires { ⌜ (x ≤ 3 * 2 ^ 61) × (g ≤ 2 ^ 21) × (h + 5 < 2 ^ 32) ⌝ }
-    ensures { λ r. ⌜ r ≡ toldReach x h g ⌝ }
+    ensures { λ r. ⌜ r ≡ filterReach x h g ⌝ }
 {
     let p = g * g / 1024;
     let q = x / 2147483648;
@@ -91,14 +91,14 @@ fn filtered(x: u64, h: u64, g: u64) -> FilterResult
     FilterResult::Unsure
 }
 
-// Whether x² ≥ g² (r·r) for the ray r: by the filter, and in two words where it does not tell.
+// Whether x² ≥ g² (r·r) for the ray r: by the filter, and in two words where it is not sure.
 pub fn reaches(x: u64, y: Ray, g: u64) -> bool
     requires { ⌜ (x ≤ 3 * 2 ^ 61) × (g ≤ 2 ^ 21) × IsRay (y .r) y ⌝ }
     ensures { λ t. ⌜ t ≡ leb (g * g * squareOf y) (x * x) ⌝ }
 {
     let r = y.r;
-    let told = filtered(x, y.height, g);
-    match told {
+    let decided = filtered(x, y.height, g);
+    match decided {
         FilterResult::Yes => true,
         FilterResult::No => false,
         FilterResult::Unsure => reaches_exactly(x, r, g),
@@ -120,8 +120,8 @@ pub fn passes(f: Vec3, g: i64, y: Ray) -> bool
     }
     let n = x as u64;
     let k = vector_units::size(g);
-    let told = filtered(n, y.height, k);
-    match told {
+    let decided = filtered(n, y.height, k);
+    match decided {
         FilterResult::Yes => true,
         FilterResult::No => false,
         FilterResult::Unsure => reaches_exactly(n, r, k),

@@ -22,9 +22,9 @@ use Rattle.classify.specs.declared.Class.the-variants.{Outside, Partial, Full}
 use Rattle.classify_prepared.specs.declared.PreparedHalfspace.{PreparedHalfspace}
 use Rattle.classify.specs.Classes.{isOutside, isFull, halfspaceClass, convexClass, regionClass}
 use Rattle.classify_prepared.specs.Measures.{prepared, SoundHalfspace}
-use Rattle.classify_halfspace.specs.Halfspaces.{judged}
+use Rattle.classify_halfspace.specs.Halfspaces.{preparedClass}
 use Rattle.classify_prepared.specs.PreparedLists.{seven, preparedIn, convexSevens, sevens, endsFrom, Prepared, ConvexAt, RegionAt, meet, join}
-use Rattle.classify_halfspace.proofs.ClassLaws.{judged-is}
+use Rattle.classify_halfspace.proofs.ClassLaws.{prepared-class-is}
 use Rattle.classify_prepared.proofs.PreparingLaws.{length-sevens, region-good, convex-good}
 
 -- ---- classes put together
@@ -146,13 +146,13 @@ pub record HalfAt (xs : List ℤ) (i end : ℕ) (v : Convex) : Type 0 where
   pub is : preparedIn xs (7 * i) ≡ prepared first
   pub rest : Convex
   pub after : ConvexAt xs (i + 1) end rest
-  pub class : (t : Trixel) → convexClass v t ≡ meet (judged (preparedIn xs (7 * i)) t) (convexClass rest t)
+  pub class : (t : Trixel) → convexClass v t ≡ meet (preparedClass (preparedIn xs (7 * i)) t) (convexClass rest t)
 
 module _ (xs : List ℤ) (i end : ℕ) where
   half-first : (h : Halfspace) (hs : Convex) → ConvexAt xs i end (h ∷ hs) → HalfAt xs i end (h ∷ hs)
   half-first h hs a =
       let both = convex-good h hs (a .good) in
-      let same : drop (7 * i) xs ≡ seven (prepared h) ++ (convexSevens hs ++ a .more) = a .halves ∙ convex-numbers h hs (a .more) in
+      let same : drop (7 * i) xs ≡ seven (prepared h) ++ (convexSevens hs ++ a .more) = a .halfspaces ∙ convex-numbers h hs (a .more) in
       let is : preparedIn xs (7 * i) ≡ prepared h = prepared-at xs (7 * i) (prepared h) (convexSevens hs ++ a .more) same in
       let seven : 7 * (i + 1) ≡ 7 * i + 7 = omega arith in
       record {
@@ -171,9 +171,9 @@ module _ (xs : List ℤ) (i end : ℕ) where
           stop = omega (arith, a .stop);
           good = both .1;
           more = a .more;
-          halves = ap (λ m. drop m xs) seven ∙ sym (drop-drop 7 (7 * i) xs) ∙ ap (drop 7) same;
+          halfspaces = ap (λ m. drop m xs) seven ∙ sym (drop-drop 7 (7 * i) xs) ∙ ap (drop 7) same;
         };
-        class = λ t. convex-cons h hs t ∙ ap (λ c. meet c (convexClass hs t)) (sym (judged-is h t) ∙ ap (λ q. judged q t) (sym is));
+        class = λ t. convex-cons h hs t ∙ ap (λ c. meet c (convexClass hs t)) (sym (prepared-class-is h t) ∙ ap (λ q. preparedClass q t) (sym is));
       }
 
   pub half-next : (v : Convex) → ConvexAt xs i end v → i < end → HalfAt xs i end v
@@ -203,7 +203,7 @@ module _ (xs : List ℤ) (es : List ℕ) (n : ℕ) where
     filled = p .filled;
     good = p .good;
     more = p .more;
-    halves = p .halves;
+    halfspaces = p .halfspaces;
     further = p .further;
     ends = p .ends;
   }
@@ -212,7 +212,7 @@ module _ (xs : List ℤ) (es : List ℕ) (n : ℕ) where
     convex-first : (v : Convex) (vs : Region) → RegionAt xs es n i k (v ∷ vs) → (k < length es) × ((end : ℕ) → end ≡ getD es k 0 → ConvexNext i k end (v ∷ vs))
     convex-first v vs a =
         let same : drop k es ≡ (i + length v) ∷ (endsFrom (i + length v) vs ++ a .further) = a .ends ∙ region-ends i v vs (a .further) in
-        let numbers : drop (7 * i) xs ≡ convexSevens v ++ (sevens vs ++ a .more) = a .halves ∙ region-numbers v vs (a .more) in
+        let numbers : drop (7 * i) xs ≡ convexSevens v ++ (sevens vs ++ a .more) = a .halfspaces ∙ region-numbers v vs (a .more) in
         let zero : k ≡ k + 0 = omega arith in
         let one : k + 1 ≡ suc k = omega arith in
         let first : getD es k 0 ≡ i + length v = ap (λ m. getD es m 0) zero ∙ sym (getD-drop k es 0 0) ∙ ap (λ l. getD l 0 0) same in
@@ -223,7 +223,7 @@ module _ (xs : List ℤ) (es : List ℕ) (n : ℕ) where
               let place : 7 * end ≡ 7 * i + length (convexSevens v) = omega (arith, q, length-sevens v) in
               record {
                 convex = v;
-                at = record { stop = q; good = both .0; more = sevens vs ++ a .more; halves = numbers };
+                at = record { stop = q; good = both .0; more = sevens vs ++ a .more; halfspaces = numbers };
                 before = omega (arith, q, a .filled .0);
                 most = omega (arith, q, a .count, total-cons v vs);
                 rest = vs;
@@ -232,7 +232,7 @@ module _ (xs : List ℤ) (es : List ℕ) (n : ℕ) where
                   filled = a .filled .1;
                   good = both .1;
                   more = a .more;
-                  halves =
+                  halfspaces =
                       ap (λ m. drop m xs) place ∙ sym (drop-drop (length (convexSevens v)) (7 * i) xs)
                       ∙ ap (drop (length (convexSevens v))) numbers ∙ drop-append-seam (convexSevens v) (sevens vs ++ a .more);
                   further = a .further;
@@ -299,7 +299,7 @@ module _ (t : Trixel) (xs : List ℤ) (es : List ℕ) (n : ℕ) where
     pub record Stands : Type 0 where
       pub room : 7 * i + 7 ≤ length xs
       pub sound : SoundHalfspace (preparedIn xs (7 * i))
-      pub taken : (b : Class) → b ≡ judged (preparedIn xs (7 * i)) t → AtHalfspace g k end (i + 1) c (meet a b)
+      pub taken : (b : Class) → b ≡ preparedClass (preparedIn xs (7 * i)) t → AtHalfspace g k end (i + 1) c (meet a b)
 
     -- a halfspace more
     pub stands : AtHalfspace g k end i c a → i < end → Stands
@@ -315,7 +315,7 @@ module _ (t : Trixel) (xs : List ℤ) (es : List ℕ) (n : ℕ) where
             after = s .after;
             class =
                 ap (λ y. join c (join y (regionClass (s .left) t)))
-                (ap (λ y. meet (meet a y) (convexClass (v .rest) t)) q ∙ meet-assoc a (judged (preparedIn xs (7 * i)) t) (convexClass (v .rest) t) ∙ ap (meet a) (sym (v .class t)))
+                (ap (λ y. meet (meet a y) (convexClass (v .rest) t)) q ∙ meet-assoc a (preparedClass (preparedIn xs (7 * i)) t) (convexClass (v .rest) t) ∙ ap (meet a) (sym (v .class t)))
                 ∙ s .class;
           };
         }
@@ -343,7 +343,7 @@ module _ (t : Trixel) (xs : List ℤ) (es : List ℕ) (n : ℕ) (g : Region) (p 
   pub only-half : Stands t xs es n g 0 (getD es 0 0) 0 Outside Full
   only-half = stands t xs es n g 0 (getD es 0 0) 0 Outside Full (only-convex .1) (only-convex .0)
 
-  pub only-class : {c : Class} → c ≡ judged (preparedIn xs 0) t → c ≡ regionClass g t
+  pub only-class : {c : Class} → c ≡ preparedClass (preparedIn xs 0) t → c ≡ regionClass g t
   only-class {c} e = ended t xs es n g _ _ _
       (exhausted t xs es n g 0 (getD es 0 0) 1 Outside c (only-half .taken c e) (omega (arith, one, only-convex .1 .after .count)))
       (omega (arith, one, only-convex .0))

@@ -11,12 +11,12 @@ ghost use Rattle.classify.specs.Classes.{isOutside, isFull};
 ghost use Rattle.classify_prepared.specs.Measures.{RaysOf};
 ghost use Rattle.classify_cap.specs.Middle.{IsBoundingCap};
 ghost use Rattle.classify_halfspace.specs.Halfspaces.{NormalsIn};
-ghost use Rattle.classify_prepared.specs.PreparedLists as halves;
+ghost use Rattle.classify_prepared.specs.PreparedLists as lists;
 ghost use Rattle.classify_prepared.specs.PreparedLists.{Ready, Classed};
 
 // The class of a convex, from those of two parts of it.
 fn meet(a: Class, b: Class) -> Class
-    ensures { λ r. ⌜ r ≡ halves.meet a b ⌝ }
+    ensures { λ r. ⌜ r ≡ lists.meet a b ⌝ }
 {
     match a {
         Class::Outside => Class::Outside,
@@ -31,7 +31,7 @@ fn meet(a: Class, b: Class) -> Class
 
 // The class of a region, from those of two parts of it.
 fn join(a: Class, b: Class) -> Class
-    ensures { λ r. ⌜ r ≡ halves.join a b ⌝ }
+    ensures { λ r. ⌜ r ≡ lists.join a b ⌝ }
 {
     match a {
         Class::Outside => b,
@@ -64,8 +64,8 @@ fn is_full(c: Class) -> bool
     }
 }
 
-// The class of a trixel, whose numbers stand in `ps`, for the region whose n halfspaces were prepared to `prepared`, with the ends of its convexes in `ends`. The
-// scan of a convex ends at its first halfspace that leaves the trixel outside, that of the region at its first full convex.
+// The class of a trixel, whose numbers stand in `ps`, for the region whose n halfspaces were prepared to `prepared`, with the ends of its convexes in
+// `ends`. The scan of a convex ends at its first halfspace that leaves the trixel outside, that of the region at its first full convex.
 pub fn classify_convexes(
     t: Trixel,
     s: TrixelRays,

@@ -1,4 +1,4 @@
-// A command line as it is kept, and its words: numbers, pointings, files and floats in hexadecimal digits, lists of numbers.
+// A command line as it is stored, and its words: numbers, pointings, files and floats in hexadecimal digits, lists of numbers.
 use check::same;
 ghost use mathlib.Core.Path.{_≡_};
 ghost use mathlib.Core.List.{[], _∷_};
@@ -39,7 +39,7 @@ pub enum Whole {
     Not,
 }
 
-// One byte more of a line of which n are kept. A line that is too long counts as one byte more than `line` can hold.
+// One byte more of a line of which n are stored. A line that is too long counts as one byte more than `line` can hold.
 pub fn append_byte(line: &mut [u8], n: usize, b: u8) -> usize {
     if n < line.len() {
         line[n] = b;

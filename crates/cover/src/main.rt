@@ -1,4 +1,4 @@
-// The cover of the region file on standard input, as lines on standard output (crate print::covers has their shape). A file that cannot be read to its
+// The cover of the region file on standard input, as lines on standard output (print::covers has their shape). A file that cannot be read to its
 // end has no answer.
 use limits::MAX_FILE_BYTES;
 use streams::Input;

@@ -17,7 +17,7 @@ ghost use mathlib.Core.Path.{_≡_};
 ghost use Prim.Native.Nat.{_*_, _^_, _≤_, _<_};
 ghost use lib.ListN.{length, drop};
 ghost use Rattle.classify_prepared.specs.PreparedLists.{countIn, Ready};
-ghost use Rattle.classify_active.specs.Narrow.{ActiveListsIn};
+ghost use Rattle.classify_active.specs.Active.{ActiveListsIn};
 ghost use Rattle.ranges.specs.Ranges.{rangesIn};
 ghost use Rattle.ranges.specs.Contents.{identifiers};
 ghost use Rattle.ranges.proofs.Pushing.{innerEnd};
@@ -41,7 +41,7 @@ pub fn power(n: u32) -> u64
     p
 }
 
-// Keeps root number k, with its first ray.
+// Stores root number k, with its first ray.
 fn store_root(trixel: &mut TrixelNumbers, k: u64)
     requires { ⌜ k < 8 ⌝ }
     ensures { λ _. ⌜ StoredTrixel (now (trixel .exit)) × (trixelIn (now (trixel .exit)) ≡ rootTrixel k) ⌝ }

@@ -15,7 +15,7 @@ use Rattle.ranges.specs.Lists.{gaps}
 use Rattle.ranges.proofs.Pushing.{outerPush}
 use Rattle.ranges_stored.specs.Stored.{Writes, sizesIn, hintOf, Hinted}
 use Rattle.covering.specs.Cover.{takenFull, takenPartial}
-use Rattle.covering_tally.specs.Tally.{Tally, tallyIn, withOuter, withInner, oneMore, oneFull, onePartial, OuterPushed, InnerRoom, InnerPushed, Inside, Countable, SmallRange, TallyInvariant, TrixelAccepted}
+use Rattle.covering_tally.specs.Tally.{Tally, tallyIn, withOuter, withInner, oneMore, oneFull, onePartial, OuterPushed, InnerNeeds, InnerPushed, Inside, Countable, SmallRange, TallyInvariant, TrixelAccepted}
 use Rattle.covering_tally.proofs.WalkLaws.{taken-partial, taken-full, hinted-before, hinted-behind}
 
 -- ---- the thirteen numbers
@@ -44,15 +44,15 @@ module _ (xs : List ℕ) (long : length xs ≡ 13) where
 
 -- ---- a range that is accepted
 
-pub outered : (r : Range) {m : Pushed} {s s₁ : Tally} {out out₁ : List ℕ}
+pub outer-pushed : (r : Range) {m : Pushed} {s s₁ : Tally} {out out₁ : List ℕ}
     → Writes (outerPush (s .budget) (rangesIn (s .outer) out) r) out out₁ (m .n) × (((s .outer ≤ m .n) × (m .n ≤ s .budget)) × Hinted (m .hint) (gaps (rangesIn (m .n) out₁)))
     → s₁ ≡ withOuter m s → OuterPushed r s out s₁ out₁
-outered r {m} {s} {s₁} {out} {out₁} h e =
+outer-pushed r {m} {s} {s₁} {out} {out₁} h e =
     subst (λ q. OuterPushed r s out q out₁) (sym e) (record { writes = h .0; few = h .1 .0 .1; hinted = h .1 .1; inner = refl; seen = refl; budget = refl; full = refl; partial = refl })
 
-module _ {r : Range} {s s₁ : Tally} {out out₁ : List ℕ} (room : TallyInvariant s out) (o : OuterPushed r s out s₁ out₁) (same : length out₁ ≡ length out) where
+module _ {r : Range} {s s₁ : Tally} {out out₁ : List ℕ} (invariant : TallyInvariant s out) (o : OuterPushed r s out s₁ out₁) (same : length out₁ ≡ length out) where
   behind : Hinted (s .inner .hint) (sizesIn (2 * s .budget) (s .inner .n) out₁)
-  behind = hinted-behind (s .inner .hint) (s .inner .n) (s .budget) (o .writes) (o .few) (omega (arith, room .list)) (room .innerHinted)
+  behind = hinted-behind (s .inner .hint) (s .inner .n) (s .budget) (o .writes) (o .few) (omega (arith, invariant .list)) (invariant .innerHinted)
 
   pub partial-taken : {s₂ : Tally} → s₂ ≡ onePartial s₁ → TrixelAccepted (takenPartial r) s out s₂ out₁
   partial-taken {s₂} e =
@@ -67,17 +67,17 @@ module _ {r : Range} {s s₁ : Tally} {out out₁ : List ℕ} (room : TallyInvar
         partial = o .partial i + 1;
       })))
       (record {
-        adds = λ start a w. taken-partial (s .budget) start a s out w r out₁ (s₁ .outer) (s₁ .hint) (room .outer) (o .writes) (o .few);
-        room = record { budget = room .budget; outer = o .few; inner = room .inner; list = omega (arith, same, room .list); hinted = o .hinted; innerHinted = behind; full = omega (arith, room .full); partial = omega (arith, room .partial) };
+        adds = λ start a w. taken-partial (s .budget) start a s out w r out₁ (s₁ .outer) (s₁ .hint) (invariant .outer) (o .writes) (o .few);
+        invariant = record { budget = invariant .budget; outer = o .few; inner = invariant .inner; list = omega (arith, same, invariant .list); hinted = o .hinted; innerHinted = behind; full = omega (arith, invariant .full); partial = omega (arith, invariant .partial) };
         seen = refl;
         budget = refl;
       })
 
   -- what the inner list's writer needs
-  pub inner-wants : InnerRoom (s₁ .budget) (s₁ .inner) out₁
+  pub inner-wants : InnerNeeds (s₁ .budget) (s₁ .inner) out₁
   inner-wants =
-      subst₂ (λ b p. InnerRoom b p out₁) (sym (o .budget)) (sym (o .inner))
-      (record { budget = room .budget; few = room .inner; list = omega (arith, same, room .list); hinted = behind })
+      subst₂ (λ b p. InnerNeeds b p out₁) (sym (o .budget)) (sym (o .inner))
+      (record { budget = invariant .budget; few = invariant .inner; list = omega (arith, same, invariant .list); hinted = behind })
 
   -- the inner list's writer gave p₂
   module _ {out₂ : List ℕ} {p₂ : Pending} (long : length out₂ ≡ length out₁) where
@@ -85,16 +85,16 @@ module _ {r : Range} {s s₁ : Tally} {out out₁ : List ℕ} (room : TallyInvar
         → TrixelAccepted (takenFull r) s out
         (record { outer = s₁ .outer; hint = s₁ .hint; inner = p₂; seen = s .seen + 1; budget = s .budget; full = s .full + (r .high - r .low + 1); partial = s .partial }) out₂
     full-now k z = record {
-      adds = λ start a w. taken-full (s .budget) start a s out w r out₁ (s₁ .outer) (s₁ .hint) (room .outer) (o .writes) (o .few) out₂ p₂ (k .behind);
-      room = record {
-        budget = room .budget;
+      adds = λ start a w. taken-full (s .budget) start a s out w r out₁ (s₁ .outer) (s₁ .hint) (invariant .outer) (o .writes) (o .few) out₂ p₂ (k .behind);
+      invariant = record {
+        budget = invariant .budget;
         outer = o .few;
         inner = k .few;
-        list = omega (arith, long, same, room .list);
-        hinted = hinted-before (s₁ .hint) (s₁ .outer) (s .budget) out₁ out₂ (k .behind .rest) (o .few) (omega (arith, same, room .list)) (k .behind .list) (o .hinted);
+        list = omega (arith, long, same, invariant .list);
+        hinted = hinted-before (s₁ .hint) (s₁ .outer) (s .budget) out₁ out₂ (k .behind .rest) (o .few) (omega (arith, same, invariant .list)) (k .behind .list) (o .hinted);
         innerHinted = k .hinted;
-        full = omega (arith, room .full, z .order, z .small);
-        partial = omega (arith, room .partial);
+        full = omega (arith, invariant .full, z .order, z .small);
+        partial = omega (arith, invariant .partial);
       };
       seen = refl;
       budget = refl;
@@ -128,8 +128,8 @@ pub inside-counts : {r : Range} {s s₁ : Tally} {out out₁ : List ℕ} → Ins
 inside-counts k h = subst Countable (sym (k .noted)) (record { few = h .few; full = h .full; partial = h .partial })
 
 -- what was read from the tally
-pub inner-known : {out : List ℕ} {b b₀ : ℕ} {p p₀ : Pending} → InnerRoom b₀ p₀ out → b ≡ b₀ → p ≡ p₀ → InnerRoom b p out
-inner-known {out = out} h u e = subst₂ (λ b p. InnerRoom b p out) (sym u) (sym e) h
+pub inner-known : {out : List ℕ} {b b₀ : ℕ} {p p₀ : Pending} → InnerNeeds b₀ p₀ out → b ≡ b₀ → p ≡ p₀ → InnerNeeds b p out
+inner-known {out = out} h u e = subst₂ (λ b p. InnerNeeds b p out) (sym u) (sym e) h
 
 pub inside : {r : Range} {s s′ : Tally} {out out′ : List ℕ} {b : ℕ} {p q : Pending} → InnerPushed b r p out q out′ → b ≡ s .budget → p ≡ s .inner → s′ ≡ withInner q s → Inside r s out s′ out′
 inside {r} {s} {s′} {out} {out′} {q = q} h u e n = record { beside = q; pushed = subst₂ (λ b p. InnerPushed b r p out q out′) u e h; noted = n }

@@ -15,10 +15,10 @@ use Rattle.ranges.specs.Lists.{gaps, size, outerOf, innerOf}
 use Rattle.ranges.specs.Contents.{identifiers, swallowedOf}
 use Rattle.ranges.proofs.ContentsLaws.{identifiers-append}
 use Rattle.ranges.proofs.Pushing.{outerPush, outerPass, empty, innerPush, innerEnd, innerPass}
-use Rattle.ranges_stored.specs.Stored.{sizesIn, written, Writes, Hinted, nothingYet, stateOf, Keeps}
+use Rattle.ranges_stored.specs.Stored.{sizesIn, written, Writes, Hinted, nothingYet, stateOf, Stores}
 use Rattle.ranges.proofs.OnePass.{one-pass}
 use Rattle.ranges_stored.proofs.StoredLaws.{laid, laid-put, length-written}
-use Rattle.ranges_lists.proofs.Pushes.{writes-in, writes-none, writes-push, keeps-none, keeps-push, keeps-end}
+use Rattle.ranges_lists.proofs.Pushes.{writes-in, writes-none, writes-push, stores-none, stores-push, stores-end}
 use Rattle.covering.specs.Cover.{Found, leftOut, takenFull, takenPartial, both, four, cutInto, visitRoot, cutting, listed, countsOf, bothListed}
 use Rattle.covering.proofs.ContentsLaws.{outer-counted, counts-small}
 use Rattle.covering_tally.specs.Tally.{Tally, countsIn, nothing, innerState, TallyHolds, Adds, InnerStored, InnerEnded, CountsContained, oneMore}
@@ -129,7 +129,7 @@ module _ (b : ℕ) (start : List ℕ) (a : Found) (s : Tally) (out : List ℕ) (
     list = w .list;
     width = w .width;
     outer = subst (λ rs. Writes (outerPass b rs) (take (2 * b) start) (w .front) (s .outer)) (sym (append-nil (a .accepted))) (w .outer);
-    inner = subst (λ rs. Keeps (innerState b rs) (drop (2 * b) start) (w .back) (s .inner)) (sym (append-nil (a .full))) (w .inner);
+    inner = subst (λ rs. Stores (innerState b rs) (drop (2 * b) start) (w .back) (s .inner)) (sym (append-nil (a .full))) (w .inner);
     seen = ap (λ n. n + 1) (w .seen);
     full = w .full ∙ ap identifiers (sym (append-nil (a .full)));
     partial = omega (arith, w .partial);
@@ -168,7 +168,7 @@ module _ (b : ℕ) (start : List ℕ) (a : Found) (s : Tally) (out : List ℕ) (
       list = pushed-list;
       width = pushed-width;
       outer = pushed-outer;
-      inner = subst (λ rs. Keeps (innerState b rs) (drop (2 * b) start) (w .back) (s .inner)) (sym (append-nil (a .full))) (w .inner);
+      inner = subst (λ rs. Stores (innerState b rs) (drop (2 * b) start) (w .back) (s .inner)) (sym (append-nil (a .full))) (w .inner);
       seen = ap (λ n. n + 1) (w .seen);
       full = w .full ∙ ap identifiers (sym (append-nil (a .full)));
       partial = omega (arith, w .partial);
@@ -187,9 +187,9 @@ module _ (b : ℕ) (start : List ℕ) (a : Found) (s : Tally) (out : List ℕ) (
           list = k .list ∙ ap (λ l. l ++ k .rest) before;
           width = pushed-width;
           outer = pushed-outer;
-          inner = subst (λ st. Keeps st (drop (2 * b) start) (k .rest) p) (sym (fold-snoc (innerPush b) empty (a .full) r))
-              (keeps-push b (innerState b (a .full)) (drop (2 * b) start) (w .back) (k .rest) (s .inner) (w .inner) r p
-              (subst (λ l. Keeps (innerPush b (stateOf (s .inner) l) r) l (k .rest) p) after (k .keeps)));
+          inner = subst (λ st. Stores st (drop (2 * b) start) (k .rest) p) (sym (fold-snoc (innerPush b) empty (a .full) r))
+              (stores-push b (innerState b (a .full)) (drop (2 * b) start) (w .back) (k .rest) (s .inner) (w .inner) r p
+              (subst (λ l. Stores (innerPush b (stateOf (s .inner) l) r) l (k .rest) p) after (k .stores)));
           seen = ap (λ n. n + 1) (w .seen);
           full = omega (arith, w .full, identifiers-append (a .full) (r ∷ []));
           partial = omega (arith, w .partial);
@@ -241,7 +241,7 @@ module _ (b : ℕ) (start : List ℕ) (long : 4 * b ≤ length start) where
     list = sym (take-append-drop (2 * b) start);
     width = wide;
     outer = writes-none (take (2 * b) start);
-    inner = keeps-none (drop (2 * b) start);
+    inner = stores-none (drop (2 * b) start);
     seen = refl;
     full = refl;
     partial = refl;
@@ -274,7 +274,7 @@ module _ (b : ℕ) (start : List ℕ) (long : 4 * b ≤ length start) where
       let o : outerPass b (a .accepted) ≡ outerOf b (a .accepted) = one-pass b (a .accepted) one .0 in
       let i : innerPass b (a .full) ≡ innerOf b (a .full) = one-pass b (a .full) one .1 in
       let k : Writes (innerPass b (a .full)) (drop (2 * b) start) (e .rest) n =
-      keeps-end b (innerState b (a .full)) (drop (2 * b) start) (w .back) (e .rest) (s .inner) (w .inner) n
+      stores-end b (innerState b (a .full)) (drop (2 * b) start) (w .back) (e .rest) (s .inner) (w .inner) n
       (subst (λ l. Writes (innerEnd b (stateOf (s .inner) l)) l (e .rest) n) after (e .writes)) in
       let x : m - s .full - s .partial ≡ swallowedOf b (a .accepted) =
       omega (arith, c, ap identifiers (outer-stored w one few), all, w .full, w .partial) in

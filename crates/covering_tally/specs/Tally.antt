@@ -5,17 +5,17 @@
 --                      change of one part
 --   countsIn s n m     the counts, where the inner list has n ranges and the outer list contains m identifiers
 --   nothing            before the first trixel
---   TallyHolds b start a s out   where a was found so far, s and the list `out` have it: the outer list at the front of what `start` had in its first 2 × b
+--   TallyHolds ..      where a was found so far, s and the list `out` have it: the outer list at the front of what `start` had in its first 2 × b
 --                      elements, the inner list at the front of the rest
 --   Adds found ..      whatever was found before, `found` is noted after it
---   TrixelAccepted found ..   a trixel that was accepted: what a call that takes it gives
+--   TrixelAccepted ..  a trixel that was accepted: what a call that takes it gives
 --   OuterPushed ..     the range r was pushed onto the outer list
 --   Countable s        one more can be counted
 --   SmallRange r       its identifiers are some of a depth, which are below 2^26
---   CountsContained s out   the stored outer ranges contain what was counted
---   InnerRoom, InnerPushed   what is needed to push a range onto the inner list, and what is so then; Inside: it is noted
---   InnerStored, InnerEnded   the inner list's writer was lent the list from element 2 × b on: the elements before it stay
---   TallyInvariant s out   the counts are at most the budget, the list has room for both lists, and what s knows of the gaps of the outer list and of the
+--   CountsContained .. the stored outer ranges contain what was counted
+--   InnerNeeds ..      what is needed to push a range onto the inner list; InnerPushed: what is so then; Inside: it is noted
+--   InnerStored ..     the inner list's writer was lent the list from element 2 × b on: the elements before it stay; InnerEnded: the same at the end
+--   TallyInvariant ..  the counts are at most the budget, the list has room for both lists, and what s knows of the gaps of the outer list and of the
 --                      sizes of the inner list's stored ranges is so; and the counts of identifiers are no more than the trixels seen can have
 use Prim.Native.Nat.{ℕ, _+_, _-_, _*_, _^_, _≤_, _<_}
 use mathlib.Core.Path.{_≡_}
@@ -29,7 +29,7 @@ use Rattle.ranges.specs.Ranges.{Range, rangesIn}
 use Rattle.ranges.specs.Lists.{gaps}
 use Rattle.ranges.specs.Contents.{identifiers}
 use Rattle.ranges.proofs.Pushing.{outerPush, outerPass, Inner, empty, innerPush}
-use Rattle.ranges_stored.specs.Stored.{sizesIn, Writes, hintOf, noHint, Hinted, nothingYet, stateOf, Keeps}
+use Rattle.ranges_stored.specs.Stored.{sizesIn, Writes, hintOf, noHint, Hinted, nothingYet, stateOf, Stores}
 use Rattle.covering.specs.declared.Counts.{Counts}
 use Rattle.covering.specs.Cover.{Found, both}
 
@@ -89,7 +89,7 @@ pub record TallyHolds (b : ℕ) (start : List ℕ) (a : Found) (s : Tally) (out 
   pub list : out ≡ front ++ back
   pub width : length front ≡ 2 * b
   pub outer : Writes (outerPass b (a .accepted)) (take (2 * b) start) front (s .outer)
-  pub inner : Keeps (innerState b (a .full)) (drop (2 * b) start) back (s .inner)
+  pub inner : Stores (innerState b (a .full)) (drop (2 * b) start) back (s .inner)
   pub seen : s .seen ≡ a .seen
   pub full : s .full ≡ identifiers (a .full)
   pub partial : s .partial ≡ a .partial
@@ -111,7 +111,7 @@ pub record OuterPushed (r : Range) (s : Tally) (out : List ℕ) (s′ : Tally) (
 pub record InnerStored (b : ℕ) (before after : List ℕ) (state : Inner) (p : Pending) : Type 0 where
   pub rest : List ℕ
   pub list : after ≡ take (2 * b) before ++ rest
-  pub keeps : Keeps state (drop (2 * b) before) rest p
+  pub stores : Stores state (drop (2 * b) before) rest p
 
 pub record InnerEnded (b : ℕ) (before after : List ℕ) (rs : List Range) (n : ℕ) : Type 0 where
   pub rest : List ℕ
@@ -145,7 +145,7 @@ pub record CountsContained (s : Tally) (out : List ℕ) : Type 0 where
   pub counted : s .full + s .partial ≤ identifiers (rangesIn (s .outer) out)
 
 -- what the inner list's writer needs, and what it gives after the range r: p stands beside the list, then q
-pub record InnerRoom (b : ℕ) (p : Pending) (out : List ℕ) : Type 0 where
+pub record InnerNeeds (b : ℕ) (p : Pending) (out : List ℕ) : Type 0 where
   pub budget : 1 ≤ b
   pub few : p .n ≤ b
   pub list : 4 * b ≤ length out
@@ -163,6 +163,6 @@ pub record Inside (r : Range) (s : Tally) (out : List ℕ) (s′ : Tally) (out�
 
 pub record TrixelAccepted (found : Found) (s : Tally) (out : List ℕ) (s′ : Tally) (out′ : List ℕ) : Type 0 where
   pub adds : Adds found s out s′ out′
-  pub room : TallyInvariant s′ out′
+  pub invariant : TallyInvariant s′ out′
   pub seen : s′ .seen ≡ s .seen + 1
   pub budget : s′ .budget ≡ s .budget

@@ -9,7 +9,7 @@ ghost use lib.Dec.{ltb};
 ghost use lib.ListN.{length};
 ghost use Rattle.ranges.specs.Ranges.{range};
 ghost use Rattle.covering.specs.Cover.{takenFull, takenPartial};
-ghost use Rattle.covering_tally.specs.Tally.{tallyIn, withOuter, withInner, oneMore, oneFull, onePartial, noTally, countsIn, TrixelAccepted, InnerRoom, InnerPushed, Inside, Countable, SmallRange, TallyInvariant, OuterPushed};
+ghost use Rattle.covering_tally.specs.Tally.{tallyIn, withOuter, withInner, oneMore, oneFull, onePartial, noTally, countsIn, TrixelAccepted, InnerNeeds, InnerPushed, Inside, Countable, SmallRange, TallyInvariant, OuterPushed};
 
 // The tally as numbers.
 pub type TallyNumbers = [u64; 13];
@@ -156,7 +156,7 @@ fn push_outer(out: &mut [u64], s: &mut [u64], low: u64, high: u64)
 
 // A range of the inner list, which is written from element 2 × budget on.
 fn push_inner(out: &mut [u64], budget: usize, p: Pending, low: u64, high: u64) -> Pending
-    requires { ⌜ InnerRoom budget p (now out) ⌝ }
+    requires { ⌜ InnerNeeds budget p (now out) ⌝ }
     ensures { λ q. ⌜ InnerPushed budget (range low high) p (now (out .entry)) q (now (out .exit)) ⌝ }
 {
     ranges_lists::inner_push(&mut out[2 * budget..], p, budget, low, high)
@@ -165,7 +165,7 @@ fn push_inner(out: &mut [u64], budget: usize, p: Pending, low: u64, high: u64) -
 // A range of the inner list, and what stands beside it then.
 fn add_inner(out: &mut [u64], s: &mut [u64], low: u64, high: u64)
     requires { ⌜ length (now s) ≡ 13 ⌝ }
-    requires { ⌜ InnerRoom (tallyIn (now s) .budget) (tallyIn (now s) .inner) (now out) ⌝ }
+    requires { ⌜ InnerNeeds (tallyIn (now s) .budget) (tallyIn (now s) .inner) (now out) ⌝ }
     ensures { λ _. ⌜ Inside (range low high) (tallyIn (now (s .entry))) (now (out .entry)) (tallyIn (now (s .exit))) (now (out .exit)) ⌝ }
 {
     note_inner(s, push_inner(out, budget_of(s), pending(s), low, high));

@@ -1,4 +1,4 @@
--- A trixel that was kept with its first ray, and its other two rays: they are read back, and each of the first three children has a ray of the trixel as
+-- A trixel that was stored with its first ray, and its other two rays: they are read back, and each of the first three children has a ray of the trixel as
 -- its first one, since it has two normals of the trixel as its second and third. Assumes nothing.
 use Prim.Native.Nat.{ℕ, _≤_, _<_}
 use mathlib.Core.Path.{_≡_, refl, sym, ap, subst, _∙_}
@@ -20,38 +20,38 @@ use Rattle.covering_walk.specs.StoredTrixels.{trixelIn, firstRayIn, Stor
 
 -- the trixel t that was read from a list
 module _ {ks : List ℤ} {t : Trixel} (e : t ≡ trixelIn ks) where
-  pub kept-small : StoredTrixel ks → SmallTrixel t
-  kept-small k = subst SmallTrixel (sym e) (k .small)
+  pub stored-small : StoredTrixel ks → SmallTrixel t
+  stored-small k = subst SmallTrixel (sym e) (k .small)
 
-  pub first-kept : {r : Vec3} → StoredTrixel ks → r ≡ firstRayIn ks → r ≡ ray0 t
-  first-kept k q = q ∙ k .ray ∙ ap ray0 (sym e)
+  pub stored-first-ray : {r : Vec3} → StoredTrixel ks → r ≡ firstRayIn ks → r ≡ ray0 t
+  stored-first-ray k q = q ∙ k .ray ∙ ap ray0 (sym e)
 
-  pub normals-kept : StoredTrixel ks → 18 ≤ length ks → NormalsIn t ks
-  normals-kept k l = subst (λ t. NormalsIn t ks) (sym e) (record { room = l; p0 = refl; p1 = refl; p2 = refl; small = k .small })
+  pub stored-normals : StoredTrixel ks → 18 ≤ length ks → NormalsIn t ks
+  stored-normals k l = subst (λ t. NormalsIn t ks) (sym e) (record { room = l; p0 = refl; p1 = refl; p2 = refl; small = k .small })
 
   -- what its children are made of
-  pub parts-kept : {c : Cut} {r : Vec3} {j : ClassifiedTrixel} → StoredTrixel ks → OtherRays (trixelIn ks) j → (c ≡ cut t) × SmallCut c → r ≡ firstRayIn ks → CutParts t c r j
-  parts-kept k o c q = record {
-    small = kept-small k;
+  pub cut-parts : {c : Cut} {r : Vec3} {j : ClassifiedTrixel} → StoredTrixel ks → OtherRays (trixelIn ks) j → (c ≡ cut t) × SmallCut c → r ≡ firstRayIn ks → CutParts t c r j
+  cut-parts k o c q = record {
+    small = stored-small k;
     cut = c .0;
     smallCut = c .1;
-    first = first-kept k q;
+    first = stored-first-ray k q;
     others = record { second = o .second ∙ ap ray1 (sym e); third = o .third ∙ ap ray2 (sym e) };
   }
 
 -- its class and its other rays, as they were found
-pub judged-kept : {t u : Trixel} → t ≡ u → {xs : List ℤ} {es : List ℕ} (j : ClassifiedTrixel) {s : TrixelRays} → RaysOf t s → j .second ≡ s .r1 .r → j .third ≡ s .r2 .r
+pub classified-of : {t u : Trixel} → t ≡ u → {xs : List ℤ} {es : List ℕ} (j : ClassifiedTrixel) {s : TrixelRays} → RaysOf t s → j .second ≡ s .r1 .r → j .third ≡ s .r2 .r
     → Classed t xs es (countIn es) (j .class) → ClassifiedOf u xs es j
-judged-kept e {xs} {es} j h a b c = record {
+classified-of e {xs} {es} j h a b c = record {
   class = subst (λ t. Classed t xs es (countIn es) (j .class)) e c;
   rays = record { second = a ∙ h .r1 .r ∙ ap ray1 e; third = b ∙ h .r2 .r ∙ ap ray2 e };
 }
 
--- a trixel k that was kept with its first ray r
-pub trixel-kept : {cs : List ℤ} {k : Trixel} {r : Vec3} → SmallTrixel k → r ≡ ray0 k → (trixelIn cs ≡ k) × (firstRayIn cs ≡ r) → StoredTrixel cs
-trixel-kept h w q = record { small = subst SmallTrixel (sym (q .0)) h; ray = q .1 ∙ w ∙ ap ray0 (sym (q .0)) }
+-- a trixel k that was stored with its first ray r
+pub stored-trixel : {cs : List ℤ} {k : Trixel} {r : Vec3} → SmallTrixel k → r ≡ ray0 k → (trixelIn cs ≡ k) × (firstRayIn cs ≡ r) → StoredTrixel cs
+stored-trixel h w q = record { small = subst SmallTrixel (sym (q .0)) h; ray = q .1 ∙ w ∙ ap ray0 (sym (q .0)) }
 
--- ---- a child that was kept
+-- ---- a child that was stored
 
 first-child : (t : Trixel) → child0 t (cut t) ≡ child 0 t
 unfolding child
@@ -71,16 +71,16 @@ fourth-child t = refl
 
 module _ {k : ℕ} {t : Trixel} {c : Cut} {r : Vec3} {j : ClassifiedTrixel} (p : CutParts t c r j) {q : Trixel} {v : Vec3} {xs : List ℤ} (h : (trixelIn xs ≡ q) × (firstRayIn xs ≡ v)) where
   any-child : (n : ℕ) → k ≡ n → q ≡ child n t → SmallTrixel q → v ≡ ray0 q → StoredChild k t xs
-  any-child n e d s w = record { kept = trixel-kept s w h; trixel = h .0 ∙ d ∙ ap (λ n. child n t) (sym e) }
+  any-child n e d s w = record { stored = stored-trixel s w h; trixel = h .0 ∙ d ∙ ap (λ n. child n t) (sym e) }
 
-  pub kept-first : k ≡ 0 → v ≡ r → (q ≡ child0 t c) × SmallTrixel q → StoredChild k t xs
-  kept-first e w d = any-child 0 e (d .0 ∙ ap (child0 t) (p .cut) ∙ first-child t) (d .1) (w ∙ p .first ∙ sym (ap ray0 (d .0)))
+  pub stored-first : k ≡ 0 → v ≡ r → (q ≡ child0 t c) × SmallTrixel q → StoredChild k t xs
+  stored-first e w d = any-child 0 e (d .0 ∙ ap (child0 t) (p .cut) ∙ first-child t) (d .1) (w ∙ p .first ∙ sym (ap ray0 (d .0)))
 
-  pub kept-second : k ≡ 1 → v ≡ j .second → (q ≡ child1 t c) × SmallTrixel q → StoredChild k t xs
-  kept-second e w d = any-child 1 e (d .0 ∙ ap (child1 t) (p .cut) ∙ second-child t) (d .1) (w ∙ p .others .second ∙ sym (ap ray0 (d .0)))
+  pub stored-second : k ≡ 1 → v ≡ j .second → (q ≡ child1 t c) × SmallTrixel q → StoredChild k t xs
+  stored-second e w d = any-child 1 e (d .0 ∙ ap (child1 t) (p .cut) ∙ second-child t) (d .1) (w ∙ p .others .second ∙ sym (ap ray0 (d .0)))
 
-  pub kept-third : k ≡ 2 → v ≡ j .third → (q ≡ child2 t c) × SmallTrixel q → StoredChild k t xs
-  kept-third e w d = any-child 2 e (d .0 ∙ ap (child2 t) (p .cut) ∙ third-child t) (d .1) (w ∙ p .others .third ∙ sym (ap ray0 (d .0)))
+  pub stored-third : k ≡ 2 → v ≡ j .third → (q ≡ child2 t c) × SmallTrixel q → StoredChild k t xs
+  stored-third e w d = any-child 2 e (d .0 ∙ ap (child2 t) (p .cut) ∙ third-child t) (d .1) (w ∙ p .others .third ∙ sym (ap ray0 (d .0)))
 
-  pub kept-last : k ≡ 3 → v ≡ ray0 q → (q ≡ child3 t c) × SmallTrixel q → StoredChild k t xs
-  kept-last e w d = any-child 3 e (d .0 ∙ ap (child3 t) (p .cut) ∙ fourth-child t) (d .1) w
+  pub stored-last : k ≡ 3 → v ≡ ray0 q → (q ≡ child3 t c) × SmallTrixel q → StoredChild k t xs
+  stored-last e w d = any-child 3 e (d .0 ∙ ap (child3 t) (p .cut) ∙ fourth-child t) (d .1) w

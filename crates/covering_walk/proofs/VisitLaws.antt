@@ -20,7 +20,7 @@ use Rattle.mesh_trixels.specs.Corners.{SmallCut}
 use Rattle.region.specs.Regions.{Region}
 use Rattle.classify.specs.declared.Class.the-variants.{Outside, Partial, Full}
 use Rattle.classify_prepared.specs.PreparedLists.{Prepared, countIn, Ready}
-use Rattle.classify_active.specs.Narrow.{ActiveListsIn}
+use Rattle.classify_active.specs.Active.{ActiveListsIn}
 use Rattle.ranges.specs.Ranges.{range}
 use Rattle.ranges_stored.specs.Stored.{noHint}
 use Rattle.ranges_stored.proofs.HintLaws.{hinted-any}
@@ -34,7 +34,7 @@ use Rattle.covering_walk.specs.Walk.{foundIn, foundBelow, childLevel, fi
 use Rattle.covering.proofs.CoverLaws.{full-stretch, power, found-outside, found-full, found-last, found-cut}
 use Rattle.covering.proofs.ContentsLaws.{outer-counted}
 use Rattle.covering_tally.proofs.WalkLaws.{cutting-contained, left-out, none-adds, more-adds, four-adds, cut-adds, foundTo, walk-start, walk-end, roots-done}
-use Rattle.covering_walk.proofs.StoredTrixelLaws.{parts-kept}
+use Rattle.covering_walk.proofs.StoredTrixelLaws.{cut-parts}
 
 -- ---- the range of a trixel
 
@@ -115,8 +115,8 @@ at-least-four n = omega (arith, pow-suc 4 n, power n)
 -- ---- one trixel, by its class
 
 -- one more is seen, and the lists stay
-room-more : {s r : Tally} {out : List ℕ} → TallyInvariant s out → r ≡ oneMore s → TallyInvariant r out
-room-more {s} {r} {out} h e = subst (λ q. TallyInvariant q out) (sym e) (record {
+invariant-more : {s r : Tally} {out : List ℕ} → TallyInvariant s out → r ≡ oneMore s → TallyInvariant r out
+invariant-more {s} {r} {out} h e = subst (λ q. TallyInvariant q out) (sym e) (record {
   budget = h .budget;
   outer = h .outer;
   inner = h .inner;
@@ -131,26 +131,26 @@ module _ {j : ClassifiedTrixel} {l : Level} {s r : Tally} {out out′ : List ℕ
   done : Done (j .class) l s out r out′ → AcceptedOrCut true j l s out r out′
   done h = record { done = λ e. h; cut = λ e. absurd (false≢true (sym e)) }
 
-  pub settled-outside : j .class ≡ Outside → TallyInvariant s out → r ≡ oneMore s → out′ ≡ out → AcceptedOrCut true j l s out r out′
-  settled-outside d h q same = done (λ g t e. record {
+  pub done-outside : j .class ≡ Outside → TallyInvariant s out → r ≡ oneMore s → out′ ≡ out → AcceptedOrCut true j l s out r out′
+  done-outside d h q same = done (λ g t e. record {
     adds = λ start a w. subst₂ (λ f o. TallyHolds (r .budget) start (both a f) r o) (sym (found-outside g (l .left) t (l .id) (e ∙ d))) (sym same)
         (subst (λ z. TallyHolds (z .budget) start (both a leftOut) z out) (sym q) (left-out (s .budget) start a s out w));
-    room = subst (TallyInvariant r) (sym same) (room-more h q);
+    invariant = subst (TallyInvariant r) (sym same) (invariant-more h q);
     seen = ap (λ z. z .seen) q;
     budget = ap (λ z. z .budget) q;
   })
 
-  pub settled-full : {seen : ℕ} → j .class ≡ Full → LevelFits (l .id) (l .left) (l .span) seen
+  pub done-full : {seen : ℕ} → j .class ≡ Full → LevelFits (l .id) (l .left) (l .span) seen
       → TrixelAccepted (takenFull (range (l .id * l .span) (l .id * l .span + (l .span - 1)))) s out r out′ → AcceptedOrCut true j l s out r out′
-  settled-full d f h = done (λ g t e.
+  done-full d f h = done (λ g t e.
       subst (λ f. TrixelAccepted f s out r out′) (ap takenFull (full-range (l .id) (l .left) (l .span) (f .power)) ∙ sym (found-full g (l .left) t (l .id) (e ∙ d))) h)
 
-  pub settled-last : j .class ≡ Partial → l .left ≡ 0 → TrixelAccepted (takenPartial (range (l .id) (l .id))) s out r out′ → AcceptedOrCut true j l s out r out′
-  settled-last d z h = done (λ g t e.
+  pub done-last : j .class ≡ Partial → l .left ≡ 0 → TrixelAccepted (takenPartial (range (l .id) (l .id))) s out r out′ → AcceptedOrCut true j l s out r out′
+  done-last d z h = done (λ g t e.
       subst (λ f. TrixelAccepted f s out r out′) (ap takenPartial (last-range (l .id)) ∙ sym (found-last g t (l .id) (e ∙ d)) ∙ ap (λ m. visit m g t (l .id)) (sym z)) h)
 
-  pub settled-cut : j .class ≡ Partial → 1 ≤ l .left → r ≡ oneMore s → out′ ≡ out → AcceptedOrCut false j l s out r out′
-  settled-cut d a q same = record { done = λ e. absurd (false≢true e); cut = λ e. record { partial = d; above = a; tally = q; list = same } }
+  pub to-be-cut : j .class ≡ Partial → 1 ≤ l .left → r ≡ oneMore s → out′ ≡ out → AcceptedOrCut false j l s out r out′
+  to-be-cut d a q same = record { done = λ e. absurd (false≢true e); cut = λ e. record { partial = d; above = a; tally = q; list = same } }
 
 module _ {t : Trixel} {xs : List ℤ} {es : List ℕ} {j : ClassifiedTrixel} {l : Level} {b : Bool} {s s₁ : Tally} {out out₁ : List ℕ}
     (k : ClassifiedOf t xs es j) (h : AcceptedOrCut b j l s out s₁ out₁) where
@@ -158,7 +158,7 @@ module _ {t : Trixel} {xs : List ℤ} {es : List ℕ} {j : ClassifiedTrixel} {l 
   visited-done r e =
       let taken : (g : Region) → Prepared g xs es (countIn es) → TrixelAccepted (foundIn l t g) s out s₁ out₁ = λ g p. h .done e g t (sym (k .class g p)) in
       let one = taken (r .0) (r .1) in
-      record { adds = λ g p. taken g p .adds; room = one .room; budget = one .budget; seen = omega (arith, one .seen, at-least-four (l .left)) }
+      record { adds = λ g p. taken g p .adds; invariant = one .invariant; budget = one .budget; seen = omega (arith, one .seen, at-least-four (l .left)) }
 
   pub visited-cut : b ≡ false → {s′ : Tally} {out′ : List ℕ} → Gives xs es 4 (l .left - 1) (foundBelow l t) s₁ out₁ s′ out′ → Gives xs es 1 (l .left) (foundIn l t) s out s′ out′
   visited-cut e {s′} {out′} v =
@@ -168,7 +168,7 @@ module _ {t : Trixel} {xs : List ℤ} {es : List ℕ} {j : ClassifiedTrixel} {l 
         adds = λ g p.
             subst (λ f. Adds f s out s′ out′) (sym (found-cut g (l .left - 1) t (l .id) (sym (k .class g p) ∙ c .partial)) ∙ ap (λ m. visit m g t (l .id)) (sym z))
             (cut-adds (foundBelow l t g) (c .tally) (subst (λ o. Adds (foundBelow l t g) s₁ o s′ out′) (c .list) (v .adds g p)));
-        room = v .room;
+        invariant = v .invariant;
         budget = v .budget ∙ ap (λ q. q .budget) (c .tally);
         seen = omega (arith, v .seen, ap (λ q. q .seen) (c .tally), levels z);
       }
@@ -183,7 +183,7 @@ cut-needs {l = l} {s₁ = s₁} k h e n =
       trixel = n .trixel;
       rays = k .rays;
       ready = n .ready;
-      room = subst (TallyInvariant s₁) (sym (c .list)) (room-more (n .room) (c .tally));
+      invariant = subst (TallyInvariant s₁) (sym (c .list)) (invariant-more (n .invariant) (c .tally));
       divisible = record { above = c .above; ids = small-ids f };
       level = f;
     }
@@ -196,20 +196,20 @@ module _ {ks : List ℤ} {j : ClassifiedTrixel} {l : Level} {xs : List ℤ} {es 
   unfolding firstFound
   dividing-start n b e h q = record {
     needs = n;
-    beside = b;
+    active = b;
     trixel = e;
-    parts = parts-kept e (n .trixel) (n .rays) h q;
+    parts = cut-parts e (n .trixel) (n .rays) h q;
     few = omega arith;
-    gives = record { adds = λ g p. none-adds; room = n .room; budget = refl; seen = omega arith };
+    gives = record { adds = λ g p. none-adds; invariant = n .invariant; budget = refl; seen = omega arith };
   }
 
   module _ {k : ℕ} {s : Tally} {out : List ℕ} {cs : List ℤ} {m : Level} (d : Dividing ks j l xs es ys ms s₀ out₀ t c r k s out) (few : k < 4) (h : StoredChild k t cs)
       (e : m ≡ childLevel l k) where
     pub child-needs : Needs cs m xs es s out
     child-needs = record {
-      trixel = h .kept;
+      trixel = h .stored;
       ready = d .needs .ready;
-      room = d .gives .room;
+      invariant = d .gives .invariant;
       level = subst (λ m. LevelFits (m .id) (m .left) (m .span) (s .seen)) (sym e)
           (child-level (d .needs .level) k few (omega (arith, d .gives .seen, times k (4 ^ suc (l .left - 1)) (power (suc (l .left - 1))))));
     }
@@ -223,13 +223,13 @@ module _ {ks : List ℤ} {j : ClassifiedTrixel} {l : Level} {xs : List ℤ} {es 
         let x = subst (λ t. Gives xs es 1 (l .left - 1) (foundIn (childLevel l k) t) s out s′ out′) (h .trixel) w in
         record {
           needs = d .needs;
-          beside = d .beside;
+          active = d .active;
           trixel = d .trixel;
           parts = d .parts;
           few = omega arith;
           gives = subst (λ n. Gives xs es n (l .left - 1) (firstFound n l t) s₀ out₀ s′ out′) (sym one) (record {
             adds = λ g p. more-adds (firstFound k l t g) (foundIn (childLevel l k) (child k t) g) (d .gives .adds g p) (x .adds g p);
-            room = x .room;
+            invariant = x .invariant;
             budget = x .budget ∙ d .gives .budget;
             seen = omega (arith, d .gives .seen, x .seen, suc-times k (4 ^ suc (l .left - 1)));
           });
@@ -244,7 +244,7 @@ module _ {ks : List ℤ} {j : ClassifiedTrixel} {l : Level} {xs : List ℤ} {es 
       record {
         adds = λ g p. subst (λ t. Adds (foundBelow l t g) s₀ out₀ s out) (d .trixel)
             (four-adds (foundIn (childLevel l 0) (child 0 t) g) (foundIn (childLevel l 1) (child 1 t) g) (foundIn (childLevel l 2) (child 2 t) g) (foundIn (childLevel l 3) (child 3 t) g) (v .adds g p));
-        room = v .room;
+        invariant = v .invariant;
         budget = v .budget;
         seen = v .seen;
       }
@@ -266,25 +266,25 @@ root-seen left now seen k d h s =
 -- the first k roots are cut
 pub record Rooting (depth : ℕ) (xs : List ℤ) (es : List ℕ) (ys : List ℤ) (ms : List ℕ) (left span : ℕ) (s₀ : Tally) (out₀ : List ℕ) (k : ℕ) (s : Tally) (out : List ℕ) : Type 0 where
   pub needs : RootNeeds depth xs es s₀ out₀
-  pub beside : ActiveListsIn xs es ys ms
+  pub active : ActiveListsIn xs es ys ms
   pub above : left ≡ depth - 1
   pub power : span ≡ 4 ^ left
   pub few : k ≤ 8
-  pub room : TallyInvariant s out
+  pub invariant : TallyInvariant s out
   pub budget : s .budget ≡ s₀ .budget
   pub seen : 3 * s .seen ≤ k * 2 ^ 24
-  pub walked : (g : Region) → Prepared g xs es (countIn es) → TallyHolds (s .budget) out₀ (foundTo (depth - 1) g k) s out
+  pub tally : (g : Region) → Prepared g xs es (countIn es) → TallyHolds (s .budget) out₀ (foundTo (depth - 1) g k) s out
 
 module _ {depth : ℕ} {xs : List ℤ} {es : List ℕ} {ys : List ℤ} {ms : List ℕ} {left span : ℕ} {s₀ : Tally} {out₀ : List ℕ} where
   pub rooting-start : RootNeeds depth xs es s₀ out₀ → ActiveListsIn xs es ys ms → left ≡ depth - 1 → span ≡ 4 ^ left → Rooting depth xs es ys ms left span s₀ out₀ 0 s₀ out₀
   unfolding foundTo
   rooting-start n b e p = record {
     needs = n;
-    beside = b;
+    active = b;
     above = e;
     power = p;
     few = omega arith;
-    room = subst (λ q. TallyInvariant q out₀) (sym (n .fresh))
+    invariant = subst (λ q. TallyInvariant q out₀) (sym (n .fresh))
         (record {
           budget = n .budget;
           outer = omega arith;
@@ -297,7 +297,7 @@ module _ {depth : ℕ} {xs : List ℤ} {es : List ℕ} {ys : List ℤ} {ms : Lis
         });
     budget = refl;
     seen = omega (arith, ap (λ q. q .seen) (n .fresh));
-    walked = λ g p. subst (λ q. TallyHolds (q .budget) out₀ nothing q out₀) (sym (n .fresh)) (walk-start (s₀ .budget) out₀ (n .list) noHint);
+    tally = λ g p. subst (λ q. TallyHolds (q .budget) out₀ nothing q out₀) (sym (n .fresh)) (walk-start (s₀ .budget) out₀ (n .list) noHint);
   }
 
   module _ {k : ℕ} {s : Tally} {out : List ℕ} {ks : List ℤ} (d : Rooting depth xs es ys ms left span s₀ out₀ k s out) (few : k < 8) (h : StoredTrixel ks) where
@@ -305,7 +305,7 @@ module _ {depth : ℕ} {xs : List ℤ} {es : List ℕ} {ys : List ℤ} {ms : Lis
     root-needs = record {
       trixel = h;
       ready = d .needs .ready;
-      room = d .room;
+      invariant = d .invariant;
       level = root-level k left span (s .seen) few (omega (arith, d .above, d .needs .high)) (d .power) (d .seen);
     }
 
@@ -316,20 +316,20 @@ module _ {depth : ℕ} {xs : List ℤ} {es : List ℕ} {ys : List ℤ} {ms : Lis
         let one : suc k ≡ k + 1 = omega arith in
         record {
           needs = d .needs;
-          beside = d .beside;
+          active = d .active;
           above = d .above;
           power = d .power;
           few = omega arith;
-          room = v .room;
+          invariant = v .invariant;
           budget = v .budget ∙ d .budget;
           seen = root-seen left (s′ .seen) (s .seen) k (omega (arith, d .above, d .needs .high)) (omega (arith, v .seen)) (d .seen);
-          walked = λ g p.
+          tally = λ g p.
               subst (λ j. TallyHolds (s′ .budget) out₀ (foundTo (depth - 1) g j) s′ out′) one
-              (subst₂ (λ m t. TallyHolds (s′ .budget) out₀ (both (foundTo (depth - 1) g k) (visit m g t (8 + k))) s′ out′) (d .above) e (v .adds g p out₀ (foundTo (depth - 1) g k) (d .walked g p)));
+              (subst₂ (λ m t. TallyHolds (s′ .budget) out₀ (both (foundTo (depth - 1) g k) (visit m g t (8 + k))) s′ out′) (d .above) e (v .adds g p out₀ (foundTo (depth - 1) g k) (d .tally g p)));
         }
 
   pub rooted : {k : ℕ} {s : Tally} {out : List ℕ} → Rooting depth xs es ys ms left span s₀ out₀ k s out → 8 ≤ k → RootsGive depth xs es s₀ out₀ s out
-  rooted {k} d e = record { cut = λ g p. roots-done depth k g (omega (arith, d .few)) (d .walked g p); room = d .room; budget = d .budget }
+  rooted {k} d e = record { cut = λ g p. roots-done depth k g (omega (arith, d .few)) (d .tally g p); invariant = d .invariant; budget = d .budget }
 
 -- ---- the cover
 
@@ -341,11 +341,11 @@ cover-start {depth} {xs = xs} {es = es} {out = out} d r h e =
 -- what the end of both lists needs
 pub cover-contained : {depth : ℕ} {xs : List ℤ} {es : List ℕ} {s₀ s : Tally} {out₀ out : List ℕ} → RootsGive depth xs es s₀ out₀ s out → Ready xs es (countIn es) → depth ≤ 12
     → CountsContained s out
-cover-contained {depth} r h d = cutting-contained depth (h .0) (r .cut (h .0) (h .1)) (r .room .budget) (r .room .outer) d
+cover-contained {depth} r h d = cutting-contained depth (h .0) (r .cut (h .0) (h .1)) (r .invariant .budget) (r .invariant .outer) d
 
 pub cover-end : {depth b : ℕ} {xs : List ℤ} {es : List ℕ} {s₀ s : Tally} {out₀ out out′ : List ℕ} {c : Counts} → RootsGive depth xs es s₀ out₀ s out → s₀ ≡ noTally b
     → 4 * b ≤ length out₀ → Finishes s out c out′ → Covers xs es b depth out₀ c out′
 cover-end {depth} {b} {s = s} {out₀} {out} {out′} {c} r e long f g p =
     let same : s .budget ≡ b = r .budget ∙ ap (λ q. q .budget) e in
-    let w = walk-end (s .budget) out₀ (omega (arith, same)) (cutting depth g) s out out′ (f .inner) _ (r .cut g p) (r .room .budget) (r .room .outer) (f .behind) refl (outer-counted g depth (s .budget) (r .room .budget)) in
+    let w = walk-end (s .budget) out₀ (omega (arith, same)) (cutting depth g) s out out′ (f .inner) _ (r .cut g p) (r .invariant .budget) (r .invariant .outer) (f .behind) refl (outer-counted g depth (s .budget) (r .invariant .budget)) in
     subst (λ b. (c ≡ countsOf (listed b (cutting depth g))) × (out′ ≡ bothListed b (listed b (cutting depth g)) out₀)) same (f .counts ∙ w .0, w .1)

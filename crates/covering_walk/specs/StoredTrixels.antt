@@ -1,12 +1,12 @@
 -- Trixels as lists of numbers, as the cutting lends them to the next level, and what goes from a trixel to its children.
 --   trixelIn xs        the trixel of eighteen numbers: its corners, then its normals
 --   firstRayIn xs      the first ray behind it
---   withCorners t xs, withNormals t xs   the list with the corners of t, with its normals
+--   withCorners t xs   the list with the corners of t; withNormals: with its normals
 --   StoredTrixel xs    the list has a small trixel, and behind it the first ray of it
 --   OtherRays t j      j has the second and the third ray of t
---   ClassifiedOf t xs es j   j has the class of t for every region that was prepared to xs and es, and these rays
+--   ClassifiedOf ..    j has the class of t for every region that was prepared to xs and es, and these rays
 --   CutParts t c r j   what the children of t are made of: c is the cut of t, and r and j have its rays
---   StoredChild k t xs   the list has child number k of t, with its first ray
+--   StoredChild ..     the list has child number k of t, with its first ray
 use Prim.Native.Nat.{ℕ}
 use mathlib.Core.Path.{_≡_}
 use mathlib.Core.List.{List}
@@ -55,5 +55,5 @@ pub record CutParts (t : Trixel) (c : Cut) (r : Vec3) (j : ClassifiedTrixel) : T
   pub others : OtherRays t j
 
 pub record StoredChild (k : ℕ) (t : Trixel) (xs : List ℤ) : Type 0 where
-  pub kept : StoredTrixel xs
+  pub stored : StoredTrixel xs
   pub trixel : trixelIn xs ≡ child k t

@@ -1,12 +1,12 @@
 -- The cutting of a trixel, of its children and of the roots, as it goes on in the lent list. Document 01, 'The two lists'. `Adds` stands in
 -- covering_tally/specs/Tally.
---   foundIn l t, foundBelow l t   what is found in the trixel t of the level l, and in its four children; firstFound k l t: in the first k of them
---   Gives k left found ..   what the cutting of k trixels gives, each `left` levels above the depth: after whatever was found before there is `found`, for
+--   foundIn l t        what is found in the trixel t of the level l; foundBelow l t: in its four children; firstFound k l t: in the first k of them
+--   Gives ..           what the cutting of k trixels gives, each `left` levels above the depth: after whatever was found before there is `found`, for
 --                      every region that was prepared to xs and es
 --   Needs, CutNeeds    what the cutting of a trixel needs, and that of the children of a trixel which is seen already
---   AcceptedOrCut b j l ..   a trixel of the class of j: if b it is left out or accepted, else it is partial, and seen, and is to be cut
+--   AcceptedOrCut ..   a trixel of the class of j: if b it is left out or accepted, else it is partial, and seen, and is to be cut
 --   Dividing ..        the first k children are cut
---   RootNeeds, RootsGive   the same of the eight roots; Finishes: of the end of the inner list
+--   RootNeeds ..       the same of the eight roots, and RootsGive what they give; Finishes: of the end of the inner list
 --   LevelFits ..       how large identifiers and counts get: `span` is 4 to the power `left`
 --   ChildrenFit ..     the same for the four children of i: the LevelFits of the last, where the three before it have seen as many as they can
 --   RowsOf g n rs      rs begins with the n rows of g, which is as the region of an accepted file is; SomeRows: of some region; CoversRows: their cover
@@ -29,7 +29,7 @@ use Rattle.classify.specs.declared.Class.{Class}
 use Rattle.classify.specs.declared.Class.the-variants.{Partial}
 use Rattle.classify.specs.Classes.{regionClass}
 use Rattle.classify_prepared.specs.PreparedLists.{Prepared, countIn, Ready}
-use Rattle.classify_active.specs.Narrow.{ActiveListsIn}
+use Rattle.classify_active.specs.Active.{ActiveListsIn}
 use Rattle.ranges.proofs.Pushing.{innerEnd}
 use Rattle.ranges_stored.specs.Stored.{stateOf}
 use Rattle.ranges.specs.Ranges.{rangesIn}
@@ -76,20 +76,20 @@ pub record Divisible (l : Level) : Type 0 where
 pub record Needs (ks : List ℤ) (l : Level) (xs : List ℤ) (es : List ℕ) (s : Tally) (out : List ℕ) : Type 0 where
   pub trixel : StoredTrixel ks
   pub ready : Ready xs es (countIn es)
-  pub room : TallyInvariant s out
+  pub invariant : TallyInvariant s out
   pub level : LevelFits (l .id) (l .left) (l .span) (s .seen)
 
 pub record CutNeeds (ks : List ℤ) (j : ClassifiedTrixel) (l : Level) (xs : List ℤ) (es : List ℕ) (s : Tally) (out : List ℕ) : Type 0 where
   pub trixel : StoredTrixel ks
   pub rays : OtherRays (trixelIn ks) j
   pub ready : Ready xs es (countIn es)
-  pub room : TallyInvariant s out
+  pub invariant : TallyInvariant s out
   pub divisible : Divisible l
   pub level : ChildrenFit (l .id) (l .left - 1) (l .span / 4) (s .seen)
 
 pub record Gives (xs : List ℤ) (es : List ℕ) (k left : ℕ) (found : Region → Found) (s : Tally) (out : List ℕ) (s′ : Tally) (out′ : List ℕ) : Type 0 where
   pub adds : (g : Region) → Prepared g xs es (countIn es) → Adds (found g) s out s′ out′
-  pub room : TallyInvariant s′ out′
+  pub invariant : TallyInvariant s′ out′
   pub budget : s′ .budget ≡ s .budget
   pub seen : 3 * s′ .seen + k ≤ 3 * s .seen + k * 4 ^ suc left
 
@@ -111,7 +111,7 @@ pub record AcceptedOrCut (b : Bool) (j : ClassifiedTrixel) (l : Level) (s : Tall
 pub record Dividing (ks : List ℤ) (j : ClassifiedTrixel) (l : Level) (xs : List ℤ) (es : List ℕ) (ys : List ℤ) (ms : List ℕ) (s₀ : Tally) (out₀ : List ℕ)
     (t : Trixel) (c : Cut) (r : Vec3) (k : ℕ) (s : Tally) (out : List ℕ) : Type 0 where
   pub needs : CutNeeds ks j l xs es s₀ out₀
-  pub beside : ActiveListsIn xs es ys ms
+  pub active : ActiveListsIn xs es ys ms
   pub trixel : t ≡ trixelIn ks
   pub parts : CutParts t c r j
   pub few : k ≤ 4
@@ -133,7 +133,7 @@ pub record RootNeeds (depth : ℕ) (xs : List ℤ) (es : List ℕ) (s : Tally) (
 
 pub record RootsGive (depth : ℕ) (xs : List ℤ) (es : List ℕ) (s : Tally) (out : List ℕ) (s′ : Tally) (out′ : List ℕ) : Type 0 where
   pub cut : RootsCut xs es depth out s′ out′
-  pub room : TallyInvariant s′ out′
+  pub invariant : TallyInvariant s′ out′
   pub budget : s′ .budget ≡ s .budget
 
 -- no more ranges of the inner list come, and the counts are those of the lists

@@ -14,7 +14,7 @@ use vector::Vec3;
 ghost use mathlib.Core.Path.{_≡_};
 ghost use Prim.Native.Nat.{_-_, _<_};
 ghost use Rattle.classify_prepared.specs.PreparedLists.{countIn, Ready};
-ghost use Rattle.classify_active.specs.Narrow.{ActiveListsIn};
+ghost use Rattle.classify_active.specs.Active.{ActiveListsIn};
 ghost use Rattle.covering_tally.specs.Tally.{tallyIn, TallyInvariant};
 ghost use Rattle.covering_walk.specs.StoredTrixels.{trixelIn, firstRayIn, withCorners, withNormals, StoredTrixel, ClassifiedOf, CutParts, StoredChild};
 ghost use Rattle.covering_walk.specs.Walk.{foundIn, foundBelow, childLevel, LevelFits, Divisible, Needs, CutNeeds, Gives, AcceptedOrCut};
@@ -107,7 +107,7 @@ fn classify_trixel(
 {
     let t = trixel_in(trixel);
     let s = classify_prepared::measured(t, first_ray_in(trixel));
-    let class = classify_active::class_near(t, s, trixel, prepared, ends, active, stops);
+    let class = classify_active::class_beside(t, s, trixel, prepared, ends, active, stops);
     let y1 = s.r1;
     let y2 = s.r2;
     let second = y1.r;
@@ -200,8 +200,8 @@ fn store_child(sub: &mut TrixelNumbers, k: u64, t: Trixel, c: Cut, r: Vec3, j: C
     store_trixel(sub, last, classify_prepared::first_ray(last));
 }
 
-// The trixel of a level. The region was prepared to `prepared` and `ends`; the halfspaces that are active beside an anchor, if some are known, stand in `active` and
-// `stops`. The lists are in `out`, s is the tally.
+// The trixel of a level. The region was prepared to `prepared` and `ends`; the halfspaces that are active beside an anchor, if some are known, stand in
+// `active` and `stops`. The lists are in `out`, s is the tally.
 pub fn visit(
     trixel: &TrixelNumbers,
     level: Level,

@@ -1,5 +1,5 @@
--- The walk over entries in order, beside two lists that ascend: every entry gets the fate of the ranges that its identifier is in, since what the walk has left
--- behind has no identifier that still comes. So what is delivered and tested is told entry by entry. Assumes nothing.
+-- The walk over entries in order, beside two lists that ascend: every entry gets the disposition of the ranges that its identifier is in, since what
+-- the walk has left behind has no identifier that still comes. So what is delivered and tested is known entry by entry. Assumes nothing.
 use Prim.Native.Nat.{ℕ, suc, _-_, _/_, _^_, _≤_}
 use mathlib.Core.Path.{_≡_, refl, sym, ap, _∙_}
 use mathlib.Core.Bool.{Bool, true, false, cond, _&&_, false≢true}
@@ -23,7 +23,7 @@ use Rattle.index.proofs.OrderLaws.{eqZ-eq}
 use Rattle.vector.specs.Numbers.{eqZ}
 use Rattle.index.specs.HistoryCorrect as index
 use Rattle.frames.specs.declared.Disposition.{Disposition}
-use Rattle.frames.specs.Walk.{whole, shortened, numberOf, ahead, begins, fateOf, Met, met, walk, isDelivered, isTested, deliveredBy, testsOf}
+use Rattle.frames.specs.Walk.{whole, shortened, numberOf, ahead, begins, dispositionOf, Met, met, walk, isDelivered, isTested, deliveredBy, testsOf}
 use Rattle.frames.proofs.AheadLaws.{ahead-ascends, ahead-same, ahead-begins}
 
 -- ---- identifiers that do not fall
@@ -58,8 +58,8 @@ rising d (e ∷ es) a = rising-from d 0 e es (omega arith) a
 -- ---- by the ranges that an identifier is in
 
 -- what becomes of the entry e beside the outer ranges os and the inner ranges ns
-abbrev pub fateIn : ℕ → (Vec3 → Bool) → List Range → List Range → Entry → Disposition
-fateIn d held os ns e = fateOf held (inSome (shortened d e) ns) (inSome (shortened d e) os) (e .pointing)
+abbrev pub dispositionIn : ℕ → (Vec3 → Bool) → List Range → List Range → Entry → Disposition
+dispositionIn d held os ns e = dispositionOf held (inSome (shortened d e) ns) (inSome (shortened d e) os) (e .pointing)
 
 -- from i on an identifier is in a range of xs where it is in one of rs
 abbrev Same : ℕ → List Range → List Range → Type 0
@@ -67,7 +67,7 @@ Same i xs rs = (j : ℕ) → i ≤ j → inSome j xs ≡ inSome j rs
 
 module _ (d : ℕ) (held : Vec3 → Bool) (os ns : List Range) where
   walk-from : (i : ℕ) (es : List Entry) (xs ys : List Range) → Rising d i es → ranges.Ascends xs → ranges.Ascends ys → Same i xs os → Same i ys ns
-      → walk d held xs ys es ≡ map (λ e. met e (fateIn d held os ns e)) es
+      → walk d held xs ys es ≡ map (λ e. met e (dispositionIn d held os ns e)) es
   unfolding walk
   walk-from i [] xs ys r a b f g = refl
   walk-from i (e ∷ es) xs ys r a b f g =
@@ -76,9 +76,9 @@ module _ (d : ℕ) (held : Vec3 → Bool) (os ns : List Range) where
       let o : begins j (ahead j xs) ≡ inSome j os = ahead-begins j xs a ∙ f j (r .0) in
       let rest = walk-from j es (ahead j xs) (ahead j ys) (r .1) (ahead-ascends j xs a) (ahead-ascends j ys b)
       (λ k h. ahead-same j k h xs ∙ f k (omega (arith, r .0))) (λ k h. ahead-same j k h ys ∙ g k (omega (arith, r .0))) in
-      λ k. met e (fateOf held (n k) (o k) (e .pointing)) ∷ rest k
+      λ k. met e (dispositionOf held (n k) (o k) (e .pointing)) ∷ rest k
 
-  pub walk-all : (es : List Entry) → index.Ascends es → ranges.Ascends os → ranges.Ascends ns → walk d held os ns es ≡ map (λ e. met e (fateIn d held os ns e)) es
+  pub walk-all : (es : List Entry) → index.Ascends es → ranges.Ascends os → ranges.Ascends ns → walk d held os ns es ≡ map (λ e. met e (dispositionIn d held os ns e)) es
   walk-all es a b c = walk-from 0 es os ns (rising d es a) b c (λ j h. refl) (λ j h. refl)
 
   -- what is delivered and tested, entry by entry
@@ -89,14 +89,14 @@ module _ (d : ℕ) (held : Vec3 → Bool) (os ns : List Range) where
     delivered-only (e ∷ es) = by-test (isDelivered (F e)) (delivered-only es)
       where
         left : List Met
-        left = only (λ m. isDelivered (m .fate)) (map (λ x. met x (F x)) es)
+        left = only (λ m. isDelivered (m .disposition)) (map (λ x. met x (F x)) es)
 
         by-test : (t : Bool) → map (λ m. numberOf (m .entry)) left ≡ map numberOf (only (λ x. isDelivered (F x)) es)
             → map (λ m. numberOf (m .entry)) (cond t (met e (F e) ∷ left) left) ≡ map numberOf (cond t (e ∷ only (λ x. isDelivered (F x)) es) (only (λ x. isDelivered (F x)) es))
         by-test true r = ap (λ l. numberOf e ∷ l) r
         by-test false r = r
 
-    pub tallied : (f : Disposition → Bool) (es : List Entry) → tally (λ m. f (m .fate)) (map (λ e. met e (F e)) es) ≡ tally (λ e. f (F e)) es
+    pub tallied : (f : Disposition → Bool) (es : List Entry) → tally (λ m. f (m .disposition)) (map (λ e. met e (F e)) es) ≡ tally (λ e. f (F e)) es
     unfolding tally
     tallied f [] = refl
     tallied f (e ∷ es) = ap (λ n. cond (f (F e)) (suc n) n) (tallied f es)

@@ -1,7 +1,7 @@
 -- What the call answers, and what it leaves in the two lent lists. Document 02, F-12: owner is checked first, then the file, then the range list by its old
 -- rule; a list for the numbers of under 1024 elements is then refused as space, and nothing is written. Last, as for every call on an index, a list too short
 -- to be one is refused as space too.
---   framesInto o l f ranges numbers   the file whose frames are delivered, or the refusal: 18, the file's, 10
+--   framesInto ..       the file whose frames are delivered, or the refusal: 18, the file's, 10
 --   walkOf o l x        the walk over the entries of the owner o in the list l beside the cover of the file x
 --   framesBy ms         how many numbers a walk delivers, and how many tests it makes; framesList: as numbers, `frameCounts` of them
 --   framesAnswer        the same of the call

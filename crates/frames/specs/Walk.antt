@@ -4,13 +4,14 @@
 --   whole z            the number z; 0 where it is below 0, as in no entry of an index
 --   shortened d e      the identifier of the entry e, shortened to the depth d: divided by 4^(12 − d)
 --   numberOf e         the number of the entry e; 0 where it has more than 32 bits, as in no entry of an index
---   entriesOf o l      the entries of the owner o in the list l, in their order; no more than a share, which in an index they never are
+--   entriesOf o l      the entries of the owner o in the list l, in their order; at most an owner's capacity, and in an index all of them
 --   ahead i rs         the ranges rs from the first one on that does not end below the identifier i
 --   begins i rs        the first of rs begins at i or below it
---   fateOf held n o p  what becomes of an entry with the pointing p, by whether it is in an inner range, n, and in an outer one, o; `held` is the point test
+--   dispositionOf ..   what becomes of an entry with the pointing p, by whether it is in an inner range, and in an outer one; `held` is the point test
 --   Met                an entry, and what becomes of it
---   walk d held os ns es   the walk over the entries es beside the outer ranges os and the inner ranges ns, each of which it leaves behind as it passes them
---   isDelivered f      the fate f is that of an entry that is delivered; isTested f: of one that is put to the test
+--   walk d held ..     the walk over the entries es beside the outer ranges os and the inner ranges ns, each of which it leaves behind as it passes
+--                      them
+--   isDelivered f      the disposition f is that of an entry that is delivered; isTested f: of one that is put to the test
 --   deliveredBy ms     the numbers of those delivered, in their order; testsOf ms: how many tests were made
 use Prim.Native.Nat.{ℕ, _-_, _/_, _^_}
 use mathlib.Core.Bool.{Bool, true, false, cond, _&&_, _||_}
@@ -55,20 +56,20 @@ begins i (r ∷ rs) = leb (r .low) i
 
 -- ---- the walk
 
-abbrev pub fateOf : (Vec3 → Bool) → Bool → Bool → Vec3 → Disposition
-fateOf held inner outer p = cond inner Unchecked (cond outer (cond (isVector p && held p) Held Discarded) Skipped)
+abbrev pub dispositionOf : (Vec3 → Bool) → Bool → Bool → Vec3 → Disposition
+dispositionOf held inner outer p = cond inner Unchecked (cond outer (cond (isVector p && held p) Held Discarded) Skipped)
 
 pub record Met : Type 0 where
   pub entry : Entry
-  pub fate : Disposition
+  pub disposition : Disposition
 
 abbrev pub met : Entry → Disposition → Met
-met e f = record { entry = e; fate = f }
+met e f = record { entry = e; disposition = f }
 
 unfoldable pub walk : ℕ → (Vec3 → Bool) → List Range → List Range → List Entry → List Met
 walk d held os ns [] = []
 walk d held os ns (e ∷ es) =
-    met e (fateOf held (begins (shortened d e) (ahead (shortened d e) ns)) (begins (shortened d e) (ahead (shortened d e) os)) (e .pointing))
+    met e (dispositionOf held (begins (shortened d e) (ahead (shortened d e) ns)) (begins (shortened d e) (ahead (shortened d e) os)) (e .pointing))
     ∷ walk d held (ahead (shortened d e) os) (ahead (shortened d e) ns) es
 
 -- ---- what it delivers and counts
@@ -98,7 +99,7 @@ abbrev pub isTested : Disposition → Bool
 isTested f = isHeld f || isDiscarded f
 
 abbrev pub deliveredBy : List Met → List ℕ
-deliveredBy ms = map (λ m. numberOf (m .entry)) (only (λ m. isDelivered (m .fate)) ms)
+deliveredBy ms = map (λ m. numberOf (m .entry)) (only (λ m. isDelivered (m .disposition)) ms)
 
 abbrev pub testsOf : List Met → ℕ
-testsOf ms = tally (λ m. isTested (m .fate)) ms
+testsOf ms = tally (λ m. isTested (m .disposition)) ms

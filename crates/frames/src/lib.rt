@@ -1,6 +1,6 @@
 // The frames of a region in a single pass: the rules in specs/, the laws in proofs/, and the types that they name. Document 02, F-12.
 
-// What becomes of an entry: in no outer range, in an inner range, and in an outer range only, where the point test tells.
+// What becomes of an entry: in no outer range, in an inner range, and in an outer range only, where the point test decides.
 pub enum Disposition {
     Skipped,
     Unchecked,

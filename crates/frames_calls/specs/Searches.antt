@@ -1,5 +1,5 @@
 -- What a search leaves: the cover's lists and counts, and the walk beside them. The rules are those of frames/specs/Answers.
---   Leaves, SearchesRows   of a region; of every region that has these rows
+--   Leaves ..            what a search of a region leaves; SearchesRows: of every region that has these rows
 --   FileIs h rs          rs is what some file with the header h was decoded to
 --   deliveryOf t         the answer by the counts of a walk
 --   Answers ..           a call gave r, and left both lists, by the rule

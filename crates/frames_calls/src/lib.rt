@@ -109,8 +109,8 @@ fn frames_in(
     FramesOf::Gives(delivery(made.tests))
 }
 
-// The numbers of an owner's entries that the region of a file holds, from element 0 of `numbers` on, and the cover's lists in `ranges`; refusals 18, the file's,
-// then 10.
+// The numbers of an owner's entries that the region of a file holds, from element 0 of `numbers` on, and the cover's lists in `ranges`; refusals 18,
+// the file's, then 10.
 pub fn frames(
     index: &[i64],
     owner: u32,

@@ -1,6 +1,6 @@
 -- One entry more that was met: the numbers delivered are one more or as many, and so are the counts; and as many numbers are delivered, and tests made, as are
 -- counted. By
--- recursion over those met before, fate by fate. Assumes nothing.
+-- recursion over those met before, disposition by disposition. Assumes nothing.
 use Prim.Native.Nat.{ℕ, suc, _+_, _≤_}
 use mathlib.Core.Path.{_≡_, refl, sym, ap, _∙_}
 use mathlib.Core.Bool.{Bool, true, false, cond}
@@ -33,17 +33,17 @@ tally-last f (y ∷ xs) x = by-test (f y) (f x) (tally-last f xs x)
     by-test false u h = h
 
 pub counts-more : (ms : List Met) (e : Entry) (f : Disposition) → countsBy (ms ++ met e f ∷ []) ≡ noted (countsBy ms) f
-counts-more ms e f = (λ i. tests (tally-last (λ m. isUnchecked (m .fate)) ms (met e f) i) (tally-last (λ m. isHeld (m .fate)) ms (met e f) i) (tally-last (λ m. isDiscarded (m .fate)) ms (met e f) i))
-    ∙ by-fate f
+counts-more ms e f = (λ i. tests (tally-last (λ m. isUnchecked (m .disposition)) ms (met e f) i) (tally-last (λ m. isHeld (m .disposition)) ms (met e f) i) (tally-last (λ m. isDiscarded (m .disposition)) ms (met e f) i))
+    ∙ by-disposition f
   where
-    by-fate : (g : Disposition) → tests
+    by-disposition : (g : Disposition) → tests
         (cond (isUnchecked g) (countsBy ms .unchecked + 1) (countsBy ms .unchecked))
         (cond (isHeld g) (countsBy ms .held + 1) (countsBy ms .held))
         (cond (isDiscarded g) (countsBy ms .discarded + 1) (countsBy ms .discarded)) ≡ noted (countsBy ms) g
-    by-fate Skipped = refl
-    by-fate Unchecked = refl
-    by-fate Held = refl
-    by-fate Discarded = refl
+    by-disposition Skipped = refl
+    by-disposition Unchecked = refl
+    by-disposition Held = refl
+    by-disposition Discarded = refl
 
 -- no more than one more
 pub noted-most : (t : Tests) (f : Disposition) → noted t f .unchecked + noted t f .held + noted t f .discarded ≤ t .unchecked + t .held + t .discarded + 1
@@ -68,26 +68,26 @@ module _ (ms : List Met) where
 pub few-counted : (ms : List Met) → u ms + h ms + x ms ≤ length ms
 unfolding tally
 few-counted [] = omega arith
-few-counted (m ∷ ms) = by-fate (m .fate) (few-counted ms)
+few-counted (m ∷ ms) = by-disposition (m .disposition) (few-counted ms)
   where
-    by-fate : (g : Disposition) → u ms + h ms + x ms ≤ length ms
+    by-disposition : (g : Disposition) → u ms + h ms + x ms ≤ length ms
         → cond (isUnchecked g) (suc (u ms)) (u ms) + cond (isHeld g) (suc (h ms)) (h ms) + cond (isDiscarded g) (suc (x ms)) (x ms) ≤ suc (length ms)
-    by-fate Skipped e = omega arith
-    by-fate Unchecked e = omega arith
-    by-fate Held e = omega arith
-    by-fate Discarded e = omega arith
+    by-disposition Skipped e = omega arith
+    by-disposition Unchecked e = omega arith
+    by-disposition Held e = omega arith
+    by-disposition Discarded e = omega arith
 
 pub tests-counted : (ms : List Met) → testsOf ms ≡ h ms + x ms
 unfolding tally
 tests-counted [] = refl
-tests-counted (m ∷ ms) = by-fate (m .fate) (tests-counted ms)
+tests-counted (m ∷ ms) = by-disposition (m .disposition) (tests-counted ms)
   where
-    by-fate : (g : Disposition) → testsOf ms ≡ h ms + x ms
+    by-disposition : (g : Disposition) → testsOf ms ≡ h ms + x ms
         → cond (isTested g) (suc (testsOf ms)) (testsOf ms) ≡ cond (isHeld g) (suc (h ms)) (h ms) + cond (isDiscarded g) (suc (x ms)) (x ms)
-    by-fate Skipped e = e
-    by-fate Unchecked e = e
-    by-fate Held e = omega arith
-    by-fate Discarded e = omega arith
+    by-disposition Skipped e = e
+    by-disposition Unchecked e = e
+    by-disposition Held e = omega arith
+    by-disposition Discarded e = omega arith
 
 -- ---- the numbers
 
@@ -98,22 +98,22 @@ delivered-more : (ms : List Met) (e : Entry) (f : Disposition) → deliveredBy (
 unfolding only
 delivered-more [] e f = split (isDelivered f) (λ t. rw t) (λ t. rw t)
 delivered-more (m ∷ ms) e f =
-    split (isDelivered (m .fate))
+    split (isDelivered (m .disposition))
     (λ t. rw t (ap (λ ns. numberOf (m .entry) ∷ ns) (delivered-more ms e f)))
     (λ t. rw t (delivered-more ms e f))
 
 pub length-delivered : (ms : List Met) → length (deliveredBy ms) ≡ countsBy ms .unchecked + countsBy ms .held
 unfolding only tally
 length-delivered [] = refl
-length-delivered (m ∷ ms) = by-fate (m .fate) (length-delivered ms)
+length-delivered (m ∷ ms) = by-disposition (m .disposition) (length-delivered ms)
   where
-    by-fate : (g : Disposition) → length (deliveredBy ms) ≡ countsBy ms .unchecked + countsBy ms .held
-        → length (map (λ x. numberOf (x .entry)) (cond (isDelivered g) (m ∷ only (λ x. isDelivered (x .fate)) ms) (only (λ x. isDelivered (x .fate)) ms)))
+    by-disposition : (g : Disposition) → length (deliveredBy ms) ≡ countsBy ms .unchecked + countsBy ms .held
+        → length (map (λ x. numberOf (x .entry)) (cond (isDelivered g) (m ∷ only (λ x. isDelivered (x .disposition)) ms) (only (λ x. isDelivered (x .disposition)) ms)))
         ≡ cond (isUnchecked g) (suc (countsBy ms .unchecked)) (countsBy ms .unchecked) + cond (isHeld g) (suc (countsBy ms .held)) (countsBy ms .held)
-    by-fate Skipped h = h
-    by-fate Unchecked h = omega arith
-    by-fate Held h = omega arith
-    by-fate Discarded h = h
+    by-disposition Skipped h = h
+    by-disposition Unchecked h = omega arith
+    by-disposition Held h = omega arith
+    by-disposition Discarded h = h
 
 -- a number stored behind those delivered, where the entry is delivered
 pub numbers-more : (ms : List Met) (e : Entry) (f : Disposition) (before : List ℕ) → cond (isDelivered f)

@@ -18,7 +18,7 @@ use Rattle.index.specs.Entries.{isOwned, Width, entryAt, entriesFrom, countIn, 
 use Rattle.index_entries.proofs.EntryLaws.{entry-drop}
 use Rattle.region_points.specs.Points.{rowsHold}
 use Rattle.frames.specs.declared.Disposition.{Disposition}
-use Rattle.frames.specs.Walk.{whole, numberOf, entriesOf, ahead, begins, fateOf, Met, met, walk, isDelivered, deliveredBy}
+use Rattle.frames.specs.Walk.{whole, numberOf, entriesOf, ahead, begins, dispositionOf, Met, met, walk, isDelivered, deliveredBy}
 use Rattle.frames_walk.specs.declared.Lists.{Lists}
 use Rattle.frames_walk.specs.declared.WalkState.{WalkState}
 use Rattle.frames_walk.specs.Steps.{tests, noted, countsBy, outerOf, innerOf, left, Walking, Meets, Goes, Walks}
@@ -34,7 +34,7 @@ module _ (l : Lists) (ls : List ℕ) (rs : List ℤ) (n : ℕ) (e : Entry) (a : 
     pub inner : drop (b .inner) (innerOf l ls) ≡ ahead i (drop (a .inner) (innerOf l ls))
     pub in-inner : inside ≡ begins i (drop (b .inner) (innerOf l ls))
     pub in-outer : within ≡ begins i (drop (b .outer) (outerOf l ls))
-    pub fate : f ≡ fateOf (λ p. rowsHold p n rs) inside within (e .pointing)
+    pub disposition : f ≡ dispositionOf (λ p. rowsHold p n rs) inside within (e .pointing)
     pub met : b .met ≡ a .met + 1
     pub tests : b .tests ≡ noted (a .tests) f
     pub numbers : then ≡ cond (isDelivered f) (put (a .tests .unchecked + a .tests .held) (numberOf e ∷ []) now) now
@@ -48,7 +48,7 @@ module _ (l : Lists) (ls : List ℕ) (rs : List ℤ) (n : ℕ) (e : Entry) (a : 
       let ns = t .inner ∙ ap (λ x. ahead x (drop (a .inner) (innerOf l ls))) i in
       let ni = t .in-inner ∙ (λ j. begins (i j) (ns j)) in
       let oi = t .in-outer ∙ (λ j. begins (i j) (os j)) in
-      let g = t .fate ∙ (λ j. fateOf held (ni j) (oi j) (e .pointing)) in
+      let g = t .disposition ∙ (λ j. dispositionOf held (ni j) (oi j) (e .pointing)) in
       let ms : List Met = h .behind in
       record {
         behind = ms ++ met e f ∷ [];

@@ -1,9 +1,9 @@
 -- How far a walk is, and what a step of it does. The rule is `walk` of frames/specs/Walk.
---   noted t f, countsBy ms   one entry more, with the fate f, in the counts t; the counts of the entries met
---   outerOf l ls, innerOf l ls   the two lists that stand in the lent list ls by l
+--   noted t f          one entry more, with the disposition f, in the counts t; countsBy ms: the counts of the entries met
+--   outerOf l ls       the outer list that stands in the lent list ls by l; innerOf l ls: the inner list
 --   Lent l ls          the lent list has room for them
---   Fits l a           the place a is one of these lists, and of a walk over no more than a share of entries
---   left o m es        of the entries es those that a walk still meets: the owner's, as far as a share goes, after m of them
+--   Fits l a           the state a is one of these lists, and of a walk over no more entries than an owner's capacity
+--   left o m es        of the entries es those that a walk still meets: the owner's, up to an owner's capacity, after m of them
 --   Walking ..         a walk that meets `all` in all has met some of them, `es` are left, and `after` is the list `before` with the numbers delivered so far
 --   Walks ..           the whole walk
 --   Meets .., Goes ..  whatever was met before: a walk that had the entry e before it has it behind it; the same of any entry, whoever's it is
@@ -38,7 +38,7 @@ noted t Held = tests (t .unchecked) (t .held + 1) (t .discarded)
 noted t Discarded = tests (t .unchecked) (t .held) (t .discarded + 1)
 
 abbrev pub countsBy : List Met → Tests
-countsBy ms = tests (tally (λ m. isUnchecked (m .fate)) ms) (tally (λ m. isHeld (m .fate)) ms) (tally (λ m. isDiscarded (m .fate)) ms)
+countsBy ms = tests (tally (λ m. isUnchecked (m .disposition)) ms) (tally (λ m. isHeld (m .disposition)) ms) (tally (λ m. isDiscarded (m .disposition)) ms)
 
 -- ---- the lists
 

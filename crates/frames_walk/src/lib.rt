@@ -1,5 +1,5 @@
-// The walk over one owner's entries beside the two lists of a cover in lent memory, each gone through once. The rule is `walk` of frames/specs/Walk; specs/Steps
-// says how far a walk is.
+// The walk over one owner's entries beside the two lists of a cover in lent memory, each gone through once. The rule is `walk` of frames/specs/Walk;
+// specs/Steps says how far a walk is.
 use frames::Disposition;
 use index::Entry;
 use index::OWNER_CAPACITY;
@@ -17,7 +17,7 @@ ghost use Rattle.index.specs.Exposures.{OwnerCapacity};
 ghost use Rattle.index.specs.Entries.{IndexLength};
 ghost use Rattle.region_points.specs.Points.{rowsHold};
 ghost use Rattle.frames.specs.Walk as rule;
-ghost use Rattle.frames.specs.Walk.{fateOf, isDelivered, numberOf};
+ghost use Rattle.frames.specs.Walk.{dispositionOf, isDelivered, numberOf};
 ghost use Rattle.frames_walk.specs.Steps.{noted, Lent, Fits, Meets, Goes, Walks};
 
 // The two lists of a cover in a lent list: how many ranges the outer and the inner one have, the element at which the inner one begins, and how many
@@ -99,7 +99,7 @@ fn disposition_of(
     p: Vec3,
 ) -> Disposition
     requires { ⌜ 5 * count ≤ 2560 ⌝ }
-    ensures { λ r. ⌜ r ≡ fateOf (λ q. rowsHold q count (now (rows .entry))) inner outer p ⌝ }
+    ensures { λ r. ⌜ r ≡ dispositionOf (λ q. rowsHold q count (now (rows .entry))) inner outer p ⌝ }
 {
     if inner {
         return Disposition::Unchecked;
@@ -117,12 +117,12 @@ fn disposition_of(
     }
 }
 
-// One entry more with its fate.
-fn count_disposition(t: Tests, fate: Disposition) -> Tests
+// One entry more with its disposition.
+fn count_disposition(t: Tests, disposition: Disposition) -> Tests
     requires { ⌜ t .unchecked + t .held + t .discarded ≤ OwnerCapacity ⌝ }
-    ensures { λ r. ⌜ r ≡ noted t fate ⌝ }
+    ensures { λ r. ⌜ r ≡ noted t disposition ⌝ }
 {
-    match fate {
+    match disposition {
         Disposition::Skipped => t,
         Disposition::Unchecked => Tests {
             unchecked: t.unchecked + 1,
@@ -143,11 +143,11 @@ fn count_disposition(t: Tests, fate: Disposition) -> Tests
 }
 
 // Stores the number of an entry at place k, where it is delivered.
-fn deliver(numbers: &mut [u32], k: usize, e: Entry, fate: Disposition)
+fn deliver(numbers: &mut [u32], k: usize, e: Entry, disposition: Disposition)
     requires { ⌜ k < length (now numbers) ⌝ }
-    ensures { λ _. ⌜ now (numbers .exit) ≡ cond (isDelivered fate) (put k (numberOf e ∷ []) (now (numbers .entry))) (now (numbers .entry)) ⌝ }
+    ensures { λ _. ⌜ now (numbers .exit) ≡ cond (isDelivered disposition) (put k (numberOf e ∷ []) (now (numbers .entry))) (now (numbers .entry)) ⌝ }
 {
-    match fate {
+    match disposition {
         Disposition::Skipped => {}
         Disposition::Unchecked => {
             numbers[k] = number_of(e);
@@ -159,7 +159,7 @@ fn deliver(numbers: &mut [u32], k: usize, e: Entry, fate: Disposition)
     }
 }
 
-// The next entry of the owner: both lists go on to its identifier, and its fate is counted.
+// The next entry of the owner: both lists go on to its identifier, and its disposition is counted.
 fn visit_entry(
     e: Entry,
     at: WalkState,
@@ -178,7 +178,7 @@ fn visit_entry(
     let from = lists.from;
     let outer = ahead(ranges, lists.outer, at.outer, id);
     let inner = ahead(&ranges[from..], lists.inner, at.inner, id);
-    let fate = disposition_of(
+    let disposition = disposition_of(
         begins(&ranges[from..], lists.inner, inner, id),
         begins(ranges, lists.outer, outer, id),
         rows,
@@ -186,16 +186,21 @@ fn visit_entry(
         e.pointing,
     );
     let tests = at.tests;
-    deliver(numbers, (tests.unchecked + tests.held) as usize, e, fate);
+    deliver(
+        numbers,
+        (tests.unchecked + tests.held) as usize,
+        e,
+        disposition,
+    );
     WalkState {
         met: at.met + 1,
         outer: outer,
         inner: inner,
-        tests: count_disposition(tests, fate),
+        tests: count_disposition(tests, disposition),
     }
 }
 
-// The next entry, whoever's it is; the owner's are met as far as a share goes.
+// The next entry, whoever's it is; the owner's are met, up to an owner's capacity.
 fn visit_if_owned(
     e: Entry,
     owner: u32,

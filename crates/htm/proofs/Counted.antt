@@ -1,4 +1,4 @@
--- The ranges contain what the counts say: document 02, F-4, from the laws of the cutting (ContentsLaws of cutting). Assumes nothing.
+-- The ranges contain what the counts say: document 02, F-4, from the laws of the cutting (ContentsLaws of covering). Assumes nothing.
 use Prim.Native.Nat.{ℕ}
 use mathlib.Core.Path.{sym, subst, subst₂}
 use Rattle.region.specs.Regions.{Region}

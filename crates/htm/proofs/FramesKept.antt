@@ -1,6 +1,6 @@
--- The frames delivered are those that the region holds. In an index every entry is filed under its pointing's identifier, which shortened to the file's depth is
--- the lookup's there (`shorter`); so by demand 3 (`kept`) an entry in an inner range is held, and a held one is in an outer range. What is skipped is not held,
--- what is tested is told by the test. Nothing of the sky is proved again. Assumes nothing.
+-- The frames delivered are those that the region holds. In an index every entry is filed under its pointing's identifier, which shortened to the
+-- file's depth is the lookup's there (`shorter`); so by demand 3 (`kept`) an entry in an inner range is held, and a held one is in an outer range.
+-- What is skipped is not held, what is tested is decided by the test. Nothing of the sky is proved again. Assumes nothing.
 use Prim.Native.Nat.{ℕ, _-_, _*_, _/_, _^_, _≤_}
 use native.Mathlib.Omega.{arith}
 use mathlib.Core.Path.{_≡_, refl, sym, ap, subst, subst₂, subst₃, _∙_}
@@ -39,9 +39,9 @@ use Rattle.index.specs.HistoryCorrect.{Ascends, isFiled, IsIndex}
 use Rattle.index.proofs.OrderLaws.{eqZ-eq, only-ascends}
 use Rattle.index.proofs.TallyLaws.{some-tally}
 use Rattle.frames.specs.declared.Disposition.{Disposition}
-use Rattle.frames.specs.Walk.{whole, shortened, numberOf, entriesOf, fateOf, Met, met, walk, isDelivered, isTested, deliveredBy, testsOf}
+use Rattle.frames.specs.Walk.{whole, shortened, numberOf, entriesOf, dispositionOf, Met, met, walk, isDelivered, isTested, deliveredBy, testsOf}
 use Rattle.frames.specs.Answers.{framesInto, walkOf, framesBy, framesAnswer, rangesAfter, numbersAfter}
-use Rattle.frames.proofs.WalkLaws.{fateIn, walk-all, delivered-only, tallied, only-same, tally-same, only-every, only-length}
+use Rattle.frames.proofs.WalkLaws.{dispositionIn, walk-all, delivered-only, tallied, only-same, tally-same, only-every, only-length}
 use Rattle.htm.specs.Promise.{CoverSound}
 use Rattle.htm.specs.Answers.{coverInto, coverAnswer, bothLists, coverAfter}
 use Rattle.htm.specs.Frames.{entriesBy, outerOnly, Delivers, Frames, Delivered, FramesOfAnswers, FramesOfCalls}
@@ -82,7 +82,7 @@ numbers-back (e ∷ es) h =
     let r = numbers-back es (and-right (isFiled e) (every isFiled es) h) in
     λ i. filed e (and-left (isFiled e) (every isFiled es) h) .number i ∷ r i
 
--- ---- its fate
+-- ---- its disposition
 
 -- an identifier that is in one range is in some
 once-some : (i : ℕ) (rs : List Range) → tally (isIn i) rs ≡ 1 → inSome i rs ≡ true
@@ -90,14 +90,14 @@ once-some i rs e = some-tally (isIn i) rs ∙ ap (λ n. ltb 0 n) e
 
 -- by whether it is in an inner range, n, in an outer one, o, and held, h
 delivered-held : (held : Vec3 → Bool) (p : Vec3) (n o h : Bool) → isVector p ≡ true → held p ≡ h → (n ≡ true → h ≡ true) → (h ≡ true → o ≡ true)
-    → isDelivered (fateOf held n o p) ≡ h
+    → isDelivered (dispositionOf held n o p) ≡ h
 delivered-held held p true o h v e in-held held-out = sym (in-held refl)
 delivered-held held p false true true v e in-held held-out = ap (λ t. isDelivered (cond t Disposition.Held Disposition.Discarded)) (λ i. v i && e i)
 delivered-held held p false true false v e in-held held-out = ap (λ t. isDelivered (cond t Disposition.Held Disposition.Discarded)) (λ i. v i && e i)
 delivered-held held p false false true v e in-held held-out = absurd (false≢true (held-out refl))
 delivered-held held p false false false v e in-held held-out = refl
 
-tested-outer : (held : Vec3 → Bool) (p : Vec3) (n o : Bool) → isTested (fateOf held n o p) ≡ (o && not n)
+tested-outer : (held : Vec3 → Bool) (p : Vec3) (n o : Bool) → isTested (dispositionOf held n o p) ≡ (o && not n)
 tested-outer held p true true = refl
 tested-outer held p true false = refl
 tested-outer held p false true = split (isVector p && held p) (λ e. ap (λ t. isTested (cond t Disposition.Held Disposition.Discarded)) e) (λ e. ap (λ t. isTested (cond t Disposition.Held Disposition.Discarded)) e)
@@ -110,7 +110,7 @@ module _ (d b : ℕ) (g : Region) (low : 1 ≤ d) (high : d ≤ 12) where
   abbrev ns : List Range
   ns = coverOf d b g .inner
 
-  by-region : (e : Entry) → isFiled e ≡ true → isDelivered (fateIn d (holds g) os ns e) ≡ holds g (e .pointing)
+  by-region : (e : Entry) → isFiled e ≡ true → isDelivered (dispositionIn d (holds g) os ns e) ≡ holds g (e .pointing)
   by-region e h =
       let f = filed e h in
       let p = e .pointing in
@@ -121,7 +121,7 @@ module _ (d b : ℕ) (g : Region) (low : 1 ≤ d) (high : d ≤ 12) where
   -- the walk over entries of an index
   module _ (es : List Entry) (up : Ascends es) (all : every isFiled es ≡ true) where
     abbrev F : Entry → Disposition
-    F e = fateIn d (holds g) os ns e
+    F e = dispositionIn d (holds g) os ns e
 
     each : walk d (holds g) os ns es ≡ map (λ e. met e (F e)) es
     each = walk-all d (holds g) os ns es up (outer-proper d b g .ascends) (inner-proper d b g .ascends)
@@ -132,9 +132,9 @@ module _ (d b : ℕ) (g : Region) (low : 1 ≤ d) (high : d ≤ 12) where
         ap (map pos) (ap deliveredBy each ∙ delivered-only d (holds g) os ns F es ∙ ap (map numberOf) (only-same isFiled (λ e. isDelivered (F e)) (λ e. holds g (e .pointing)) by-region es all))
         ∙ numbers-back held (only-every (λ e. holds g (e .pointing)) isFiled es all)
 
-    held-delivered : tally (λ m. isDelivered (m .fate)) (walk d (holds g) os ns es) ≡ tally (λ e. holds g (e .pointing)) es
+    held-delivered : tally (λ m. isDelivered (m .disposition)) (walk d (holds g) os ns es) ≡ tally (λ e. holds g (e .pointing)) es
     held-delivered =
-        ap (tally (λ m. isDelivered (m .fate))) each ∙ tallied d (holds g) os ns F isDelivered es
+        ap (tally (λ m. isDelivered (m .disposition))) each ∙ tallied d (holds g) os ns F isDelivered es
         ∙ tally-same isFiled (λ e. isDelivered (F e)) (λ e. holds g (e .pointing)) by-region es all
 
     counted : testsOf (walk d (holds g) os ns es) ≡ tally (outerOnly d os ns) es
@@ -145,8 +145,8 @@ module _ (d b : ℕ) (g : Region) (low : 1 ≤ d) (high : d ≤ 12) where
 -- ---- the entries of an owner in an index
 
 module _ (l : List ℤ) (i : IsIndex l) (o : ℕ) where
-  pub share : entriesOf o l ≡ entriesBy o l
-  share = take-all OwnerCapacity (entriesBy o l) (omega (arith, only-length (isOwned o) (entriesIn l), i .share o))
+  pub all-own : entriesOf o l ≡ entriesBy o l
+  all-own = take-all OwnerCapacity (entriesBy o l) (omega (arith, only-length (isOwned o) (entriesIn l), i .within o))
 
   own-ascends : Ascends (entriesBy o l)
   own-ascends = only-ascends (isOwned o) (entriesIn l) (i .ascends)
@@ -161,15 +161,15 @@ pub delivers : (d b : ℕ) (g : Region) → 1 ≤ d → d ≤ 12 → (l : List �
 delivers d b g low high l i o =
     let w : List Entry → List Met = λ es. walk d (holds g) (coverOf d b g .outer) (coverOf d b g .inner) es in
     record {
-      exactly = ap (λ es. map pos (deliveredBy (w es))) (share l i o) ∙ exactly d b g low high (entriesBy o l) (own-ascends l i o) (own-filed l i o);
-      counted = ap (λ es. testsOf (w es)) (share l i o) ∙ counted d b g low high (entriesBy o l) (own-ascends l i o) (own-filed l i o);
+      exactly = ap (λ es. map pos (deliveredBy (w es))) (all-own l i o) ∙ exactly d b g low high (entriesBy o l) (own-ascends l i o) (own-filed l i o);
+      counted = ap (λ es. testsOf (w es)) (all-own l i o) ∙ counted d b g low high (entriesBy o l) (own-ascends l i o) (own-filed l i o);
     }
 
 -- as many as the region holds
 pub delivered-tally : (d b : ℕ) (g : Region) → 1 ≤ d → d ≤ 12 → (l : List ℤ) → IsIndex l → (o : ℕ)
-    → tally (λ m. isDelivered (m .fate)) (walk d (holds g) (coverOf d b g .outer) (coverOf d b g .inner) (entriesOf o l)) ≡ tally (λ e. holds g (e .pointing)) (entriesBy o l)
+    → tally (λ m. isDelivered (m .disposition)) (walk d (holds g) (coverOf d b g .outer) (coverOf d b g .inner) (entriesOf o l)) ≡ tally (λ e. holds g (e .pointing)) (entriesBy o l)
 delivered-tally d b g low high l i o =
-    ap (λ es. tally (λ m. isDelivered (m .fate)) (walk d (holds g) (coverOf d b g .outer) (coverOf d b g .inner) es)) (share l i o)
+    ap (λ es. tally (λ m. isDelivered (m .disposition)) (walk d (holds g) (coverOf d b g .outer) (coverOf d b g .inner) es)) (all-own l i o)
     ∙ held-delivered d b g low high (entriesBy o l) (own-ascends l i o) (own-filed l i o)
 
 pub frames-kept : Frames

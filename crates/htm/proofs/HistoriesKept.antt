@@ -1,4 +1,5 @@
--- Frames and trials after every history: the list that a history leaves is an index (`history-kept`), with the owner's own entries (`own-entries`). Assumes nothing.
+-- Frames and trials after every history: the list that a history leaves is an index (`history-kept`), with the owner's own entries (`own-entries`).
+-- Assumes nothing.
 use Prim.Native.Nat.{ℕ}
 use mathlib.Core.Path.{_≡_, refl, sym, ap, _∙_}
 use mathlib.Core.Bool.{Bool, true}
@@ -25,7 +26,7 @@ use Rattle.trial.specs.declared.Setting.{Setting}
 use Rattle.trial.specs.declared.SettingResult.{SettingResult}
 use Rattle.trial.specs.declared.Trial.{Trial}
 use Rattle.trial.specs.Trials.{coverBy, walkBy, skyOf, choiceOf, trialOf}
-use Rattle.trial.specs.Answers.{settled, roomFor, listsBy, trialAnswer, firstAfter, secondAfter}
+use Rattle.trial.specs.Answers.{checkSetting, roomFor, listsBy, trialAnswer, firstAfter, secondAfter}
 use Rattle.index.specs.HistoryCorrect.{IsIndex}
 use Rattle.index.specs.Apart.{Ran}
 use Rattle.index.proofs.HistoryKept.{history-kept}
@@ -66,11 +67,11 @@ frames-apart o h g rs qs m n r q e f ranges numbers =
       left = λ i. stored (λ x before. put 0 (deliveredBy (met (own i) x)) before) (into (long i)) numbers;
     }
 
-tried-by : List Met → Region → Setting → SettingResult
-tried-by ms g s = record {
-  unchecked = tally (λ m. isUnchecked (m .fate)) ms;
-  held = tally (λ m. isHeld (m .fate)) ms;
-  discarded = tally (λ m. isDiscarded (m .fate)) ms;
+result-by : List Met → Region → Setting → SettingResult
+result-by ms g s = record {
+  unchecked = tally (λ m. isUnchecked (m .disposition)) ms;
+  held = tally (λ m. isHeld (m .disposition)) ms;
+  discarded = tally (λ m. isDiscarded (m .disposition)) ms;
   outer = length (coverBy s g .outer);
   inner = length (coverBy s g .inner);
 }
@@ -78,14 +79,14 @@ tried-by ms g s = record {
 trial-by : List Entry → Region → Setting → Setting → Trial
 trial-by es g s t =
     let w : Setting → List Met = λ u. walk (u .depth) (holds g) (coverBy u g .outer) (coverBy u g .inner) (take OwnerCapacity es) in
-    record { first = tried-by (w s) g s; second = tried-by (w t) g t; choice = choiceOf (skyOf s g) (skyOf t g) }
+    record { first = result-by (w s) g s; second = result-by (w t) g t; choice = choiceOf (skyOf s g) (skyOf t g) }
 
 pub trials-apart : TrialsApart
-unfolding trialAnswer firstAfter secondAfter trialOf walkBy tried-by trial-by
+unfolding trialAnswer firstAfter secondAfter trialOf walkBy result-by trial-by
 trials-apart o h g rs qs m n r q e f s t first second =
     let long = both-long m n (left-index h rs m r) (left-index g qs n q) in
     let own = same-entries o h g rs qs m n r q e in
-    let into : Bool → Answer File = λ b. check Owner (isOwner o) (then (read f) (λ x. settled s (settled t (roomFor s first (roomFor t second (check Space b (gives x))))))) in
+    let into : Bool → Answer File = λ b. check Owner (isOwner o) (then (read f) (λ x. checkSetting s (checkSetting t (roomFor s first (roomFor t second (check Space b (gives x))))))) in
     record {
       answer = λ i. with-value (λ x. trial-by (own i) (x .region) s t) (into (long i));
       one = λ i. stored (listsBy s) (into (long i)) first;

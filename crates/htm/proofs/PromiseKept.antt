@@ -1,5 +1,5 @@
 -- The promise is kept: demand 3, for every vector and every accepted file, in one theorem.
--- The path of the point finds its identifier in the cutting's lists (CuttingLaws), and the budget's rules keep what is needed (Sound of ranges). Assumes nothing.
+-- The path of the point finds its identifier in the cutting's lists (CoverLaws), and the budget's rules keep what is needed (Sound of ranges). Assumes nothing.
 use Prim.Native.Nat.{ℕ}
 use Rattle.vector.specs.declared.Vec3.{Vec3}
 use Rattle.vector.proofs.VectorLaws.{Long, vector-long}

@@ -19,7 +19,7 @@ use Rattle.region.specs.Converting.{convert}
 use Rattle.region.specs.Answers.{headerOf, rowsInto, readInto, readAnswer, readAfter, fileInto, fileAnswer, fileAfter}
 use Rattle.region.proofs.ConvertLaws.{refusal-stays}
 use Rattle.covering.specs.Cover.{cover, countsOf, coverCounts, countsList}
-use Rattle.index.specs.Entries.{numbers, keeping}
+use Rattle.index.specs.Entries.{numbers, withEntries}
 use Rattle.index.specs.Exposures.{OwnerCapacity, isOwner}
 use Rattle.index.specs.Answers.{inList, beginning, adding, removing, beginAnswer, beginAfter, addAnswer, addAfter, removeAnswer, removeAfter}
 use Rattle.frames.specs.declared.Frames.{Frames}
@@ -31,7 +31,7 @@ use Rattle.htm.specs.CalledFromC.{entryAfterC, cornersForC, cornersAfter
 use Rattle.trial.specs.declared.Setting.{Setting}
 use Rattle.trial.specs.declared.Trial.{Trial}
 use Rattle.trial.specs.Trials.{trialOf}
-use Rattle.trial.specs.Answers.{settled, roomFor, trialInto, trialAnswer, listsBy, firstAfter, secondAfter, trialList}
+use Rattle.trial.specs.Answers.{checkSetting, roomFor, trialInto, trialAnswer, listsBy, firstAfter, secondAfter, trialList}
 use Rattle.trial.specs.Answers as trial
 use Rattle.htm_abi.specs.TrialValues.{settingAt}
 use Rattle.htm.specs.TrialFromC.{trialIntoC, trialForC, firstAfterC, secondAfterC, trialAfterC, chosenAfterC}
@@ -48,24 +48,24 @@ frames-refused o l f ranges numbers n e =
     check-then (isOwner o) (read f) rest ∙ ap (λ a. then a rest) e
 
 -- the same of a trial: the rooms come behind the settings
-settle-then : (f : File → Answer File) (x : File) (a b c d : Bool)
+check-setting-then : (f : File → Answer File) (x : File) (a b c d : Bool)
     → check Depth a (check Budget b (check Depth c (check Budget d (f x)))) ≡ then (check Depth a (check Budget b (check Depth c (check Budget d (gives x))))) f
-settle-then f x false b c d = refl
-settle-then f x true false c d = refl
-settle-then f x true true false d = refl
-settle-then f x true true true false = refl
-settle-then f x true true true true = refl
+check-setting-then f x false b c d = refl
+check-setting-then f x true false c d = refl
+check-setting-then f x true true false d = refl
+check-setting-then f x true true true false = refl
+check-setting-then f x true true true true = refl
 
 module _ (o : ℕ) (l : List ℤ) (f first second : List ℕ) (s t : Setting) where
   abbrev rooms : File → Answer File
   rooms x = roomFor s first (roomFor t second (inList l (gives x)))
 
-  behind : (b : Bool) (a : Answer File) → check Owner b (then a (λ x. settled s (settled t (rooms x)))) ≡ then (check Owner b (then a (λ x. settled s (settled t (gives x))))) rooms
+  behind : (b : Bool) (a : Answer File) → check Owner b (then a (λ x. checkSetting s (checkSetting t (rooms x)))) ≡ then (check Owner b (then a (λ x. checkSetting s (checkSetting t (gives x))))) rooms
   behind false a = refl
   behind true (refused n) = refl
-  behind true (gives x) = settle-then rooms x (isDepth (s .depth)) (isBudget (s .budget)) (isDepth (t .depth)) (isBudget (t .budget))
+  behind true (gives x) = check-setting-then rooms x (isDepth (s .depth)) (isBudget (s .budget)) (isDepth (t .depth)) (isBudget (t .budget))
 
-  trial-refused : (n : ℕ) → check Owner (isOwner o) (then (read f) (λ x. settled s (settled t (gives x)))) ≡ refused n → trialInto o l f s t first second ≡ refused n
+  trial-refused : (n : ℕ) → check Owner (isOwner o) (then (read f) (λ x. checkSetting s (checkSetting t (gives x)))) ≡ refused n → trialInto o l f s t first second ≡ refused n
   trial-refused n e = behind (isOwner o) (read f) ∙ ap (λ a. then a rooms) e
 
 -- for C: whether the settings are there or not, the owner and the file come first
@@ -74,7 +74,7 @@ module _ (o : ℕ) (l : List ℤ) (f ss first second numbers : List ℕ) (n : �
   owner-or-file g = check-then (isOwner o) (read f) g ∙ ap (λ a. then a g) e
 
   trial-c-refused : (b : Bool) → cond b (inBoth trial.trialCounts (trialInto o l f (settingAt ss 0) (settingAt ss 2) first second) numbers) (check Owner (isOwner o) (refusalOf f)) ≡ refused n
-  trial-c-refused true = ap (λ a. inBoth trial.trialCounts a numbers) (owner-or-file (λ x. settled (settingAt ss 0) (settled (settingAt ss 2) (rooms o l f first second (settingAt ss 0) (settingAt ss 2) x))))
+  trial-c-refused true = ap (λ a. inBoth trial.trialCounts a numbers) (owner-or-file (λ x. checkSetting (settingAt ss 0) (checkSetting (settingAt ss 2) (rooms o l f first second (settingAt ss 0) (settingAt ss 2) x))))
   trial-c-refused false = owner-or-file (λ x. refused Space)
 
 pub space-last : SpaceLast
@@ -106,9 +106,9 @@ lent-lists-stay = (
   λ i n out. ap (λ a. stored (λ c before. put 0 (cornersList c) before) a out),
   λ f n rows header e. (not-stored headerOf rowsInto (inBoth 3 (readInto f rows) header) rows n e, ap (λ a. stored (λ h before. put 0 (headerList h) before) a header) e),
   λ f n out counts e. (not-stored (λ x. countsOf (cover x)) bothLists (inBoth coverCounts (coverInto f out) counts) out n e, ap (λ a. stored (λ c before. put 0 (countsList c) before) a counts) e),
-  λ n l. not-stored (λ _. tt) keeping (beginning l) l n,
-  λ x n l. not-stored (λ _. tt) keeping (adding x l) l n,
-  λ k n l. not-stored (λ _. tt) keeping (removing k l) l n,
+  λ n l. not-stored (λ _. tt) withEntries (beginning l) l n,
+  λ x n l. not-stored (λ _. tt) withEntries (adding x l) l n,
+  λ k n l. not-stored (λ _. tt) withEntries (removing k l) l n,
   λ i n l out. ap (λ a. stored (λ e before. put 0 (numbers e) before) a out),
   λ o n l f ranges numbers e.
       let a = framesInto o l f ranges numbers in

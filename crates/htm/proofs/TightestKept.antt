@@ -1,4 +1,4 @@
--- The outer list is the tightest for its budget: document 02, F-9. The accepted ranges lie among the identifiers at the depth (CuttingLaws of cutting), and
+-- The outer list is the tightest for its budget: document 02, F-9. The accepted ranges lie among the identifiers at the depth (CoverLaws of covering), and
 -- of ranges in a stretch the outer list is the tightest (Tightest of ranges). Assumes nothing.
 use Prim.Native.Nat.{ℕ, suc, _+_, _-_, _*_, _^_, _≤_}
 use native.Mathlib.Nat.{pow-suc}

@@ -19,8 +19,8 @@ use Rattle.index.specs.Answers.{inList}
 use Rattle.trial.specs.declared.Setting.{Setting}
 use Rattle.trial.specs.declared.Trial.{Trial}
 use Rattle.trial.specs.Trials.{trialOf}
-use Rattle.trial.specs.Answers.{settled, roomFor, trialInto, trialAnswer, listsBy, firstAfter, secondAfter, trialList, trialCounts, partBy}
-use Rattle.htm_abi.specs.TrialValues.{settingAt, trialIn, unsettledOr, anywayRefused}
+use Rattle.trial.specs.Answers.{checkSetting, roomFor, trialInto, trialAnswer, listsBy, firstAfter, secondAfter, trialList, trialCounts, partBy}
+use Rattle.htm_abi.specs.TrialValues.{settingAt, trialIn, settingRefusalOr, anywayRefused}
 use Rattle.htm_abi.specs.Values.{statusOf, refusalOf}
 use Rattle.htm.specs.CalledFromC.{inBoth}
 use Rattle.htm.specs.TrialFromC.{trialIntoC, trialForC, firstAfterC, secondAfterC, trialAfterC, partList, chosenForC, chosenAfterC}
@@ -44,10 +44,10 @@ module _ (o : ℕ) (l : List ℤ) (f ss first second numbers : List ℕ) where
     pub numbers-left : ns ≡ trialAfterC o l f ss first second numbers
 
   -- what there is to write, or the refusal
-  tried-by : (a : Answer File) → trialIntoC o l f ss first second numbers ≡ a
+  lists-by : (a : Answer File) → trialIntoC o l f ss first second numbers ≡ a
       → TrialLists (statusOf (with-value value a)) (stored (listsBy s) a first) (stored (listsBy t) a second) (stored (λ r before. put 0 (trialList r) before) (with-value value a) numbers)
   unfolding trialForC firstAfterC secondAfterC trialAfterC
-  tried-by a e = record {
+  lists-by a e = record {
     status-is = ap (λ b. statusOf (with-value value b)) (sym e);
     first-left = ap (λ b. stored (listsBy s) b first) (sym e);
     second-left = ap (λ b. stored (listsBy t) b second) (sym e);
@@ -55,7 +55,7 @@ module _ (o : ℕ) (l : List ℤ) (f ss first second numbers : List ℕ) where
   }
 
   pub refused-trial : (n : ℕ) → trialIntoC o l f ss first second numbers ≡ refused n → TrialLists (statusOf {A = File} (refused n)) first second numbers
-  refused-trial n e = tried-by (refused n) e
+  refused-trial n e = lists-by (refused n) e
 
   -- too few numbers for the settings
   module _ (h : length ss < 4) where
@@ -100,8 +100,8 @@ module _ (o : ℕ) (l : List ℤ) (f ss first second numbers : List ℕ) where
       in-any-case x true true true true true true true = refl
 
       refusals : (b : Bool) (a : Answer File)
-          → refusing (check Owner b (then a (λ x. settled s (settled t (roomFor s first (roomFor t second (inList l (gives x))))))))
-          ≡ check Owner b (then a (λ x. unsettledOr s t))
+          → refusing (check Owner b (then a (λ x. checkSetting s (checkSetting t (roomFor s first (roomFor t second (inList l (gives x))))))))
+          ≡ check Owner b (then a (λ x. settingRefusalOr s t))
       refusals false a = refl
       refusals true (refused n) = refl
       refusals true (gives x) =
@@ -121,7 +121,7 @@ module _ (o : ℕ) (l : List ℤ) (f ss first second numbers : List ℕ) where
           → TrialLists (statusOf a) xs ys (stored (λ r before. put 0 (trialList r) before) a numbers)
       unfolding trialAnswer firstAfter secondAfter
       long-numbers a xs ys e g q =
-          let w = tried-by (trialInto o l f s t first second) (said ∙ enough (trialInto o l f s t first second)) in
+          let w = lists-by (trialInto o l f s t first second) (said ∙ enough (trialInto o l f s t first second)) in
           record {
             status-is = ap statusOf e ∙ w .status-is;
             first-left = g ∙ w .first-left;

@@ -33,7 +33,7 @@ use Rattle.trial.specs.declared.Setting.{Setting}
 use Rattle.trial.specs.declared.Trial.{Trial}
 use Rattle.trial.specs.declared.TrialOf.{TrialOf}
 use Rattle.trial.specs.Trials.{isSetting, coverBy, walkBy, skyOf, choiceOf, trialOf}
-use Rattle.trial.specs.Answers.{trialInto, trialAnswer, listsBy, firstAfter, secondAfter, fitting, partBy, partOf, settled, roomFor}
+use Rattle.trial.specs.Answers.{trialInto, trialAnswer, listsBy, firstAfter, secondAfter, fitting, partBy, partOf, checkSetting, roomFor}
 use Rattle.htm.specs.Frames.{entriesBy}
 use Rattle.htm.specs.Trials.{heldBy, SameHeld, Trials, chosenOf, Smaller, Tries, TrialsOfAnswers, TrialsOfCalls}
 use Rattle.htm.proofs.PromiseKept.{outer-proper}
@@ -42,29 +42,29 @@ use Rattle.htm.proofs.FramesKept.{delivered-tally}
 -- ---- what is delivered
 
 -- unchecked and held are the ways to be delivered
-both-ways : (ms : List Met) → tally (λ m. isUnchecked (m .fate)) ms + tally (λ m. isHeld (m .fate)) ms ≡ tally (λ m. isDelivered (m .fate)) ms
+both-ways : (ms : List Met) → tally (λ m. isUnchecked (m .disposition)) ms + tally (λ m. isHeld (m .disposition)) ms ≡ tally (λ m. isDelivered (m .disposition)) ms
 unfolding tally
 both-ways [] = refl
-both-ways (m ∷ ms) = by-fate (m .fate) (both-ways ms)
+both-ways (m ∷ ms) = by-disposition (m .disposition) (both-ways ms)
   where
     u : ℕ
-    u = tally (λ k. isUnchecked (k .fate)) ms
+    u = tally (λ k. isUnchecked (k .disposition)) ms
 
     h : ℕ
-    h = tally (λ k. isHeld (k .fate)) ms
+    h = tally (λ k. isHeld (k .disposition)) ms
 
     d : ℕ
-    d = tally (λ k. isDelivered (k .fate)) ms
+    d = tally (λ k. isDelivered (k .disposition)) ms
 
-    by-fate : (f : Disposition) → u + h ≡ d → cond (isUnchecked f) (suc u) u + cond (isHeld f) (suc h) h ≡ cond (isDelivered f) (suc d) d
-    by-fate Skipped e = e
-    by-fate Unchecked e = omega arith
-    by-fate Held e = omega arith
-    by-fate Discarded e = e
+    by-disposition : (f : Disposition) → u + h ≡ d → cond (isUnchecked f) (suc u) u + cond (isHeld f) (suc h) h ≡ cond (isDelivered f) (suc d) d
+    by-disposition Skipped e = e
+    by-disposition Unchecked e = omega arith
+    by-disposition Held e = omega arith
+    by-disposition Discarded e = e
 
 module _ (o : ℕ) (l : List ℤ) (g : Region) (i : IsIndex l) where
   under : (s : Setting) → isDepth (s .depth) ≡ true
-      → tally (λ m. isUnchecked (m .fate)) (walkBy o l g s) + tally (λ m. isHeld (m .fate)) (walkBy o l g s) ≡ heldBy o l g
+      → tally (λ m. isUnchecked (m .disposition)) (walkBy o l g s) + tally (λ m. isHeld (m .disposition)) (walkBy o l g s) ≡ heldBy o l g
   unfolding walkBy
   under s h = let d = depth-range (s .depth) h in both-ways (walkBy o l g s) ∙ delivered-tally (s .depth) (s .budget) g (d .0) (d .1) l i o
 
@@ -103,8 +103,8 @@ into o l f s t first second x e =
     let a5 : File → Answer File = λ y. inList l (gives y) in
     let a4 : File → Answer File = λ y. roomFor t second (a5 y) in
     let a3 : File → Answer File = λ y. roomFor s first (a4 y) in
-    let a2 : File → Answer File = λ y. settled t (a3 y) in
-    let a1 : File → Answer File = λ y. settled s (a2 y) in
+    let a2 : File → Answer File = λ y. checkSetting t (a3 y) in
+    let a1 : File → Answer File = λ y. checkSetting s (a2 y) in
     let v = then-gives (read f) a1 x (check-gives Owner (isOwner o) (then (read f) a1) x e) in
     let y = v .0 in
     let sd = isDepth (s .depth) in

@@ -1,10 +1,10 @@
 -- What the cover, the lookups of a report and of a catalogue line and the C entry answer, and what the cover's lent list holds afterwards. Document 01,
 -- 'The two lists' and 'What is sent back'; document 02, F-1 and F-3.
 -- The answers of the other calls: `lookup`, `identifierOf`, `corners`, `nameAnswer` (mesh); `readAnswer`, `writeAnswer`, `pointTest` (region).
---   located p d        the lookup of a pointing in another form: 5, then what p is refused with, then the ordinary lookup, which refuses 8
---   lookupReport r d   the lookup of a mount's report: 5, 12, 8
---   locateLine l d     the lookup of a catalogue line: 5, 13, 8
---   lookupForC x y z d   the lookup from C: the identifier, or 0 for a refusal
+--   located p d            the lookup of a pointing in another form: 5, then what p is refused with, then the ordinary lookup, which refuses 8
+--   lookupReport r d       the lookup of a mount's report: 5, 12, 8
+--   locateLine l d         the lookup of a catalogue line: 5, 13, 8
+--   lookupForC x y z d     the lookup from C: the identifier, or 0 for a refusal
 --   coverInto f before     the file that is covered, or its refusal, with 10 after all other checks
 --   coverAnswer f before   the counts: both lists', seen, full, partial and swallowed
 --   coverAfter f before    the list afterwards: the outer list at element 0, the inner list at element 2 × budget

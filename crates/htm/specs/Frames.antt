@@ -1,9 +1,9 @@
 -- All frames of a region in a single pass. Document 02, F-12: the delivered numbers are exactly that owner's entries which the region holds, in index order,
 -- and the count of point tests made equals the entries in outer but not in inner ranges. The range list ends as the cover leaves it.
 --   entriesBy o l       the entries of the owner o in the index l, in index order
---   outerOnly d os ns e   the entry e, shortened to the depth d, is in a range of os but in none of ns
---   Delivers o l g d os ns numbers tests   these numbers and this count of tests are what is said above, of the owner o, the index l, the region g, and the
---                       outer and the inner ranges os and ns at the depth d
+--   outerOnly ..        the entry e, shortened to the depth d, is in a range of os but in none of ns
+--   Delivers ..         these numbers and this count of tests are what is said above, of the owner o, the index l, the region g, and the outer
+--                       and the inner ranges os and ns at the depth d
 --   Frames              of the rules: of every index and every accepted file
 --   FramesOfAnswers     of what the call answers, and of the two lent lists afterwards
 --   FramesOfCalls       of values that meet the call's contract

@@ -3,8 +3,8 @@
 -- conversions (`convert`) and the cover; for C also the corners, and the reader and the cover with a second list. (The calls for C that answer a length have
 -- the rules of the others.)
 -- Those that write into an index are begin, add and remove; there 10 says that the list is no index, and comes before what is asked of one. The frames of a
--- region write into two lists, for C into three; there 10 comes after the owner and the file. A trial writes into two buffers, for C also into a list of numbers;
--- there 10 comes after the settings too.
+-- region write into two lists, for C into three; there 10 comes after the owner and the file. A trial writes into two buffers, for C also into a list of
+-- numbers; there 10 comes after the settings too.
 --   SpaceLast     what is refused for another reason keeps its number, whatever list is lent
 --   LentListsStay where a call refuses, every lent list is as it was
 use Prim.Native.Nat.{ℕ}
@@ -24,7 +24,7 @@ use Rattle.index.specs.Exposures.{isOwner, Exposure, Key}
 use Rattle.index.specs.Answers.{beginAnswer, beginAfter, addAnswer, addAfter, removeAnswer, removeAfter}
 use Rattle.frames.specs.Answers.{framesAnswer, rangesAfter, numbersAfter}
 use Rattle.trial.specs.declared.Setting.{Setting}
-use Rattle.trial.specs.Answers.{settled, trialAnswer, firstAfter, secondAfter}
+use Rattle.trial.specs.Answers.{checkSetting, trialAnswer, firstAfter, secondAfter}
 use Rattle.htm.specs.Answers.{coverAnswer, coverAfter}
 use Rattle.htm.specs.CalledFromC.{entryForC, entryAfterC, cornersForC, cornersAfterC, readForC, rowsAfterC, headerAfterC, coverForC, coverAfterC, countsAfterC, framesForC, rangesAfterC, numbersAfterC, framesAfterC}
 use Rattle.htm.specs.TrialFromC.{trialForC, firstAfterC, secondAfterC, trialAfterC, chosenForC, chosenAfterC}
@@ -42,7 +42,7 @@ SpaceLast =
     × ((o n : ℕ) (l : List ℤ) (f ranges numbers : List ℕ) → check Owner (isOwner o) (read f) ≡ refused n → framesAnswer o l f ranges numbers ≡ refused n)
     × ((o n : ℕ) (l : List ℤ) (f ranges numbers counts : List ℕ) → check Owner (isOwner o) (read f) ≡ refused n
     → framesForC o l f ranges numbers counts ≡ refused n)
-    × ((o n : ℕ) (l : List ℤ) (f first second : List ℕ) (s t : Setting) → check Owner (isOwner o) (then (read f) (λ x. settled s (settled t (gives x)))) ≡ refused n
+    × ((o n : ℕ) (l : List ℤ) (f first second : List ℕ) (s t : Setting) → check Owner (isOwner o) (then (read f) (λ x. checkSetting s (checkSetting t (gives x)))) ≡ refused n
     → trialAnswer o l f s t first second ≡ refused n)
     × ((o n : ℕ) (l : List ℤ) (f ss first second numbers : List ℕ) → check Owner (isOwner o) (read f) ≡ refused n
     → trialForC o l f ss first second numbers ≡ refused n)

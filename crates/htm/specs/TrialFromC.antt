@@ -2,7 +2,7 @@
 -- list is written. How settings and results stand in lists: htm_abi/specs/TrialValues.
 --   trialIntoC ..       the file that is tried, or the refusal: 18, the file's, 10 where fewer than four numbers say the settings, then as for `trial`, and 10
 --                       where the list of numbers has fewer than eleven elements
---   trialForC .., firstAfterC, secondAfterC, trialAfterC   what both settings come to; the two buffers and the list of numbers afterwards (`trialList`)
+--   trialForC .., firstAfterC, secondAfterC, trialAfterC   both results; the two buffers and the list of numbers afterwards (`trialList`)
 --   chosenForC ..       which buffer, and how many of its elements are the part that is handed back (`partBy`); refusal 10 where the list of numbers has
 --                       fewer than eleven elements, or that for the answer fewer than two; chosenAfterC: the list for the answer afterwards
 --   ReadBack            what `htm_trial` left is what `htm_chosen` reads: the same result

@@ -3,9 +3,10 @@
 --   heldBy o l g       how many entries of the owner o in the index l the region g holds
 --   SameHeld n r       under both settings of the trial r, what is delivered unchecked plus what is tested and held is n
 --   Trials             of the rules: of every index, owner, accepted file and pair of good settings
---   chosenOf n s t     the setting that the choice n names; Smaller n s t g: its outer list spans no more than either, and the first is chosen if they are equal
+--   chosenOf n s t     the setting that the choice n names; Smaller n s t g: its outer list spans no more than either, and the first is chosen if they
+--                      are equal
 --   Tries ..           of a trial's answer and the part that the second call hands back: the same, and the part has the chosen setting's outer list
---   TrialsOfAnswers, TrialsOfCalls   of what the calls answer; of values that meet their contracts
+--   TrialsOfAnswers    of what the calls answer; TrialsOfCalls: of values that meet their contracts
 -- All are proved: proofs/TrialsKept.
 use Prim.Native.Nat.{ℕ, _+_, _≤_, _<_}
 use mathlib.Core.Path.{_≡_}

@@ -1,5 +1,6 @@
 // The public face: every exported call; those for a host in C stand in from_c.rt and index_from_c.rt. Each answers by the rule that its contract
-// names, for good and bad input alike, and none has a `requires`. A refusal carries its number only (crate answer), and then every lent element keeps its value.
+// names, for good and bad input alike, and none has a `requires`. A refusal carries its number only (crate answer), and then every lent element keeps
+// its value.
 use answer::DEPTH;
 use answer::Number;
 use answer::SPACE;
@@ -226,9 +227,9 @@ pub fn frames(
     frames_calls::frames(index, owner, file, ranges, numbers)
 }
 
-// A trial of one region under two settings, each a depth and a budget that stand in for the header's: the two lists of each in its buffer, what both come to,
-// and the choice. Refusals 18, the file's, 5 and 6 of the first setting, 5 and 6 of the second, then 10 where a buffer has fewer than 4 × its budget elements, or
-// `index` fewer than index::INDEX_LENGTH.
+// A trial of one region under two settings, each a depth and a budget that stand in for the header's: the two lists of each in its buffer, both results,
+// and the choice. Refusals 18, the file's, 5 and 6 of the first setting, 5 and 6 of the second, then 10 where a buffer has fewer than 4 × its budget
+// elements, or `index` fewer than index::INDEX_LENGTH.
 pub fn trial(
     index: &[i64],
     owner: u32,

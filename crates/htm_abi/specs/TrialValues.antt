@@ -14,7 +14,7 @@ use Rattle.index.specs.Exposures.{isOwner}
 use Rattle.trial.specs.declared.Setting.{Setting}
 use Rattle.trial.specs.declared.SettingResult.{SettingResult}
 use Rattle.trial.specs.declared.Trial.{Trial}
-use Rattle.trial.specs.Answers.{settled}
+use Rattle.trial.specs.Answers.{checkSetting}
 
 abbrev pub settingAt : List ℕ → ℕ → Setting
 settingAt ss k = record { depth = getD ss k 0; budget = getD ss (k + 1) 0 }
@@ -22,8 +22,8 @@ settingAt ss k = record { depth = getD ss k 0; budget = getD ss (k + 1) 0 }
 abbrev pub whichOf : ℕ → ℕ
 whichOf n = cond (eqb n 1) 1 (cond (eqb n 2) 2 0)
 
-abbrev pub triedIn : List ℕ → ℕ → SettingResult
-triedIn ns k = record {
+abbrev pub resultIn : List ℕ → ℕ → SettingResult
+resultIn ns k = record {
   unchecked = getD ns k 0;
   held = getD ns (k + 1) 0;
   discarded = getD ns (k + 2) 0;
@@ -32,11 +32,11 @@ triedIn ns k = record {
 }
 
 abbrev pub trialIn : List ℕ → Trial
-trialIn ns = record { first = triedIn ns 0; second = triedIn ns 5; choice = whichOf (getD ns 10 0) }
+trialIn ns = record { first = resultIn ns 0; second = resultIn ns 5; choice = whichOf (getD ns 10 0) }
 
 -- behind the file's checks
-abbrev pub unsettledOr : Setting → Setting → Answer File
-unsettledOr s t = settled s (settled t (refused Space))
+abbrev pub settingRefusalOr : Setting → Setting → Answer File
+settingRefusalOr s t = checkSetting s (checkSetting t (refused Space))
 
 abbrev pub anywayRefused : ℕ → List ℕ → Setting → Setting → Answer File
-anywayRefused o f s t = check Owner (isOwner o) (then (read f) (λ x. unsettledOr s t))
+anywayRefused o f s t = check Owner (isOwner o) (then (read f) (λ x. settingRefusalOr s t))

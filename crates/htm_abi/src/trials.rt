@@ -15,7 +15,7 @@ ghost use Rattle.answer.specs.Answer.{refused};
 ghost use mathlib.Core.List.{[], _∷_};
 ghost use Rattle.answer.specs.Lent.{put};
 ghost use Rattle.trial.specs.Answers.{trialCounts, partBy};
-ghost use Rattle.htm_abi.specs.TrialValues.{settingAt, whichOf, triedIn, trialIn, unsettledOr, anywayRefused};
+ghost use Rattle.htm_abi.specs.TrialValues.{settingAt, whichOf, resultIn, trialIn, settingRefusalOr, anywayRefused};
 ghost use Rattle.trial.specs.Answers.{trialList};
 
 // The setting whose depth and budget stand at element k.
@@ -39,10 +39,10 @@ fn which_of(n: u64) -> u32
     if n == 2 { 2 } else { 0 }
 }
 
-// What one setting came to, from element k on.
-fn tried_at(numbers: &[u64], k: usize) -> SettingResult
+// The result of one setting, from element k on.
+fn result_at(numbers: &[u64], k: usize) -> SettingResult
     requires { ⌜ k + 5 ≤ length (now numbers) ⌝ }
-    ensures { λ r. ⌜ r ≡ triedIn (now (numbers .entry)) k ⌝ }
+    ensures { λ r. ⌜ r ≡ resultIn (now (numbers .entry)) k ⌝ }
 {
     SettingResult {
         unchecked: numbers[k],
@@ -58,8 +58,8 @@ pub fn trial_at(numbers: &[u64]) -> Trial
     requires { ⌜ trialCounts ≤ length (now numbers) ⌝ }
     ensures { λ r. ⌜ r ≡ trialIn (now (numbers .entry)) ⌝ }
 {
-    let first = tried_at(numbers, 0);
-    let second = tried_at(numbers, 5);
+    let first = result_at(numbers, 0);
+    let second = result_at(numbers, 5);
     Trial {
         first: first,
         second: second,
@@ -77,20 +77,20 @@ pub fn refused_anyway(owner: u32, file: &[u8], s: Setting, t: Setting) -> u32
     let mut rows = [0i32; 5 * HALFSPACES];
     let said = region_reader::decode(file, &mut rows);
     match said {
-        HeaderOf::Gives(_) => unsettled_or_space(s, t),
+        HeaderOf::Gives(_) => setting_refusal_or_space(s, t),
         HeaderOf::Refused(n) => n,
     }
 }
 
 // 5 or 6 of the first setting that is none; else 10.
-fn unsettled_or_space(s: Setting, t: Setting) -> u32
-    ensures { λ r. ⌜ unsettledOr s t ≡ refused r ⌝ }
+fn setting_refusal_or_space(s: Setting, t: Setting) -> u32
+    ensures { λ r. ⌜ settingRefusalOr s t ≡ refused r ⌝ }
 {
-    let one = trial_calls::unsettled(s);
+    let one = trial_calls::setting_refusal(s);
     if one != 0 {
         return one;
     }
-    let two = trial_calls::unsettled(t);
+    let two = trial_calls::setting_refusal(t);
     if two != 0 { two } else { SPACE }
 }
 
@@ -111,7 +111,7 @@ pub fn put_part(list: &mut [u64], which: u32, n: usize)
     list[1] = n as u64;
 }
 
-// What both settings come to, at the beginning of a list.
+// The results of both settings, at the beginning of a list.
 pub fn put_trial(numbers: &mut [u64], r: Trial)
     requires { ⌜ trialCounts ≤ length (now numbers) ⌝ }
     ensures { λ _. ⌜ now (numbers .exit) ≡ put 0 (trialList r) (now (numbers .entry)) ⌝ }

@@ -1,5 +1,5 @@
--- Worked examples, by computing: a history on an index where two places are an owner's share, with every refusal and a place that serves again; what the owner
--- is answered is what its own calls alone are; and the order of the entries. Assumes nothing.
+-- Worked examples, by computing: a history on an index where two entries are an owner's capacity, with every refusal and a place that serves again;
+-- what the owner is answered is what its own calls alone are; and the order of the entries. Assumes nothing.
 use Prim.Native.Nat.{ℕ}
 use mathlib.Core.Path.{_≡_, refl}
 use mathlib.Core.List.{List, [], _∷_}
@@ -15,7 +15,7 @@ use Rattle.index.specs.Apart.{callsOf, answersTo}
 abbrev north : ℕ → ℕ → Exposure
 north o n = exposure o n (pos 0) (pos 0) (pos 1048576)
 
--- 8 is no vector, 15 a number that is there, 16 a full share, 17 a number that is not there; in the place of number 1, number 3 is taken at last
+-- 8 is no vector, 15 a number that is there, 16 a full owner, 17 a number that is not there; in the place of number 1, number 3 is taken at last
 abbrev calls : List Call
 calls =
     adds (north 0 1) ∷ adds (exposure 0 2 (pos 0) (pos 0) (pos 5)) ∷ adds (north 0 1) ∷ adds (north 0 2) ∷ adds (north 0 3) ∷ removes (key 0 3) ∷ removes (key 0 1) ∷ adds (north 0 3) ∷ []
@@ -25,7 +25,7 @@ pub history-example : (answersOf 2 calls ≡ gives tt ∷ refused 8 ∷ refused 
 unfolding some tally isVector only contentFrom answersFrom
 history-example = (refl, refl)
 
--- the other owner has number 1 too, may not remove number 2, which is not its own, and fills its share; a third is no owner, whatever it asks
+-- the other owner has number 1 too, may not remove number 2, which is not its own, and is full; a third is no owner, whatever it asks
 abbrev both : List Call
 both =
     adds (north 1 1) ∷ adds (north 0 1) ∷ adds (north 0 2) ∷ removes (key 1 2) ∷ adds (north 1 2) ∷ adds (north 1 3) ∷ adds (exposure 2 1 (pos 0) (pos 0) (pos 5)) ∷ removes (key 2 1)

@@ -21,10 +21,10 @@ use Rattle.mesh.specs.Lookup.{identifier}
 use Rattle.index.specs.declared.Entry.{Entry}
 use Rattle.index.specs.declared.Change.{Change}
 use Rattle.index.specs.Exposures.{IndexCapacity, OwnerCapacity, isOwner, Exposure, isNumber, Key, key, keyOf, hasOwner, hasKey, hasPlace, Call, adds, removes, without, giving, leaving, answered, contentFrom, contentOf, answersFrom}
-use Rattle.index.specs.Entries.{IndexLength, entryOf, isOwned, isKeyed, countOf, entriesFrom, entriesIn, keeping, inserted, withdrawn, hasRoom}
+use Rattle.index.specs.Entries.{IndexLength, entryOf, isOwned, isKeyed, countOf, entriesFrom, entriesIn, withEntries, inserted, withdrawn, hasRoom}
 use Rattle.index.specs.Answers.{adding, removing, addAnswer, addAfter, removeAnswer, removeAfter, beginAnswer, beginAfter, countAnswer, changeGiven}
 use Rattle.index.specs.HistoryCorrect.{Holds, isFiled, IsIndex, IsEmpty, callAnswer, callAfter, Runs, numbered, Numbered, ServesAgain, HistoryCorrect}
-use Rattle.index.proofs.WrittenLaws.{keeping-long, in-keeping, length-in}
+use Rattle.index.proofs.WrittenLaws.{with-entries-long, entries-with, length-in}
 use Rattle.index.proofs.TallyLaws.{some-tally, tally-all, all-pass, parted, either-passes, both-fewer, only-tally, inserted-tally, inserted-length, withdrawn-tally, withdrawn-fewer}
 use Rattle.index.proofs.OrderLaws.{inserted-ascends, withdrawn-ascends, eqZ-eq, eqZ-refl}
 
@@ -43,7 +43,7 @@ isExposure x = isNumber (x .number) && isOwner (x .owner) && isVector (x .pointi
 pub record Files (xs : List Exposure) (es : List Entry) : Type 0 where
   pub holds : Holds xs es
   pub few : length es ≤ IndexCapacity
-  pub share : (o : ℕ) → tally (hasOwner o) xs ≤ OwnerCapacity
+  pub within : (o : ℕ) → tally (hasOwner o) xs ≤ OwnerCapacity
   pub single : (k : Key) → tally (hasKey k) xs ≤ 1
   pub proper : tally (λ x. not (isExposure x)) xs ≡ 0
 
@@ -66,10 +66,10 @@ module _ (xs : List Exposure) (es : List Entry) (h : Files xs es) where
           exactly = λ g. inserted-tally g e es ∙ ap (λ m. cond (g e) (suc m) m) (h .holds .exactly g);
         };
         few = omega (arith, inserted-length e es);
-        share = λ w.
+        within = λ w.
             split (hasOwner w x)
             (λ t. subst (λ b. cond b (suc (tally (hasOwner w) xs)) (tally (hasOwner w) xs) ≤ OwnerCapacity) (sym t) (subst (λ m. tally (hasOwner m) xs < OwnerCapacity) (eqb-true (x .owner) w t) p))
-            (λ t. subst (λ b. cond b (suc (tally (hasOwner w) xs)) (tally (hasOwner w) xs) ≤ OwnerCapacity) (sym t) (h .share w));
+            (λ t. subst (λ b. cond b (suc (tally (hasOwner w) xs)) (tally (hasOwner w) xs) ≤ OwnerCapacity) (sym t) (h .within w));
         single = λ n.
             split (hasKey n x)
             (λ t. let z : tally (hasKey n) xs ≡ 0 = ap (λ m. tally (hasKey m) xs) (sym (key-of n x t)) ∙ none in
@@ -89,7 +89,7 @@ module _ (xs : List Exposure) (es : List Entry) (h : Files xs es) where
           exactly = λ g. withdrawn-tally g n es one ∙ h .holds .exactly (λ e. g e && not (isKeyed n e)) ∙ sym (only-tally (λ x. g (entryOf x)) (λ x. not (hasKey n x)) xs);
         };
         few = omega (arith, withdrawn-fewer n es, h .few);
-        share = λ o. omega (arith, left (hasOwner o), h .share o);
+        within = λ o. omega (arith, left (hasOwner o), h .within o);
         single = λ m. omega (arith, left (hasKey m), h .single m);
         proper = omega (arith, left (λ x. not (isExposure x)), h .proper);
       }
@@ -145,7 +145,7 @@ is-index xs l s =
       long = s .long;
       counted = s .counted;
       few = f .few;
-      share = λ o. omega (arith, f .holds .exactly (isOwned o), f .share o);
+      within = λ o. omega (arith, f .holds .exactly (isOwned o), f .within o);
       ascends = f .holds .ascends;
       differ = λ n. omega (arith, f .holds .exactly (isKeyed n), f .single n);
       filed = all-pass isFiled (entriesIn l) (f .holds .exactly (λ e. not (isFiled e)) ∙ (λ i. tally (λ x. not (filed x i)) xs) ∙ f .proper);
@@ -158,7 +158,7 @@ filed-owner e f =
     let v = isVector (e .pointing) in
     and-right n w (and-left (n && w) v (and-left (n && w && v) (eqZ (e .id) (pos (identifier (e .pointing) 12))) f))
 
--- the entries are those of two owners: where one has a place there is room, since the other has no more than a share
+-- the entries are those of two owners: where one has a place there is room, since the other has no more than its capacity
 room-left : (l : List ℤ) (o : ℕ) → IsIndex l → isOwner o ≡ true → hasPlace OwnerCapacity (isOwned o) (entriesIn l) ≡ true → hasRoom (entriesIn l) ≡ true
 room-left l o is w p =
     let es = entriesIn l in
@@ -167,8 +167,8 @@ room-left l o is w p =
     lt-ltb (length es) IndexCapacity (by-owner o (ltb-true o 2 w) less both)
   where
     by-owner : (o : ℕ) → o < 2 → tally (isOwned o) (entriesIn l) < OwnerCapacity → length (entriesIn l) ≤ tally (isOwned 0) (entriesIn l) + tally (isOwned 1) (entriesIn l) → length (entriesIn l) < IndexCapacity
-    by-owner zero w h b = omega (arith, is .share 1)
-    by-owner (suc zero) w h b = omega (arith, is .share 0)
+    by-owner zero w h b = omega (arith, is .within 1)
+    by-owner (suc zero) w h b = omega (arith, is .within 0)
     by-owner (suc (suc o)) w h b = absurd (omega arith)
 
 -- ---- what a call answers on the entries is what the rule answers
@@ -202,26 +202,26 @@ agrees (removes k) xs l u s =
 
 -- ---- one call
 
-kept-stands : (xs : List Exposure) (es : List Entry) (l : List ℤ) → IndexLength ≤ length l → Files xs es → Stands xs (keeping es l)
-unfolding keeping
-kept-stands xs es l h f =
-    let e : es ≡ entriesIn (keeping es l) = sym (in-keeping es l (f .few) h) in
-    record { long = keeping-long es l (f .few) h; counted = ap (λ x. pos (length x)) e; files = subst (Files xs) e f }
+stored-stands : (xs : List Exposure) (es : List Entry) (l : List ℤ) → IndexLength ≤ length l → Files xs es → Stands xs (withEntries es l)
+unfolding withEntries
+stored-stands xs es l h f =
+    let e : es ≡ entriesIn (withEntries es l) = sym (entries-with es l (f .few) h) in
+    record { long = with-entries-long es l (f .few) h; counted = ap (λ x. pos (length x)) e; files = subst (Files xs) e f }
 
 module _ (xs : List Exposure) (l m : List ℤ) (r : Change) (s : Stands xs l) where
-  one-call : (a : Answer (List Entry)) (b : Answer (List Exposure)) → Agree a b → changeGiven r ≡ answered a → m ≡ stored keeping a l
+  one-call : (a : Answer (List Entry)) (b : Answer (List Exposure)) → Agree a b → changeGiven r ≡ answered a → m ≡ stored withEntries a l
       → (changeGiven r ≡ answered b) × Stands (leaving b xs) m
   one-call (refused i) (refused j) e c d = (c ∙ ap refused e, subst (Stands xs) (sym d) s)
   one-call (refused i) (gives ys) e c d = absurd e
   one-call (gives es) (refused j) e c d = absurd e
-  one-call (gives es) (gives ys) e c d = (c, subst (Stands ys) (sym d) (kept-stands ys es l (s .long) e))
+  one-call (gives es) (gives ys) e c d = (c, subst (Stands ys) (sym d) (stored-stands ys es l (s .long) e))
 
 does-answer : (c : Call) (l : List ℤ) → callAnswer c l ≡ answered (calling c l)
 unfolding addAnswer removeAnswer
 does-answer (adds x) l = refl
 does-answer (removes k) l = refl
 
-does-after : (c : Call) (l : List ℤ) → callAfter c l ≡ stored keeping (calling c l) l
+does-after : (c : Call) (l : List ℤ) → callAfter c l ≡ stored withEntries (calling c l) l
 unfolding addAfter removeAfter
 does-after (adds x) l = refl
 does-after (removes k) l = refl
@@ -266,7 +266,7 @@ serves-again xs few = record {
 
 none-files : Files [] []
 unfolding tally
-none-files = record { holds = record { ascends = tt; exactly = λ g. refl }; few = omega arith; share = λ o. omega arith; single = λ n. omega arith; proper = refl }
+none-files = record { holds = record { ascends = tt; exactly = λ g. refl }; few = omega arith; within = λ o. omega arith; single = λ n. omega arith; proper = refl }
 
 empty-stands : (l : List ℤ) → IndexLength ≤ length l → getD l 0 (pos 0) ≡ pos 0 → Stands [] l
 unfolding entriesIn entriesFrom
@@ -287,10 +287,10 @@ zeros-first [] h e = absurd (omega arith)
 zeros-first (z ∷ l) h e = sym (eqZ-eq (pos 0) z (and-left (eqZ (pos 0) z) (every (eqZ (pos 0)) l) e))
 
 begins : (l : List ℤ) → IndexLength ≤ length l → (beginAnswer l ≡ gives tt) × IsEmpty (beginAfter l)
-unfolding beginAnswer beginAfter keeping
+unfolding beginAnswer beginAfter withEntries
 begins l h =
     let t : leb IndexLength (length l) ≡ true = le-leb IndexLength (length l) h in
-    let after : IsEmpty (keeping [] l) = empty-index (keeping [] l) (keeping-long [] l (omega arith) h) refl in
+    let after : IsEmpty (withEntries [] l) = empty-index (withEntries [] l) (with-entries-long [] l (omega arith) h) refl in
     (rw t refl, rw t after)
 
 -- ---- all of it
@@ -308,6 +308,6 @@ history-kept = record {
   kept = λ l n h rs e u runs.
       let o = run h rs l n [] u (is-empty l e) runs in
       let xs = contentOf OwnerCapacity h in
-      record { answers = o .0; index = is-index xs n (o .1); content = o .1 .files .holds; count = counts xs n (o .1); again = serves-again xs (o .1 .files .share) };
+      record { answers = o .0; index = is-index xs n (o .1); content = o .1 .files .holds; count = counts xs n (o .1); again = serves-again xs (o .1 .files .within) };
   room = room-left;
 }

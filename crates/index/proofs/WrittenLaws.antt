@@ -10,7 +10,7 @@ use Rattle.answer.specs.Answer.{gives, Space}
 use Rattle.answer.proofs.AnswerLaws.{check-gives, same-value}
 use Rattle.index.specs.declared.Entry.{Entry}
 use Rattle.index.specs.Exposures.{IndexCapacity}
-use Rattle.index.specs.Entries.{Width, IndexLength, countOf, countIn, entriesFrom, entriesIn, written, keeping}
+use Rattle.index.specs.Entries.{Width, IndexLength, countOf, countIn, entriesFrom, entriesIn, written, withEntries}
 use Rattle.index.specs.Answers.{countAnswer}
 
 pub length-entries : (n : ℕ) (l : List ℤ) → length (entriesFrom n l) ≡ n
@@ -30,13 +30,13 @@ length-written (e ∷ es) l h = omega (arith, length-written es (drop Width l) (
 
 -- an index keeps its length, and its entries are those that it was given
 module _ (es : List Entry) (l : List ℤ) (few : length es ≤ IndexCapacity) (long : IndexLength ≤ length l) where
-  pub keeping-long : IndexLength ≤ length (keeping es l)
-  unfolding keeping
-  keeping-long = omega (arith, length-written es (drop 1 l) (omega (arith, length-drop 1 l)), length-drop 1 l)
+  pub with-entries-long : IndexLength ≤ length (withEntries es l)
+  unfolding withEntries
+  with-entries-long = omega (arith, length-written es (drop 1 l) (omega (arith, length-drop 1 l)), length-drop 1 l)
 
-  pub in-keeping : entriesIn (keeping es l) ≡ es
-  unfolding keeping entriesIn
-  in-keeping = let e : min (length es) IndexCapacity ≡ length es = omega arith in ap (λ n. entriesFrom n (written es (drop 1 l))) e ∙ in-written es (drop 1 l)
+  pub entries-with : entriesIn (withEntries es l) ≡ es
+  unfolding withEntries entriesIn
+  entries-with = let e : min (length es) IndexCapacity ≡ length es = omega arith in ap (λ n. entriesFrom n (written es (drop 1 l))) e ∙ in-written es (drop 1 l)
 
 pub length-in : (l : List ℤ) → length (entriesIn l) ≡ countIn l
 unfolding entriesIn

@@ -1,5 +1,5 @@
--- What the calls answer, and what they leave in the lent list. Document 02, F-10 and F-11. An owner is checked before all else. A list of fewer than IndexLength
--- elements is no index, and refused as space, 10; of any other the entries are those that `entriesIn` reads, also where no history leaves it.
+-- What the calls answer, and what they leave in the lent list. Document 02, F-10 and F-11. An owner is checked before all else. A list of fewer than
+-- IndexLength elements is no index, and refused as space, 10; of any other the entries are those that `entriesIn` reads, also where no history leaves it.
 --   adding x l, removing k l, beginning l   the entries after the call, or its refusal: 18, 8, 10, 15, 16; 18, 10, 17; 10
 --   addAnswer, removeAnswer, beginAnswer    what the call answers: that it was done, or its refusal
 --   addAfter, removeAfter, beginAfter       the list afterwards: the entries in the place of the old ones, or all as it was after a refusal
@@ -18,7 +18,7 @@ use Rattle.index.specs.declared.Entry.{Entry}
 use Rattle.index.specs.declared.Change.{Change}
 use Rattle.index.specs.declared.EntryOf.{EntryOf}
 use Rattle.index.specs.Exposures.{isOwner, Exposure, Key, keyOf, answered}
-use Rattle.index.specs.Entries.{IndexLength, entryOf, countIn, entriesIn, keeping, entering, withdrawing, placed}
+use Rattle.index.specs.Entries.{IndexLength, entryOf, countIn, entriesIn, withEntries, entering, withdrawing, placed}
 
 -- what is answered on a list that is long enough
 abbrev pub inList : {A : Type 0} → List ℤ → Answer A → Answer A
@@ -37,19 +37,19 @@ unfoldable pub addAnswer : Exposure → List ℤ → Answer (Unit {0})
 addAnswer x l = answered (adding x l)
 
 unfoldable pub addAfter : Exposure → List ℤ → List ℤ
-addAfter x l = stored keeping (adding x l) l
+addAfter x l = stored withEntries (adding x l) l
 
 unfoldable pub removeAnswer : Key → List ℤ → Answer (Unit {0})
 removeAnswer k l = answered (removing k l)
 
 unfoldable pub removeAfter : Key → List ℤ → List ℤ
-removeAfter k l = stored keeping (removing k l) l
+removeAfter k l = stored withEntries (removing k l) l
 
 unfoldable pub beginAnswer : List ℤ → Answer (Unit {0})
 beginAnswer l = answered (beginning l)
 
 unfoldable pub beginAfter : List ℤ → List ℤ
-beginAfter l = stored keeping (beginning l) l
+beginAfter l = stored withEntries (beginning l) l
 
 unfoldable pub countAnswer : List ℤ → Answer ℕ
 countAnswer l = inList l (gives (countIn l))

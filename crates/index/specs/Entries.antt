@@ -13,11 +13,11 @@
 --   countIn l         the count that the list l says: none where it is below 0, and no more than IndexCapacity
 --   entriesIn l       the entries in the list l
 --   written es l      the list l without count with the entries es at its front; the other elements stay
---   keeping es l      the list l with the entries es in the place of its own
+--   withEntries es l  the list l with the entries es in the place of its own
 --   inserted e es     e before those entries at the end that it precedes
 --   withdrawn k es    without the first entry that has the key k
 --   hasRoom es        one entry more has a place in the list, whoever's it is
---   entering, withdrawing   the entries after an add and after a removal, or the refusal: 15 twice, 16 full; 17 absent
+--   entering          the entries after an add, or the refusal: 15 twice, 16 full; withdrawing: after a removal, or 17 absent
 --   placed i es       the entry at place i, counted from 0, or the refusal 17
 use Prim.Native.Nat.{ℕ, zero, suc, _+_, _*_, min}
 use mathlib.Core.Bool.{Bool, cond, not, _&&_, _||_}
@@ -90,8 +90,8 @@ unfoldable pub written : List Entry → List ℤ → List ℤ
 written [] l = l
 written (e ∷ es) l = numbers e ++ written es (drop Width l)
 
-unfoldable pub keeping : List Entry → List ℤ → List ℤ
-keeping es l = pos (length es) ∷ written es (drop 1 l)
+unfoldable pub withEntries : List Entry → List ℤ → List ℤ
+withEntries es l = pos (length es) ∷ written es (drop 1 l)
 
 -- ---- one entry more, one less, one by its place
 
@@ -103,7 +103,7 @@ unfoldable pub withdrawn : Key → List Entry → List Entry
 withdrawn k [] = []
 withdrawn k (x ∷ es) = cond (isKeyed k x) es (x ∷ withdrawn k es)
 
--- In an index this is so wherever the entry's owner has a place (`Kept .room`); it is asked for the sake of other lists.
+-- In an index this is so wherever the entry's owner has a place (`HistoryCorrect .room`); it is asked for the sake of other lists.
 abbrev pub hasRoom : List Entry → Bool
 hasRoom es = ltb (length es) IndexCapacity
 

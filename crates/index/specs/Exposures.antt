@@ -1,7 +1,7 @@
 -- Exposures of two owners, and what a history of adds and removes leaves. Document 02, F-10: up to 2048 exposures, each an unsigned 32-bit number and a
 -- pointing, added and removed singly; over every list of adds and removes from an empty index, the content is the set that the accepted ones leave.
 -- F-11: an owner, 0 or 1, who may have 1024; one number may be used by both.
---   IndexCapacity, OwnerCapacity   the most exposures that an index holds, and the most of one owner
+--   IndexCapacity     the most exposures that an index holds; OwnerCapacity: the most of one owner
 --   isOwner o         0 or 1
 --   Exposure          an owner, a number and a pointing; exposed o n p, exposure o n x y z: the one of these
 --   isNumber n        an unsigned 32-bit number
@@ -82,13 +82,13 @@ abbrev pub without : Key → List Exposure → List Exposure
 without k xs = only (λ x. not (hasKey k x)) xs
 
 abbrev pub giving : ℕ → Call → List Exposure → Answer (List Exposure)
-giving share (adds x) xs =
+giving capacity (adds x) xs =
     check Owner (isOwner (x .owner))
     (check Vector (isVector (x .pointing))
     (check Twice (not (some (hasKey (keyOf x)) xs))
-    (check Full (hasPlace share (hasOwner (x .owner)) xs)
+    (check Full (hasPlace capacity (hasOwner (x .owner)) xs)
     (gives (x ∷ xs)))))
-giving share (removes k) xs = check Owner (isOwner (k .owner)) (check Absent (some (hasKey k) xs) (gives (without k xs)))
+giving capacity (removes k) xs = check Owner (isOwner (k .owner)) (check Absent (some (hasKey k) xs) (gives (without k xs)))
 
 -- ---- all calls, one after the other; a refused one changes nothing
 
@@ -100,15 +100,15 @@ abbrev pub answered : {A : Type 0} → Answer A → Answer (Unit {0})
 answered a = with-value (λ _. tt) a
 
 unfoldable pub contentFrom : ℕ → List Exposure → List Call → List Exposure
-contentFrom share xs [] = xs
-contentFrom share xs (c ∷ h) = contentFrom share (leaving (giving share c xs) xs) h
+contentFrom capacity xs [] = xs
+contentFrom capacity xs (c ∷ h) = contentFrom capacity (leaving (giving capacity c xs) xs) h
 
 unfoldable pub answersFrom : ℕ → List Exposure → List Call → List (Answer (Unit {0}))
-answersFrom share xs [] = []
-answersFrom share xs (c ∷ h) = answered (giving share c xs) ∷ answersFrom share (leaving (giving share c xs) xs) h
+answersFrom capacity xs [] = []
+answersFrom capacity xs (c ∷ h) = answered (giving capacity c xs) ∷ answersFrom capacity (leaving (giving capacity c xs) xs) h
 
 abbrev pub contentOf : ℕ → List Call → List Exposure
-contentOf share h = contentFrom share [] h
+contentOf capacity h = contentFrom capacity [] h
 
 abbrev pub answersOf : ℕ → List Call → List (Answer (Unit {0}))
-answersOf share h = answersFrom share [] h
+answersOf capacity h = answersFrom capacity [] h

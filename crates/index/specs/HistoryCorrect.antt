@@ -4,7 +4,7 @@
 --   Holds xs es       es are the entries of the exposures xs, each once, in ascending order: of es as many pass every test as of xs
 --   isFiled e         e is the entry of a number of 32 bits, an owner and a vector
 --   IsIndex l         the list l is an index; IsEmpty l: one without entries
---   Does c before after r   the call c, as its contract has it, gave r and left the list `after` of `before`
+--   Does ..           the call c, as its contract has it, gave r and left the list `after` of `before`
 --   Runs l h rs n     the calls h one after the other give rs, from the list l on, and leave the list n
 --   Numbered h        the numbers of the exposures that h adds have 32 bits
 --   ServesAgain xs    an owner's 1024 are all; with one withdrawn, whether they were 1024 or fewer, any other of the same owner is taken
@@ -50,7 +50,7 @@ pub record IsIndex (l : List ℤ) : Type 0 where
   pub long : IndexLength ≤ length l
   pub counted : getD l 0 (pos 0) ≡ pos (length (entriesIn l))
   pub few : length (entriesIn l) ≤ IndexCapacity
-  pub share : (o : ℕ) → tally (isOwned o) (entriesIn l) ≤ OwnerCapacity
+  pub within : (o : ℕ) → tally (isOwned o) (entriesIn l) ≤ OwnerCapacity
   pub ascends : Ascends (entriesIn l)
   pub differ : (k : Key) → tally (isKeyed k) (entriesIn l) ≤ 1
   pub filed : every isFiled (entriesIn l) ≡ true

@@ -20,7 +20,7 @@ use Rattle.index.specs.declared.Entry.{Entry}
 use Rattle.index.specs.declared.Change.{Change}
 use Rattle.index.specs.declared.Change.the-variants.{Made, Refused}
 use Rattle.index.specs.Exposures.{IndexCapacity, OwnerCapacity, Exposure, Key, hasPlace}
-use Rattle.index.specs.Entries.{Width, IndexLength, numbers, entryAt, precedes, isOwned, isKeyed, countIn, entriesFrom, entriesIn, written, keeping, inserted, withdrawn, hasRoom, entering, withdrawing, placed}
+use Rattle.index.specs.Entries.{Width, IndexLength, numbers, entryAt, precedes, isOwned, isKeyed, countIn, entriesFrom, entriesIn, written, withEntries, inserted, withdrawn, hasRoom, entering, withdrawing, placed}
 use Rattle.index.specs.Answers.{inList, beginning, adding, removing, beginAnswer, beginAfter, addAnswer, addAfter, removeAnswer, removeAfter, countAnswer, entryAnswer, changeGiven}
 use Rattle.index.proofs.WrittenLaws.{length-entries}
 use Rattle.index_entries.specs.Steps.{leading, staying, raised, lowered}
@@ -57,7 +57,7 @@ pub too-short : (l : List ℤ) (a : Answer (List Entry)) → length l < IndexLen
 too-short l a h = let e : leb IndexLength (length l) ≡ false = lt-leb IndexLength (length l) h in record { answer = rw e refl; list = rw e refl }
 
 pub begun : (l : List ℤ) → IndexLength ≤ length l → Done (beginning l) l (set l 0 (pos 0)) Made
-unfolding keeping written
+unfolding withEntries written
 begun [] h = absurd (omega arith)
 begun (c ∷ l) h = let e : leb IndexLength (length (c ∷ l)) ≡ true = le-leb IndexLength (length (c ∷ l)) h in record { answer = rw e refl; list = rw e refl }
 
@@ -115,7 +115,7 @@ module _ (l : List ℤ) (n : ℕ) (long : IndexLength ≤ length l) (is : n ≡ 
         pub is-entered : (p : ℕ) (u v : List ℤ) → n < IndexCapacity → p ≡ staying (precedes e) (entriesFrom n (drop 1 l)) → p ≤ n
             → u ≡ raised (1 + Width * p) l (Width * (n - p)) → v ≡ put (1 + Width * p) (numbers e) u
             → Done (inList l (entering k e (entriesIn l))) l (set v 0 (toZ w64 (n + 1))) Made
-        unfolding keeping
+        unfolding withEntries
         is-entered p u v h q g x y =
             let r : hasRoom (entriesIn l) ≡ true = lt-ltb (length (entriesIn l)) IndexCapacity (omega (arith, entries)) in
             let es = entriesFrom n (drop 1 l) in
@@ -123,11 +123,11 @@ module _ (l : List ℤ) (n : ℕ) (long : IndexLength ≤ length l) (is : n ≡ 
             let m : n + 1 ≡ length (take p es ++ e ∷ drop p es) =
             omega (arith, length-append (take p es) (e ∷ drop p es), length-take-le p es (omega (arith, length-entries n (drop 1 l))), length-drop p es, length-entries n (drop 1 l)) in
             let z : v ≡ put (1 + Width * p) (numbers e) (raised (1 + Width * p) l (Width * (n - p))) = y ∙ ap (λ w. put (1 + Width * p) (numbers e) w) x in
-            let d : set v 0 (toZ w64 (n + 1)) ≡ keeping (inserted e (entriesIn l)) l =
+            let d : set v 0 (toZ w64 (n + 1)) ≡ withEntries (inserted e (entriesIn l)) l =
             (λ j. set (z j) 0 (whole (n + 1) (omega arith) j))
             ∙ one-more n p (Width * (n - p)) e l (pos (n + 1)) g refl (omega arith)
             ∙ ap (λ x. pos x ∷ written (take p es ++ e ∷ drop p es) (drop 1 l)) m
-            ∙ ap (λ x. keeping x l) t in
+            ∙ ap (λ x. withEntries x l) t in
             record { answer = rw (a, b, place, r) refl; list = rw (a, b, place, r) d }
 
     pub is-absent : n ≤ i → Done (inList l (withdrawing k (entriesIn l))) l l (Refused Absent)
@@ -137,7 +137,7 @@ module _ (l : List ℤ) (n : ℕ) (long : IndexLength ≤ length l) (is : n ≡ 
         record { answer = rw (a, b) refl; list = rw (a, b) refl }
 
     pub is-removed : (u : List ℤ) → i < n → n ≤ IndexCapacity → u ≡ lowered (1 + Width * i) l (Width * (n - 1 - i)) → Done (inList l (withdrawing k (entriesIn l))) l (set u 0 (toZ w64 (n - 1))) Made
-    unfolding keeping
+    unfolding withEntries
     is-removed u h f x =
         let a : leb IndexLength (length l) ≡ true = le-leb IndexLength (length l) long in
         let b : some (isKeyed k) (entriesIn l) ≡ true = sym (searched k i s) ∙ lt-ltb i n h in
@@ -145,11 +145,11 @@ module _ (l : List ℤ) (n : ℕ) (long : IndexLength ≤ length l) (is : n ≡ 
         let t : take i es ++ drop (suc i) es ≡ withdrawn k (entriesIn l) = ap (λ x. take x es ++ drop (suc x) es) s ∙ withdrawn-at k es ∙ ap (withdrawn k) read in
         let m : n - 1 ≡ length (take i es ++ drop (suc i) es) =
         omega (arith, length-append (take i es) (drop (suc i) es), length-take-le i es (omega (arith, length-entries n (drop 1 l))), length-drop (suc i) es, length-entries n (drop 1 l)) in
-        let d : set u 0 (toZ w64 (n - 1)) ≡ keeping (withdrawn k (entriesIn l)) l =
+        let d : set u 0 (toZ w64 (n - 1)) ≡ withEntries (withdrawn k (entriesIn l)) l =
         (λ j. set (x j) 0 (whole (n - 1) (omega arith) j))
         ∙ one-less n i (Width * (n - 1 - i)) l (pos (n - 1)) h refl (omega arith)
         ∙ ap (λ x. pos x ∷ written (take i es ++ drop (suc i) es) (drop 1 l)) m
-        ∙ ap (λ x. keeping x l) t in
+        ∙ ap (λ x. withEntries x l) t in
         record { answer = rw (a, b) refl; list = rw (a, b) d }
 
 -- ---- how many entries there are, and one by its place

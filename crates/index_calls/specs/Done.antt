@@ -8,9 +8,9 @@ use Rattle.answer.specs.Lent.{stored}
 use Rattle.index.specs.declared.Entry.{Entry}
 use Rattle.index.specs.declared.Change.{Change}
 use Rattle.index.specs.Exposures.{answered}
-use Rattle.index.specs.Entries.{keeping}
+use Rattle.index.specs.Entries.{withEntries}
 use Rattle.index.specs.Answers.{changeGiven}
 
 pub record Done (a : Answer (List Entry)) (before after : List ℤ) (r : Change) : Type 0 where
   pub answer : changeGiven r ≡ answered a
-  pub list : after ≡ stored keeping a before
+  pub list : after ≡ stored withEntries a before

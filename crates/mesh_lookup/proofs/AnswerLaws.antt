@@ -23,9 +23,9 @@ module _ (p : Vec3) (d k : ℕ) (root : k ≡ rootNumber p) where
       descend-corners p (d - 1) (bare c) (rootTrixel k) (8 + k) e
       ∙ ap (λ m. descend p (d - 1) (rootTrixel m) (8 + m)) root
 
-  pub from-place : (s : LocatedTrixel) → 3 ≤ d → TableStart p k s → descend p (d - 3) (bare (s .corners)) (s .id) ≡ identifier p d
+  pub from-table-start : (s : LocatedTrixel) → 3 ≤ d → TableStart p k s → descend p (d - 3) (bare (s .corners)) (s .id) ≡ identifier p d
   unfolding identifier
-  from-place s h t =
+  from-table-start s h t =
       let e : suc (suc (d - 3)) ≡ d - 1 = omega arith in
       t .goes-on (d - 3) ∙ ap (λ m. descend p m (rootTrixel k) (8 + k)) e ∙ ap (λ m. descend p (d - 1) (rootTrixel m) (8 + m)) root
 

@@ -49,24 +49,24 @@ module _ (p : Vec3) (c : Corners) where
   tested ea eb h = sym (ap₂ (side p) ea eb) ∙ h
 
   module _ (small : SmallCorners c) {w1 w2 : Vec3} (e1 : w1 ≡ m1) (e2 : w2 ≡ m2) (s1 : Small w1) (s2 : Small w2) where
-    pub stepped-0 : side p w2 w1 ≡ true → ChildStep p c (record { digit = 0; corners = record { v0 = c .v0; v1 = w2; v2 = w1 } })
-    stepped-0 t0 =
+    pub child-step-0 : side p w2 w1 ≡ true → ChildStep p c (record { digit = 0; corners = record { v0 = c .v0; v1 = w2; v2 = w1 } })
+    child-step-0 t0 =
         let d = first (tested e2 e1 t0) in
         record { is = d; child = child-0 c (sym d) e1 e2; small = record { v0 = small .v0; v1 = s2; v2 = s1 }; low = lit< tt }
 
     module _ (t0 : side p w2 w1 ≡ false) {w0 : Vec3} (e0 : w0 ≡ m0) (s0 : Small w0) where
-      pub stepped-1 : side p w0 w2 ≡ true → ChildStep p c (record { digit = 1; corners = record { v0 = c .v1; v1 = w0; v2 = w2 } })
-      stepped-1 t1 =
+      pub child-step-1 : side p w0 w2 ≡ true → ChildStep p c (record { digit = 1; corners = record { v0 = c .v1; v1 = w0; v2 = w2 } })
+      child-step-1 t1 =
           let d = second (tested e2 e1 t0) (tested e0 e2 t1) in
           record { is = d; child = child-1 c (sym d) e0 e2; small = record { v0 = small .v1; v1 = s0; v2 = s2 }; low = lit< tt }
 
       module _ (t1 : side p w0 w2 ≡ false) where
-        pub stepped-2 : side p w1 w0 ≡ true → ChildStep p c (record { digit = 2; corners = record { v0 = c .v2; v1 = w1; v2 = w0 } })
-        stepped-2 t2 =
+        pub child-step-2 : side p w1 w0 ≡ true → ChildStep p c (record { digit = 2; corners = record { v0 = c .v2; v1 = w1; v2 = w0 } })
+        child-step-2 t2 =
             let d = third (tested e2 e1 t0) (tested e0 e2 t1) (tested e1 e0 t2) in
             record { is = d; child = child-2 c (sym d) e0 e1; small = record { v0 = small .v2; v1 = s1; v2 = s0 }; low = lit< tt }
 
-        pub stepped-3 : side p w1 w0 ≡ false → ChildStep p c (record { digit = 3; corners = record { v0 = w0; v1 = w1; v2 = w2 } })
-        stepped-3 t2 =
+        pub child-step-3 : side p w1 w0 ≡ false → ChildStep p c (record { digit = 3; corners = record { v0 = w0; v1 = w1; v2 = w2 } })
+        child-step-3 t2 =
             let d = last (tested e2 e1 t0) (tested e0 e2 t1) (tested e1 e0 t2) in
             record { is = d; child = child-3 c (omega arith) e0 e1 e2; small = record { v0 = s0; v1 = s1; v2 = s2 }; low = lit< tt }

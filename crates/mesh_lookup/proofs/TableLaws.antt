@@ -103,12 +103,12 @@ module _ (r : ℕ) (h : r < 8) (p q : Vec3) (back : turned r q ≡ p) where
 -- ---- the start
 
 -- two levels down by the digits d and e, with the corners of the entry, turned
-pub started : (p : Vec3) (r d e : ℕ) (s : LocatedTrixel) → r < 8 → d ≡ digit p (rootTrixel r) → e ≡ digit p (child d (rootTrixel r)) → d < 4 → e < 4
+pub table-start : (p : Vec3) (r d e : ℕ) (s : LocatedTrixel) → r < 8 → d ≡ digit p (rootTrixel r) → e ≡ digit p (child d (rootTrixel r)) → d < 4 → e < 4
     → s .id ≡ 128 + 16 * r + 4 * d + e
     → s .corners ≡ tripleOf (turned r (vectorAt (24 * d + 6 * e))) (turned r (vectorAt (24 * d + 6 * e + 1))) (turned r (vectorAt (24 * d + 6 * e + 2)))
     → (n : ℕ) → descend p n (bare (s .corners)) (s .id) ≡ descend p (suc (suc n)) (rootTrixel r) (8 + r)
 unfolding descend
-started p r d e s h ed ee hd he ei ec n =
+table-start p r d e s h ed ee hd he ei ec n =
     let t = rootTrixel r in
     let c0 : turned r (vectorAt (24 * d + 6 * e)) ≡ child e (child d t) .v0 = entry r h d e 0 (24 * d + 6 * e) hd he (lit< tt) (omega arith) in
     let c1 : turned r (vectorAt (24 * d + 6 * e + 1)) ≡ child e (child d t) .v1 = entry r h d e 1 (24 * d + 6 * e + 1) hd he (lit< tt) refl in

@@ -12,7 +12,7 @@ use Rattle.ranges_stored.specs.declared.Pending.{Pending}
 use Rattle.ranges.specs.Ranges.{Range, pairs, range, rangesIn}
 use Rattle.ranges.specs.Lists.{touch, size, without}
 use Rattle.ranges.proofs.Pushing.{empty, growing, innerFull, innerClose, innerPush, innerEnd}
-use Rattle.ranges_stored.specs.Stored.{written, Writes, Hinted, PointsAt, stateOf, Keeps, shifted}
+use Rattle.ranges_stored.specs.Stored.{written, Writes, Hinted, PointsAt, stateOf, Stores, shifted}
 use Rattle.ranges.proofs.Loop.{length-snoc}
 use Rattle.ranges.proofs.InnerPass.{length-without, length-innerFull}
 use Rattle.ranges_stored.proofs.StoredLaws.{length-in, written-in, in-written, write-append}
@@ -93,7 +93,7 @@ state-some p l e = rw e
 
 -- the ranges xs are stored, and a range beside them
 beside : {xs : List Range} {l l′ : List ℕ} {n : ℕ} (low high : ℕ) (h : MinHint) → Writes xs l l′ n
-    → Keeps (growing xs (range low high)) l l′ (record { n = n; some = true; low = low; high = high; hint = h })
+    → Stores (growing xs (range low high)) l l′ (record { n = n; some = true; low = low; high = high; hint = h })
 beside {xs} {l} {l′} {n} low high h w =
     record {
       state = state-some (record { n = n; some = true; low = low; high = high; hint = h }) l′ refl
@@ -102,19 +102,19 @@ beside {xs} {l} {l′} {n} low high h w =
     }
 
 module _ (B : ℕ) (p : Pending) (l : List ℕ) (low high : ℕ) (h : MinHint) where
-  pub pending-first : p .some ≡ false → Keeps (innerPush B (stateOf p l) (range low high)) l l (record { n = 0; some = true; low = low; high = high; hint = h })
+  pub pending-first : p .some ≡ false → Stores (innerPush B (stateOf p l) (range low high)) l l (record { n = 0; some = true; low = low; high = high; hint = h })
   unfolding innerPush pairs
   pending-first e = rw (state-none p l e) (beside low high h (record { count = refl; list = refl }))
 
   module _ (is : p .some ≡ true) where
     pub pending-grows : 2 * p .n ≤ length l → touch (range (p .low) (p .high)) (range low high) ≡ true
-        → Keeps (innerPush B (stateOf p l) (range low high)) l l (record { n = p .n; some = true; low = p .low; high = high; hint = h })
+        → Stores (innerPush B (stateOf p l) (range low high)) l l (record { n = p .n; some = true; low = p .low; high = high; hint = h })
     unfolding innerPush
     pending-grows k t = rw (state-some p l is, t) (beside (p .low) high h (record { count = sym (length-in (p .n) l); list = sym (written-in (p .n) l k) }))
 
     pub pending-closes : (m : ℕ) (l′ : List ℕ) → touch (range (p .low) (p .high)) (range low high) ≡ false
         → Writes (innerClose B (rangesIn (p .n) l) (range (p .low) (p .high))) l l′ m
-        → Keeps (innerPush B (stateOf p l) (range low high)) l l′ (record { n = m; some = true; low = low; high = high; hint = h })
+        → Stores (innerPush B (stateOf p l) (range low high)) l l′ (record { n = m; some = true; low = low; high = high; hint = h })
     unfolding innerPush
     pending-closes m l′ t w = rw (state-some p l is, t) (beside low high h w)
 

@@ -7,7 +7,7 @@ use lib.ListN.{length}
 use Rattle.ranges_stored.specs.declared.Pending.{Pending}
 use Rattle.ranges.specs.Ranges.{Range, pairs, rangesIn}
 use Rattle.ranges.proofs.Pushing.{outerPush, Inner, empty, innerPush, innerEnd}
-use Rattle.ranges_stored.specs.Stored.{written, Writes, nothingYet, closed, stateOf, Keeps}
+use Rattle.ranges_stored.specs.Stored.{written, Writes, nothingYet, closed, stateOf, Stores}
 use Rattle.ranges_stored.proofs.StoredLaws.{in-written, written-over}
 use Rattle.ranges_lists.proofs.Counts.{push-grows, innerPush-grows, innerEnd-grows}
 use Rattle.ranges_lists.proofs.InnerStored.{state-none}
@@ -27,15 +27,15 @@ pub writes-push : (B : ℕ) (xs : List Range) (r : Range) (l₀ l l′ : List �
 writes-push B xs r l₀ l l′ n n′ w v =
     writes-over xs (outerPush B xs r) l₀ (push-grows B xs r) (w .list) (subst (λ ys. Writes (outerPush B ys r) l l′ n′) (writes-in xs l₀ l n w) v)
 
-pub keeps-none : (l : List ℕ) → Keeps empty l l nothingYet
-keeps-none l = record { state = state-none nothingYet l refl; stored = writes-none l }
+pub stores-none : (l : List ℕ) → Stores empty l l nothingYet
+stores-none l = record { state = state-none nothingYet l refl; stored = writes-none l }
 
-module _ (B : ℕ) (s : Inner) (l₀ l l′ : List ℕ) (p : Pending) (k : Keeps s l₀ l p) where
-  pub keeps-push : (r : Range) (p′ : Pending) → Keeps (innerPush B (stateOf p l) r) l l′ p′ → Keeps (innerPush B s r) l₀ l′ p′
-  keeps-push r p′ v =
-      let u = subst (λ t. Keeps (innerPush B t r) l l′ p′) (k .state) v in
+module _ (B : ℕ) (s : Inner) (l₀ l l′ : List ℕ) (p : Pending) (k : Stores s l₀ l p) where
+  pub stores-push : (r : Range) (p′ : Pending) → Stores (innerPush B (stateOf p l) r) l l′ p′ → Stores (innerPush B s r) l₀ l′ p′
+  stores-push r p′ v =
+      let u = subst (λ t. Stores (innerPush B t r) l l′ p′) (k .state) v in
       record { state = u .state; stored = writes-over (closed s) (closed (innerPush B s r)) l₀ (innerPush-grows B s r) (k .stored .list) (u .stored) }
 
-  pub keeps-end : (n : ℕ) → Writes (innerEnd B (stateOf p l)) l l′ n → Writes (innerEnd B s) l₀ l′ n
-  keeps-end n v =
+  pub stores-end : (n : ℕ) → Writes (innerEnd B (stateOf p l)) l l′ n → Writes (innerEnd B s) l₀ l′ n
+  stores-end n v =
       writes-over (closed s) (innerEnd B s) l₀ (innerEnd-grows B s) (k .stored .list) (subst (λ t. Writes (innerEnd B t) l l′ n) (k .state) v)

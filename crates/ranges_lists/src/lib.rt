@@ -8,7 +8,7 @@ ghost use lib.ListN.{length};
 ghost use Rattle.ranges.specs.Lists.{gaps, joinAt, size};
 ghost use Rattle.ranges.proofs.Pushing.{outerPush, outerFull, innerFull, innerClose, innerPush, innerEnd};
 ghost use Rattle.ranges.specs.Ranges.{range, rangesIn};
-ghost use Rattle.ranges_stored.specs.Stored.{sizesIn, written, Writes, Hinted, stateOf, Keeps};
+ghost use Rattle.ranges_stored.specs.Stored.{sizesIn, written, Writes, Hinted, stateOf, Stores};
 
 // How many ranges stand in a list, and what is known of their gaps or sizes.
 pub struct Pushed {
@@ -147,7 +147,7 @@ fn inner_close(
 pub fn inner_push(list: &mut [u64], p: Pending, budget: usize, low: u64, high: u64) -> Pending
     requires { ⌜ (1 ≤ budget) × (p .n ≤ budget) × (2 * budget ≤ length (now list)) ⌝ }
     requires { ⌜ Hinted (p .hint) (sizesIn 0 (p .n) (now list)) ⌝ }
-    ensures { λ r. ⌜ Keeps (innerPush budget (stateOf p (now (list .entry))) (range low high)) (now (list .entry)) (now (list .exit)) r ⌝ }
+    ensures { λ r. ⌜ Stores (innerPush budget (stateOf p (now (list .entry))) (range low high)) (now (list .entry)) (now (list .exit)) r ⌝ }
     ensures { λ r. ⌜ r .n ≤ budget ⌝ }
     ensures { λ r. ⌜ Hinted (r .hint) (sizesIn 0 (r .n) (now (list .exit))) ⌝ }
 {

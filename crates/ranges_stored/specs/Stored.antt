@@ -1,19 +1,19 @@
--- The two lists as one pass keeps them, in lent memory. Document 01, 'The two lists': pairs low, high, one range after the other.
---   sizesIn start n l   the sizes of n ranges, from element `start` of the list l on. A gap is the size of the range from one high to the next low, so
+-- The two lists as one pass stores them, in lent memory. Document 01, 'The two lists': pairs low, high, one range after the other.
+--   sizesIn ..       the sizes of n ranges, from element `start` of the list l on. A gap is the size of the range from one high to the next low, so
 --                    from element 1 on they are the gaps
 --   written xs l     the list l with the ranges xs at its front, as pairs; the other elements stay
---   Writes xs before after n   `after` is `before` with the ranges xs, n of them, at its front
+--   Writes ..        `after` is `before` with the ranges xs, n of them, at its front
 -- Where the smallest gap of the outer list is, or the shortest range of the inner list, as far as it is known: a `MinHint`.
---   hintOf from floor   a hint, by its two numbers; noHint is true of every list
+--   hintOf           a hint, by its two numbers; noHint is true of every list
 --   Hinted h gs      of the gaps or sizes gs, every one is at least the floor of h, and those before number `from` are above it
---   FirstAt floor i gs   number i is the first one that is the floor, or there is none and i is behind the last
+--   FirstAt ..       number i is the first one that is the floor, or there is none and i is behind the last
 --   PointsAt h gs    the one of number `from` is the floor, and so the smallest, the earliest among equals
 -- The inner list's last range may still grow, so it stands beside the lent list, with the count of those in it and what is known of their sizes: a
 -- `Pending`.
 --   nothingYet       where there is no range yet
 --   closed s         the ranges of the inner list s that grow no more
 --   stateOf p l      the inner list that p and the lent list l say
---   Keeps s before after p   p and `after` say s, and `after` is `before` with the closed ranges of s, as many as p counts, at its front
+--   Stores ..        p and `after` say s, and `after` is `before` with the closed ranges of s, as many as p counts, at its front
 -- And for one step of the code:
 --   shifted at l k   the list l, where k elements, from number `at` on, are those two places further on
 use Prim.Native.Nat.{ℕ, _+_, _≤_, _<_}
@@ -68,7 +68,7 @@ closed (growing xs r) = xs
 unfoldable pub stateOf : Pending → List ℕ → Inner
 stateOf p l = cond (p .some) (growing (rangesIn (p .n) l) (range (p .low) (p .high))) empty
 
-pub record Keeps (s : Inner) (before after : List ℕ) (p : Pending) : Type 0 where
+pub record Stores (s : Inner) (before after : List ℕ) (p : Pending) : Type 0 where
   pub state : stateOf p after ≡ s
   pub stored : Writes (closed s) before after (p .n)
 

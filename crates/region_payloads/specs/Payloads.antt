@@ -6,7 +6,7 @@
 --   Stands before g k rs   the counts k and the array rs stand for the region g: its counts, and its rows at the beginning of what the array was before
 --   SizeAfter ..           counts and array after a convex or halfspaces, by their answer
 --   RecordAfter ..         outcome and array after a record, by the record's answer
---   SizeAfterBy f, RecordAfterBy f the same of what f makes of the file, whatever region counts and array stand for
+--   SizeAfterBy f          the same of what f makes of the file, whatever region counts and array stand for; RecordAfterBy f too
 --   groupOf payload        the halfspaces of a payload of kind 5, 16 bytes each
 use Prim.Native.Nat.{ℕ, _/_}
 use mathlib.Core.Path.{_≡_}

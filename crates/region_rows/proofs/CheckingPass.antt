@@ -1,4 +1,4 @@
--- The pass that checks rows: the region of the rows so far has the counts that are kept, and the rows that are left lead from it to what all rows
+-- The pass that checks rows: the region of the rows so far has the counts that are stored, and the rows that are left lead from it to what all rows
 -- lead to. Assumes nothing.
 use Prim.Native.Nat.{ℕ, suc, _+_, _-_, _*_, _/_, _%_, _≤_, _<_}
 use native.Mathlib.Nat.{add-zero}

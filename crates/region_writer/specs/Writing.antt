@@ -6,7 +6,7 @@
 --   Stands s g before xs p     the region g stands in xs, which was before, from element 8 on, and p is the place after it
 --   RowFits s xs p c h         some region stands in xs; the row with the number c and the halfspace h may follow it, and has room
 --   FileFits s rs n            the rows rs are a region, and its file has at most n bytes
---   RowsStand s rs before xs n   the region of the rows rs stands in xs, which was before, from element 8 to element n
+--   RowsStand ..               the region of the rows rs stands in xs, which was before, from element 8 to element n
 use Prim.Native.Nat.{ℕ, _+_, _-_, _*_, _≤_}
 use mathlib.Core.Path.{_≡_}
 use mathlib.Core.List.{List}

@@ -2,14 +2,14 @@
 -- first setting, those of the second, then space for the first buffer and for the second. Last, as for every call on an index, a list too short to be one is
 -- refused as space too.
 --   trialInto ..       the file that is tried, or the refusal: 18, the file's, 5, 6, 5, 6, 10
---   trialAnswer ..     what both settings come to, and the choice
---   firstAfter .., secondAfter ..   the two buffers afterwards: the two lists of each setting, as a cover leaves them
+--   trialAnswer ..     both results, and the choice
+--   firstAfter ..      the first buffer afterwards, and secondAfter the second: the two lists of each setting, as a cover leaves them
 --   trialGiven r       what the call gave
---   trialList t        what both settings come to, as numbers, `trialCounts` of them: the five of the first, those of the second, and the choice
+--   trialList t        both results and the choice, as numbers, `trialCounts` of them: the five of the first, those of the second, and the choice
 --   fitting n l        the first n elements of l, where it has so many; else none
---   partBy t first second   of the two buffers the chosen one's first 2 × outer count elements; none where it is shorter, or where the choice is neither
---   partOf r first second   the same of what a trial answered; none after a refusal
---   bufferOf r first second  of two things, one for each buffer, that of the buffer which the part is of: of the first unless the second is chosen
+--   partBy t ..        of the two buffers the chosen one's first 2 × outer count elements; none where it is shorter, or where the choice is neither
+--   partOf r ..        the same of what a trial answered; none after a refusal
+--   bufferOf r ..      of two things, one for each buffer, that of the buffer which the part is of: of the first unless the second is chosen
 use Prim.Native.Nat.{ℕ, _*_}
 use mathlib.Core.Bool.{cond}
 use mathlib.Core.List.{List, [], _∷_}
@@ -32,8 +32,8 @@ use Rattle.trial.specs.Trials.{coverBy, trialOf}
 -- ---- the trial
 
 -- the setting s is one, or the refusal: 5, 6
-abbrev pub settled : {A : Type 0} → Setting → Answer A → Answer A
-settled s a = check Depth (isDepth (s .depth)) (check Budget (isBudget (s .budget)) a)
+abbrev pub checkSetting : {A : Type 0} → Setting → Answer A → Answer A
+checkSetting s a = check Depth (isDepth (s .depth)) (check Budget (isBudget (s .budget)) a)
 
 -- the buffer has room for both lists of the setting s
 abbrev pub roomFor : {A : Type 0} → Setting → List ℕ → Answer A → Answer A
@@ -41,7 +41,7 @@ roomFor s before a = check Space (leb (4 * budgetOf (s .budget)) (length before)
 
 abbrev pub trialInto : ℕ → List ℤ → List ℕ → Setting → Setting → List ℕ → List ℕ → Answer File
 trialInto o l f s t first second =
-    check Owner (isOwner o) (then (read f) (λ x. settled s (settled t (roomFor s first (roomFor t second (inList l (gives x)))))))
+    check Owner (isOwner o) (then (read f) (λ x. checkSetting s (checkSetting t (roomFor s first (roomFor t second (inList l (gives x)))))))
 
 unfoldable pub trialAnswer : ℕ → List ℤ → List ℕ → Setting → Setting → List ℕ → List ℕ → Answer Trial
 trialAnswer o l f s t first second = with-value (λ x. trialOf o l (x .region) s t) (trialInto o l f s t first second)

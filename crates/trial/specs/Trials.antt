@@ -3,10 +3,10 @@
 --   isSetting s        a depth from 1 to 12, and a budget of at most 2048
 --   coverBy s g        the cover of the region g under the setting s
 --   walkBy o l g s     the walk over the entries of the owner o in the list l beside that cover (frames/specs/Walk)
---   triedBy o l g s    what the setting s comes to: the three counts of the walk, and how many ranges both lists have
+--   resultBy o l g s   the result of the setting s: the three counts of the walk, and how many ranges both lists have
 --   skyOf s g          the share of the sky that the outer list spans, in identifiers of depth 12
 --   choiceOf m n       1 where m is the smaller share or they are equal, else 2
---   trialOf o l g s t  what both settings come to, and the choice
+--   trialOf o l g s t  both results, and the choice
 use Prim.Native.Nat.{ℕ, _-_, _*_, _^_}
 use mathlib.Core.Bool.{Bool, cond, _&&_}
 use mathlib.Core.List.{List}
@@ -33,11 +33,11 @@ coverBy s g = coverOf (s .depth) (s .budget) g
 unfoldable pub walkBy : ℕ → List ℤ → Region → Setting → List Met
 walkBy o l g s = walk (s .depth) (holds g) (coverBy s g .outer) (coverBy s g .inner) (entriesOf o l)
 
-abbrev pub triedBy : ℕ → List ℤ → Region → Setting → SettingResult
-triedBy o l g s = record {
-  unchecked = tally (λ m. isUnchecked (m .fate)) (walkBy o l g s);
-  held = tally (λ m. isHeld (m .fate)) (walkBy o l g s);
-  discarded = tally (λ m. isDiscarded (m .fate)) (walkBy o l g s);
+abbrev pub resultBy : ℕ → List ℤ → Region → Setting → SettingResult
+resultBy o l g s = record {
+  unchecked = tally (λ m. isUnchecked (m .disposition)) (walkBy o l g s);
+  held = tally (λ m. isHeld (m .disposition)) (walkBy o l g s);
+  discarded = tally (λ m. isDiscarded (m .disposition)) (walkBy o l g s);
   outer = length (coverBy s g .outer);
   inner = length (coverBy s g .inner);
 }
@@ -49,4 +49,4 @@ abbrev pub choiceOf : ℕ → ℕ → ℕ
 choiceOf m n = cond (leb m n) 1 2
 
 unfoldable pub trialOf : ℕ → List ℤ → Region → Setting → Setting → Trial
-trialOf o l g s t = record { first = triedBy o l g s; second = triedBy o l g t; choice = choiceOf (skyOf s g) (skyOf t g) }
+trialOf o l g s t = record { first = resultBy o l g s; second = resultBy o l g t; choice = choiceOf (skyOf s g) (skyOf t g) }

@@ -9,7 +9,7 @@ pub struct Setting {
     pub budget: u32,
 }
 
-// What one setting comes to: the frames delivered unchecked, tested and held, and tested and discarded, and how many ranges the outer and the inner list have.
+// The result of one setting: the frames delivered unchecked, tested and held, and tested and discarded, and how many ranges the outer and the inner list have.
 pub struct SettingResult {
     pub unchecked: u64,
     pub held: u64,
@@ -18,7 +18,7 @@ pub struct SettingResult {
     pub inner: u64,
 }
 
-// What both come to, and the choice: 1 for the first, 2 for the second.
+// Both results, and the choice: 1 for the first, 2 for the second.
 pub struct Trial {
     pub first: SettingResult,
     pub second: SettingResult,

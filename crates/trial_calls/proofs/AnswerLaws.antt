@@ -1,4 +1,4 @@
--- The answer by its checks in their order: the owner, the file's, those of both settings and of the lists' lengths, then what the two settings come to.
+-- The answer by its checks in their order: the owner, the file's, those of both settings and of the lists' lengths, then the results of the two settings.
 -- Assumes nothing.
 use Prim.Native.Nat.{ℕ}
 use mathlib.Core.Path.{_≡_, sym, ap, _∙_}
@@ -17,7 +17,7 @@ use Rattle.index.specs.Exposures.{isOwner}
 use Rattle.trial.specs.declared.Setting.{Setting}
 use Rattle.trial.specs.declared.TrialOf.{TrialOf}
 use Rattle.trial.specs.Trials.{choiceOf, trialOf}
-use Rattle.trial.specs.Answers.{settled, trialInto, trialAnswer, listsBy, firstAfter, secondAfter}
+use Rattle.trial.specs.Answers.{checkSetting, trialInto, trialAnswer, listsBy, firstAfter, secondAfter}
 use Rattle.trial_calls.specs.declared.ScoredSetting.{ScoredSetting}
 use Rattle.trial_calls.specs.Tries.{roomy, Checks, trialBy, Tries, Answers}
 use Rattle.trial_calls.proofs.CheckLaws.{passing-none, passing-some}
@@ -33,7 +33,7 @@ module _ (o : ℕ) (l : List ℤ) (f : List ℕ) (s t : Setting) (first second :
 
   -- behind the owner's check and the file's
   abbrev rest : File → Answer File
-  rest x = settled s (settled t (roomy (length l) s t (length first) (length second) (gives x)))
+  rest x = checkSetting s (checkSetting t (roomy (length l) s t (length first) (length second) (gives x)))
 
   pub no-owner : isOwner o ≡ false → Answers o l f s t first second (TrialOf.Refused Owner) first second
   no-owner e = refuses Owner (ap (λ b. check Owner b (then (read f) rest)) e)
@@ -56,7 +56,7 @@ module _ (o : ℕ) (l : List ℤ) (f : List ℕ) (s t : Setting) (first second :
           let e = into ∙ c (gives (k .file)) ∙ passing-none (gives (k .file)) z in
           record {
             answer =
-                ap gives (λ i. record { first = u .tried i; second = v .tried i; choice = choiceOf (u .sky i) (v .sky i) })
+                ap gives (λ i. record { first = u .result i; second = v .result i; choice = choiceOf (u .sky i) (v .sky i) })
                 ∙ sym (ap (with-value (λ x. trialOf o l (x .region) s t)) e);
             first-left = u .lists-left ∙ sym (ap (λ y. stored (listsBy s) y first) e);
             second-left = v .lists-left ∙ sym (ap (λ y. stored (listsBy t) y second) e);

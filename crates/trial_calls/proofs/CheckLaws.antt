@@ -1,5 +1,5 @@
--- The checks behind the file's, one after the other: a number that is no refusal lets an answer pass. Where all of them do, both settings are good, and the three
--- lists are long enough. Assumes nothing.
+-- The checks behind the file's, one after the other: a number that is no refusal lets an answer pass. Where all of them do, both settings are good,
+-- and the three lists are long enough. Assumes nothing.
 use Prim.Native.Nat.{ℕ, _*_, _≤_}
 use mathlib.Core.Path.{_≡_, sym, ap, _∙_}
 use mathlib.Core.Bool.{Bool, cond}
@@ -13,8 +13,8 @@ use Rattle.region.specs.Budgets.{isBudget, budgetOf}
 use Rattle.region.specs.Reader.{File}
 use Rattle.index.specs.Entries.{IndexLength}
 use Rattle.trial.specs.declared.Setting.{Setting}
-use Rattle.trial.specs.Answers.{settled}
-use Rattle.trial_calls.specs.Tries.{passing, Settles, roomy, Checks}
+use Rattle.trial.specs.Answers.{checkSetting}
+use Rattle.trial_calls.specs.Tries.{passing, SettingRefusal, roomy, Checks}
 
 pub passing-none : {n : ℕ} {A : Type 0} (a : Answer A) → n ≡ 0 → passing n a ≡ a
 passing-none a e = ap (λ m. passing m a) e
@@ -24,29 +24,29 @@ passing-some n a h = ap (λ t. cond t a (refused n)) (ne-eqb n 0 h)
 
 -- ---- the number of the first that fails
 
-pub settles : (s : Setting) {x y : Bool} → isDepth (s .depth) ≡ x → isBudget (s .budget) ≡ y → (a : Answer File) → settled s a ≡ check Depth x (check Budget y a)
-settles s p q a i = check Depth (p i) (check Budget (q i) a)
+pub setting-checks : (s : Setting) {x y : Bool} → isDepth (s .depth) ≡ x → isBudget (s .budget) ≡ y → (a : Answer File) → checkSetting s a ≡ check Depth x (check Budget y a)
+setting-checks s p q a i = check Depth (p i) (check Budget (q i) a)
 
 module _ (k : ℕ) (s t : Setting) (m n : ℕ) where
-  pub no-first : (r : ℕ) → Settles s r → (r ≡ 0 → ⊥) → Checks k s t m n r
+  pub no-first : (r : ℕ) → SettingRefusal s r → (r ≡ 0 → ⊥) → Checks k s t m n r
   no-first r e h a = e _ ∙ passing-some r _ h ∙ sym (passing-some r a h)
 
-  module _ (u : ℕ) (p : Settles s u) (z : u ≡ 0) where
-    pub no-second : (r : ℕ) → Settles t r → (r ≡ 0 → ⊥) → Checks k s t m n r
+  module _ (u : ℕ) (p : SettingRefusal s u) (z : u ≡ 0) where
+    pub no-second : (r : ℕ) → SettingRefusal t r → (r ≡ 0 → ⊥) → Checks k s t m n r
     no-second r e h a = p _ ∙ passing-none _ z ∙ e _ ∙ passing-some r _ h ∙ sym (passing-some r a h)
 
-    pub both-settled : (r : ℕ) → Settles t r → r ≡ 0 → (a : Answer File) → settled s (settled t a) ≡ a
-    both-settled r e h a = p _ ∙ passing-none _ z ∙ e a ∙ passing-none a h
+    pub both-checked : (r : ℕ) → SettingRefusal t r → r ≡ 0 → (a : Answer File) → checkSetting s (checkSetting t a) ≡ a
+    both-checked r e h a = p _ ∙ passing-none _ z ∙ e a ∙ passing-none a h
 
-  pub by-lengths : ((a : Answer File) → settled s (settled t a) ≡ a) → {x y z : Bool}
+  pub by-lengths : ((a : Answer File) → checkSetting s (checkSetting t a) ≡ a) → {x y z : Bool}
       → leb (4 * budgetOf (s .budget)) m ≡ x → leb (4 * budgetOf (t .budget)) n ≡ y → leb IndexLength k ≡ z
-      → (a : Answer File) → settled s (settled t (roomy k s t m n a)) ≡ check Space x (check Space y (check Space z a))
+      → (a : Answer File) → checkSetting s (checkSetting t (roomy k s t m n a)) ≡ check Space x (check Space y (check Space z a))
   by-lengths g p q r a = g _ ∙ (λ i. check Space (p i) (check Space (q i) (check Space (r i) a)))
 
 -- ---- what they say where none fails
 
-settled-depth : (s : Setting) (a : Answer File) (x : File) → settled s a ≡ gives x → ((1 ≤ s .depth) × (s .depth ≤ 12)) × (a ≡ gives x)
-settled-depth s a x e =
+checked-depth : (s : Setting) (a : Answer File) (x : File) → checkSetting s a ≡ gives x → ((1 ≤ s .depth) × (s .depth ≤ 12)) × (a ≡ gives x)
+checked-depth s a x e =
     let b = check Budget (isBudget (s .budget)) a in
     (depth-range (s .depth) (check-passed Depth (isDepth (s .depth)) b x e), check-gives Budget (isBudget (s .budget)) a x (check-gives Depth (isDepth (s .depth)) b x e))
 
@@ -63,8 +63,8 @@ module _ (k : ℕ) (s t : Setting) (m n : ℕ) where
       let p = leb (4 * budgetOf (s .budget)) m in
       let q = leb (4 * budgetOf (t .budget)) n in
       let u = leb IndexLength k in
-      let a = settled-depth s (settled t (roomy k s t m n (gives x))) x (e (gives x) ∙ passing-none (gives x) z) in
-      let b = settled-depth t (roomy k s t m n (gives x)) x (a .1) in
+      let a = checked-depth s (checkSetting t (roomy k s t m n (gives x))) x (e (gives x) ∙ passing-none (gives x) z) in
+      let b = checked-depth t (roomy k s t m n (gives x)) x (a .1) in
       let c = check-gives Space p (check Space q (check Space u (gives x))) x (b .1) in
       let d = check-gives Space q (check Space u (gives x)) x c in
       record {

@@ -1,4 +1,4 @@
 pub mod CheckLaws
-pub mod OutcomeLaws
+pub mod ScoreLaws
 pub mod AnswerLaws
 pub mod PartLaws

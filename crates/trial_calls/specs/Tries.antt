@@ -1,8 +1,9 @@
 -- What the parts of a trial give. The rules are those of trial/specs.
 --   passing n a        the answer a, or the refusal n; 0 is none
---   Settles s r        r is what the setting s is refused with, 0 for a good one
---   Checks k s t m n r   r is the first check that fails behind the file's, 0 for none, where the index has k elements and the buffers have m and n: 5, 6, 5, 6, 10
---   outcomeOf d r      what a search at the depth d comes to; trialBy a b: what both settings come to, and the choice
+--   SettingRefusal s r r is what the setting s is refused with, 0 for a good one
+--   Checks ..          r is the first check that fails behind the file's, 0 for none, where the index has k elements and the buffers have m and n:
+--                      5, 6, 5, 6, 10
+--   scoreOf d r        the result and the share of the sky of a search at the depth d; trialBy a b: both results, and the choice
 --   Tries, TriesRows   the setting s tried on a region; on every region that has these rows
 --   Answers ..         a call gave r, and left both buffers, by the rule
 use Prim.Native.Nat.{ℕ, _+_, _-_, _*_, _^_}
@@ -22,8 +23,8 @@ use Rattle.frames_calls.specs.declared.Searched.{Searched}
 use Rattle.trial.specs.declared.Setting.{Setting}
 use Rattle.trial.specs.declared.Trial.{Trial}
 use Rattle.trial.specs.declared.TrialOf.{TrialOf}
-use Rattle.trial.specs.Trials.{coverBy, triedBy, skyOf, choiceOf}
-use Rattle.trial.specs.Answers.{settled, trialAnswer, firstAfter, secondAfter, trialGiven}
+use Rattle.trial.specs.Trials.{coverBy, resultBy, skyOf, choiceOf}
+use Rattle.trial.specs.Answers.{checkSetting, trialAnswer, firstAfter, secondAfter, trialGiven}
 use Rattle.trial_calls.specs.declared.ScoredSetting.{ScoredSetting}
 
 -- ---- the checks
@@ -31,21 +32,21 @@ use Rattle.trial_calls.specs.declared.ScoredSetting.{ScoredSetting}
 abbrev pub passing : {A : Type 0} → ℕ → Answer A → Answer A
 passing n a = cond (eqb n 0) a (refused n)
 
-abbrev pub Settles : Setting → ℕ → Type 0
-Settles s r = (a : Answer File) → settled s a ≡ passing r a
+abbrev pub SettingRefusal : Setting → ℕ → Type 0
+SettingRefusal s r = (a : Answer File) → checkSetting s a ≡ passing r a
 
 -- those of the lists, by their lengths
 abbrev pub roomy : {A : Type 0} → ℕ → Setting → Setting → ℕ → ℕ → Answer A → Answer A
 roomy k s t m n a = check Space (leb (4 * budgetOf (s .budget)) m) (check Space (leb (4 * budgetOf (t .budget)) n) (check Space (leb IndexLength k) a))
 
 abbrev pub Checks : ℕ → Setting → Setting → ℕ → ℕ → ℕ → Type 0
-Checks k s t m n r = (a : Answer File) → settled s (settled t (roomy k s t m n a)) ≡ passing r a
+Checks k s t m n r = (a : Answer File) → checkSetting s (checkSetting t (roomy k s t m n a)) ≡ passing r a
 
 -- ---- one setting
 
-abbrev pub outcomeOf : ℕ → Searched → ScoredSetting
-outcomeOf d r = record {
-  tried = record {
+abbrev pub scoreOf : ℕ → Searched → ScoredSetting
+scoreOf d r = record {
+  result = record {
     unchecked = r .tests .unchecked;
     held = r .tests .held;
     discarded = r .tests .discarded;
@@ -55,12 +56,12 @@ outcomeOf d r = record {
   sky = (r .counts .full + r .counts .partial + r .counts .swallowed) * 4 ^ (12 - d);
 }
 
--- what two of them come to, and the choice
+-- both results, and the choice
 abbrev pub trialBy : ScoredSetting → ScoredSetting → Trial
-trialBy a b = record { first = a .tried; second = b .tried; choice = choiceOf (a .sky) (b .sky) }
+trialBy a b = record { first = a .result; second = b .result; choice = choiceOf (a .sky) (b .sky) }
 
 pub record Tries (o : ℕ) (l : List ℤ) (s : Setting) (g : Region) (before : List ℕ) (r : ScoredSetting) (after : List ℕ) : Type 0 where
-  pub tried : r .tried ≡ triedBy o l g s
+  pub result : r .result ≡ resultBy o l g s
   pub sky : r .sky ≡ skyOf s g
   pub lists-left : after ≡ bothListed (budgetOf (s .budget)) (coverBy s g) before
 

@@ -1,5 +1,5 @@
-// A trial of one region under two settings, and the call beside it that hands back the outer list of the setting chosen: a part of one of the two buffers. The file
-// is decoded once, and each setting is searched as frames are (frames_calls). The rules are those of trial/specs.
+// A trial of one region under two settings, and the call beside it that hands back the outer list of the setting chosen: a part of one of the two
+// buffers. The file is decoded once, and each setting is searched as frames are (frames_calls). The rules are those of trial/specs.
 use answer::BUDGET;
 use answer::DEPTH;
 use answer::OWNER;
@@ -31,17 +31,17 @@ ghost use Rattle.covering_calls.specs.Decoded.{Decoded};
 ghost use Rattle.frames_calls.specs.Searches.{FileIs};
 ghost use Rattle.trial.specs.Trials.{choiceOf};
 ghost use Rattle.trial.specs.Answers.{trialAnswer, firstAfter, secondAfter, trialGiven, fitting, partBy, partOf, bufferBy, bufferOf};
-ghost use Rattle.trial_calls.specs.Tries.{Settles, Checks, outcomeOf, trialBy, TriesRows, Answers};
+ghost use Rattle.trial_calls.specs.Tries.{SettingRefusal, Checks, scoreOf, trialBy, TriesRows, Answers};
 
-// What one setting comes to, and the share of the sky that its outer list spans, in identifiers of depth 12.
+// The result of one setting, and the share of the sky that its outer list spans, in identifiers of depth 12.
 pub struct ScoredSetting {
-    pub tried: SettingResult,
+    pub result: SettingResult,
     pub sky: u64,
 }
 
 // 5 or 6, where the setting is none; else 0.
-pub fn unsettled(s: Setting) -> u32
-    ensures { λ r. ⌜ Settles s r ⌝ }
+pub fn setting_refusal(s: Setting) -> u32
+    ensures { λ r. ⌜ SettingRefusal s r ⌝ }
 {
     let deep = limits::is_depth(s.depth);
     let paid = limits::is_budget(s.budget);
@@ -65,11 +65,11 @@ fn has_room(s: Setting, n: usize) -> bool
 fn refusal(index: usize, s: Setting, t: Setting, first: usize, second: usize) -> u32
     ensures { λ r. ⌜ Checks index s t first second r ⌝ }
 {
-    let one = unsettled(s);
+    let one = setting_refusal(s);
     if one != 0 {
         return one;
     }
-    let two = unsettled(t);
+    let two = setting_refusal(t);
     if two != 0 {
         return two;
     }
@@ -85,14 +85,14 @@ fn refusal(index: usize, s: Setting, t: Setting, first: usize, second: usize) ->
     0
 }
 
-// What a search at a depth comes to.
+// The result and the share of the sky of a search at a depth.
 fn score_of(depth: u32, made: Searched) -> ScoredSetting
     requires { ⌜ (1 ≤ depth) × (depth ≤ 12) × (made .counts .full + made .counts .partial + made .counts .swallowed ≤ 2 ^ 25) ⌝ }
-    ensures { λ r. ⌜ r ≡ outcomeOf depth made ⌝ }
+    ensures { λ r. ⌜ r ≡ scoreOf depth made ⌝ }
 {
     let span = covering_calls::power(MAX_DEPTH - depth);
     ScoredSetting {
-        tried: SettingResult {
+        result: SettingResult {
             unchecked: made.tests.unchecked,
             held: made.tests.held,
             discarded: made.tests.discarded,
@@ -103,7 +103,7 @@ fn score_of(depth: u32, made: Searched) -> ScoredSetting
     }
 }
 
-// One setting on the region of `count` rows: its lists in its buffer, and what it comes to.
+// One setting on the region of `count` rows: its lists in its buffer, and its result.
 fn try_setting(
     index: &[i64],
     owner: u32,
@@ -137,12 +137,12 @@ fn choice(first: u64, second: u64) -> u32
     if first <= second { 1 } else { 2 }
 }
 
-// What both settings come to, and the choice.
+// Both results, and the choice.
 fn compared(a: ScoredSetting, b: ScoredSetting) -> Trial
     ensures { λ r. ⌜ r ≡ trialBy a b ⌝ }
 {
-    let first = a.tried;
-    let second = b.tried;
+    let first = a.result;
+    let second = b.result;
     Trial {
         first: first,
         second: second,
@@ -174,7 +174,7 @@ fn trial_in(
     TrialOf::Gives(compared(one, two))
 }
 
-// A trial: the two lists of each setting in its buffer, what both settings come to, and the choice; refusals 18, the file's, 5, 6, 5, 6, then 10.
+// A trial: the two lists of each setting in its buffer, both results, and the choice; refusals 18, the file's, 5, 6, 5, 6, then 10.
 pub fn trial(
     index: &[i64],
     owner: u32,

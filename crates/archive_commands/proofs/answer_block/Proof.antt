@@ -7,10 +7,10 @@ use Rattle.archive_commands.proofs.answer_block.Statement.{statement}
 use Rattle.archive_commands.proofs.answer_block.Tie as tie
 
 abbrev Inv-loop : tie.InvT-loop
-Inv-loop block index₀ line₀ kept out₀ place₀ i₀ i-end index line out place i = (i ≤ length block) × (length index ≡ length index₀)
+Inv-loop block index₀ line₀ stored out₀ state₀ i₀ i-end index line out state i = (i ≤ length block) × (length index ≡ length index₀)
 
 abbrev μ-loop : tie.MeasureT-loop
-μ-loop block index₀ line₀ kept out₀ place₀ i₀ i-end index line out place i = length block - i
+μ-loop block index₀ line₀ stored out₀ state₀ i₀ i-end index line out state i = length block - i
 
 pub answer-block-spec : {M : Type 1} → statement M
 answer-block-spec =

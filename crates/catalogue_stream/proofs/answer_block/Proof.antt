@@ -7,10 +7,10 @@ use Rattle.catalogue_stream.proofs.answer_block.Statement.{statement}
 use Rattle.catalogue_stream.proofs.answer_block.Tie as tie
 
 abbrev Inv-loop : tie.InvT-loop
-Inv-loop block depth line₀ kept out₀ place₀ start₀ line out place start = start ≤ length block
+Inv-loop block depth line₀ stored out₀ state₀ start₀ line out state start = start ≤ length block
 
 abbrev μ-loop : tie.MeasureT-loop
-μ-loop block depth line₀ kept out₀ place₀ start₀ line out place start = length block - start
+μ-loop block depth line₀ stored out₀ state₀ start₀ line out state start = length block - start
 
 pub answer-block-spec : {M : Type 1} → statement M
 answer-block-spec =

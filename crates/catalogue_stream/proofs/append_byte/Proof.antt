@@ -7,10 +7,10 @@ use Rattle.catalogue_stream.proofs.append_byte.Statement.{statement}
 use Rattle.catalogue_stream.proofs.append_byte.Tie as tie
 
 abbrev Inv-loop : tie.InvT-loop
-Inv-loop line₀ kept part n₀ i₀ i-end line n i = i ≤ length part
+Inv-loop line₀ stored part n₀ i₀ i-end line n i = i ≤ length part
 
 abbrev μ-loop : tie.MeasureT-loop
-μ-loop line₀ kept part n₀ i₀ i-end line n i = length part - i
+μ-loop line₀ stored part n₀ i₀ i-end line n i = length part - i
 
 pub append-byte-spec : {M : Type 1} → statement M
 append-byte-spec =

@@ -3,7 +3,7 @@ use native.Mathlib.Omega.{arith}
 use mathlib.Core.Path.{sym}
 use borrow.Author.Needs.{needs}
 use lib.Seq.{length-take-le}
-use Rattle.classify_active.proofs.NarrowLaws.{beside-behind, ready-count, narrowed-count}
+use Rattle.classify_active.proofs.ActiveRegionLaws.{active-lists-behind, ready-count, active-prepared-count}
 use Rattle.classify_active.proofs.active_beside.Statement.{statement}
 use Rattle.classify_active.proofs.active_beside.Tie as tie
 
@@ -27,5 +27,5 @@ active-beside-spec =
     (λ c.
     let s = c .before .before .before .before .before .before .before .before .before .before in
     let o = c .before .before .before .active-in-region in
-    beside-behind (s .args .active .now) _ (s .args .stops .now) _ _ (s .pre .0 .0) (s .pre .0 .1) (s .pre .0 .2) (s .pre .0 .3) (o .kept .1 .1 .1 .1 .0) (o .kept .1 .1 .1 .1 .1 .0)
-    (λ h. narrowed-count (s .pre .0 .4) (o .ensures h))))
+    active-lists-behind (s .args .active .now) _ (s .args .stops .now) _ _ (s .pre .0 .0) (s .pre .0 .1) (s .pre .0 .2) (s .pre .0 .3) (o .kept .1 .1 .1 .1 .0) (o .kept .1 .1 .1 .1 .1 .0)
+    (λ h. active-prepared-count (s .pre .0 .4) (o .ensures h))))

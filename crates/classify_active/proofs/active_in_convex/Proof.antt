@@ -1,4 +1,4 @@
--- `classify_active::active_in_convex` keeps the active halfspaces, one after the other. Assumes nothing.
+-- `classify_active::active_in_convex` stores the active halfspaces, one after the other. Assumes nothing.
 use Prim.Native.Nat.{_-_}
 use native.Mathlib.Omega.{arith}
 use mathlib.Core.Path.{_≡_, refl, sym, subst, _∙_}
@@ -6,12 +6,12 @@ use lib.ListN.{length}
 use Rattle.region.specs.Regions.{Convex}
 use Rattle.classify_prepared.specs.Measures.{SoundHalfspace}
 use Rattle.classify_prepared.specs.PreparedLists.{ConvexAt}
-use Rattle.classify_active.proofs.OpenLaws.{AtOpen, open-start, open-half, open-end, open-outside, open-more}
+use Rattle.classify_active.proofs.ActiveConvexLaws.{ConvexSearch, convex-search-start, next-halfspace, convex-search-end, next-outside, next-stored}
 use Rattle.classify_active.proofs.active_in_convex.Statement.{statement}
 use Rattle.classify_active.proofs.active_in_convex.Tie as tie
 
 abbrev Inv-loop : tie.InvT-loop
-Inv-loop r xs from end ys₀ w most i₀ m₀ ys i m = (length ys ≡ length ys₀) × ((v : Convex) → ConvexAt xs from end v → AtOpen r xs end v w ys₀ i m ys)
+Inv-loop r xs from end ys₀ w most i₀ m₀ ys i m = (length ys ≡ length ys₀) × ((v : Convex) → ConvexAt xs from end v → ConvexSearch r xs end v w ys₀ i m ys)
 
 abbrev μ-loop : tie.MeasureT-loop
 μ-loop r xs from end ys₀ w most i₀ m₀ ys i m = end - i
@@ -21,7 +21,7 @@ sound : (c : tie.After-prepared-at Inv-loop μ-loop) → SoundHalfspace (c .prep
 sound c =
     let l = c .before .before .before in
     let s = l .before in
-    subst SoundHalfspace (sym (c .prepared-at .ensures)) (open-half _ _ _ _ _ _ (s .pre .0 .0) _ _ _ (l .loop .inv .1 (s .pre .1 .0) (s .pre .1 .1)) (omega arith) .sound)
+    subst SoundHalfspace (sym (c .prepared-at .ensures)) (next-halfspace _ _ _ _ _ _ (s .pre .0 .0) _ _ _ (l .loop .inv .1 (s .pre .1 .0) (s .pre .1 .1)) (omega arith) .sound)
 
 -- where it is outside
 returns-2 : tie.Need-returns-2 Inv-loop μ-loop
@@ -29,7 +29,7 @@ returns-2 c v a =
     let k = c .before .before in
     let l = c .before .before .before .before .before .before in
     let p = l .loop .inv .1 v a in
-    (p .opened, p .stores, open-outside _ _ _ _ _ _ (open-half _ _ _ _ _ _ (l .before .pre .0 .0) _ _ _ p (omega arith)) (k .before .prepared-at .ensures) (k .settled-class .ensures) (c .before .is-outside .ensures) (c .if2 .taken))
+    (p .stored, p .stores, next-outside _ _ _ _ _ _ (next-halfspace _ _ _ _ _ _ (l .before .pre .0 .0) _ _ _ p (omega arith)) (k .before .prepared-at .ensures) (k .settled-class .ensures) (c .before .is-outside .ensures) (c .if2 .taken))
 
 -- where it is not
 loop-again : tie.Need-loop-again Inv-loop μ-loop
@@ -39,7 +39,7 @@ loop-again c =
     let l = k .before .before .before .before in (
       c .before .store-active .kept .0 ∙ l .loop .inv .0,
       λ v a.
-          open-more _ _ _ _ _ _ (open-half _ _ _ _ _ _ (l .before .pre .0 .0) _ _ _ (l .loop .inv .1 v a) (omega arith)) (k .before .prepared-at .ensures) (k .settled-class .ensures) (o .is-outside .ensures)
+          next-stored _ _ _ _ _ _ (next-halfspace _ _ _ _ _ _ (l .before .pre .0 .0) _ _ _ (l .loop .inv .1 v a) (omega arith)) (k .before .prepared-at .ensures) (k .settled-class .ensures) (o .is-outside .ensures)
           (c .before .before .before .if2 .left) (omega (arith, l .before .pre .0 .3)) (l .before .pre .0 .2) (c .before .store-active .ensures .0) (c .before .store-active .ensures .1),
     )
 
@@ -49,11 +49,11 @@ active-in-convex-spec =
     (tie.spec
     Inv-loop
     μ-loop
-    (λ c. (refl, λ v a. open-start _ _ _ v _ _ _ a (c .pre .0 .1)))
+    (λ c. (refl, λ v a. convex-search-start _ _ _ v _ _ _ a (c .pre .0 .1)))
     (λ c. c .before .before .loop .inv .0)
-    (λ c v a. let p = c .before .before .loop .inv .1 v a in (p .opened, p .stores))
-    (λ c. let l = c .before .before in let s = l .before in let h = open-half _ _ _ _ _ _ (s .pre .0 .0) _ _ _ (l .loop .inv .1 (s .pre .1 .0) (s .pre .1 .1)) (omega arith) .room in omega arith)
-    (λ c κs. let l = c .before .before in let s = l .before in open-half _ _ _ _ _ _ (s .pre .0 .0) _ _ _ (l .loop .inv .1 (s .pre .1 .0) (s .pre .1 .1)) (omega arith) .room)
+    (λ c v a. let p = c .before .before .loop .inv .1 v a in (p .stored, p .stores))
+    (λ c. let l = c .before .before in let s = l .before in let h = next-halfspace _ _ _ _ _ _ (s .pre .0 .0) _ _ _ (l .loop .inv .1 (s .pre .1 .0) (s .pre .1 .1)) (omega arith) .room in omega arith)
+    (λ c κs. let l = c .before .before in let s = l .before in next-halfspace _ _ _ _ _ _ (s .pre .0 .0) _ _ _ (l .loop .inv .1 (s .pre .1 .0) (s .pre .1 .1)) (omega arith) .room)
     (λ c κs. (sound c, c .before .before .before .before .pre .0 .0))
     (λ c κs. tt)
     (λ c. c .before .before .before .before .before .before .loop .inv .0)
@@ -63,4 +63,4 @@ active-in-convex-spec =
     (λ c. omega arith)
     loop-again
     (λ c. c .before .loop .inv .0)
-    (λ c v a. let l = c .before in let p = l .loop .inv .1 v a in (p .opened, p .stores, p .count, open-end _ _ _ _ _ _ _ _ _ p (omega arith))))
+    (λ c v a. let l = c .before in let p = l .loop .inv .1 v a in (p .stored, p .stores, p .count, convex-search-end _ _ _ _ _ _ _ _ _ p (omega arith))))

@@ -1,4 +1,4 @@
--- `classify_active::active_in_region` keeps what is active of a region, convex after convex. Assumes nothing.
+-- `classify_active::active_in_region` stores what is active of a region, convex after convex. Assumes nothing.
 use Prim.Native.Nat.{_-_}
 use native.Mathlib.Omega.{arith}
 use mathlib.Core.Path.{_≡_, refl, _∙_}
@@ -6,17 +6,17 @@ use lib.ListN.{length}
 use borrow.Author.Tests.{not-false}
 use Rattle.region.specs.Regions.{Region}
 use Rattle.classify_prepared.specs.PreparedLists.{Prepared, Ready}
-use Rattle.classify_active.specs.Narrow.{Narrowing}
-use Rattle.classify_active.proofs.NarrowLaws.{narrow-start, narrow-end, end-read, end-most}
+use Rattle.classify_active.specs.Active.{RegionSearch}
+use Rattle.classify_active.proofs.ActiveRegionLaws.{region-search-start, region-search-end, end-read, end-most}
 use Rattle.classify_active.proofs.active_in_region.Statement.{statement}
 use Rattle.classify_active.proofs.active_in_region.Tie as tie
 
 abbrev Inv-loop : tie.InvT-loop
-Inv-loop r xs ends n ys₀ marks₀ most s₀ i₀ k₀ ys marks s i k =
-    (length ys ≡ length ys₀) × (length marks ≡ length marks₀) × ((g : Region) → Prepared g xs ends n → Narrowing r xs ends n g i k (s .halves) (s .convexes) ys marks) × Ready xs ends n
+Inv-loop r xs ends n ys₀ stops₀ most s₀ i₀ k₀ ys stops s i k =
+    (length ys ≡ length ys₀) × (length stops ≡ length stops₀) × ((g : Region) → Prepared g xs ends n → RegionSearch r xs ends n g i k (s .halfspaces) (s .convexes) ys stops) × Ready xs ends n
 
 abbrev μ-loop : tie.MeasureT-loop
-μ-loop r xs ends n ys₀ marks₀ most s₀ i₀ k₀ ys marks s i k = n - i
+μ-loop r xs ends n ys₀ stops₀ most s₀ i₀ k₀ ys stops s i k = n - i
 
 same-length : tie.Need-same-length Inv-loop μ-loop
 same-length c = c .before .before .before .before .before .add-convex .kept .1 .1 .1 .1 .1 .0 ∙ c .before .before .before .before .before .before .before .before .before .loop .inv .0
@@ -66,7 +66,7 @@ active-in-region-spec =
     (tie.spec
     Inv-loop
     μ-loop
-    (λ c. (refl, refl, (λ g p. narrow-start _ _ _ _ g p _ _ (c .before .before .pre .0 .1) (c .before .before .pre .0 .2)), c .before .before .pre .1))
+    (λ c. (refl, refl, (λ g p. region-search-start _ _ _ _ g p _ _ (c .before .before .pre .0 .1) (c .before .before .pre .0 .2)), c .before .before .pre .1))
     (λ c κs. let l = c .before .before .before in let s = l .before .before .before in let p = s .pre .1 in ((s .pre .0 .0, s .pre .0 .3), (_, omega (arith, c .before .before .loop-test .taken), p .0, l .loop .inv .2 (p .0) (p .1))))
     same-length
     same-length-2
@@ -78,4 +78,4 @@ active-in-region-spec =
     loop-again
     (λ c. c .before .loop .inv .0)
     (λ c. c .before .loop .inv .1)
-    (λ c h g p. let l = c .before in narrow-end _ _ _ _ g _ _ _ _ _ _ (l .loop .inv .2 g p) (omega arith)))
+    (λ c h g p. let l = c .before in region-search-end _ _ _ _ g _ _ _ _ _ _ (l .loop .inv .2 g p) (omega arith)))

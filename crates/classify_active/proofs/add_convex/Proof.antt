@@ -1,8 +1,8 @@
--- `classify_active::add_convex` keeps what is active of a convex. Assumes nothing.
+-- `classify_active::add_convex` stores what is active of a convex. Assumes nothing.
 use native.Mathlib.Omega.{arith}
 use mathlib.Core.Bool.{false≢true}
 use borrow.Author.Needs.{needs}
-use Rattle.classify_active.proofs.NarrowLaws.{end-read, some-convex, add-outside, add-halves}
+use Rattle.classify_active.proofs.ActiveRegionLaws.{end-read, some-convex, add-outside, add-active}
 use Rattle.classify_active.proofs.add_convex.Statement.{statement}
 use Rattle.classify_active.proofs.add_convex.Tie as tie
 
@@ -12,7 +12,7 @@ place c =
     let o = c .before .before .before .before .before in
     let s = o .before .before .before .before .before in
     let a = s .pre .1 .3 in
-    let f = add-halves _ _ _ _ _ (s .pre .1 .1) a (o .active-in-convex .ensures) (c .before .before .o .given .1) (omega arith) .0 in
+    let f = add-active _ _ _ _ _ (s .pre .1 .1) a (o .active-in-convex .ensures) (c .before .before .o .given .1) (omega arith) .0 in
     omega (arith, a .wide)
 
 pub add-convex-spec : {M : Type 1} → statement M
@@ -38,4 +38,4 @@ add-convex-spec =
     (λ c. search needs)
     (λ c n g h a e.
     let o = c .before .before .before .before .before in
-    add-halves _ _ _ _ g h a (o .active-in-convex .ensures) (c .before .before .o .given .1) (omega arith) .1))
+    add-active _ _ _ _ g h a (o .active-in-convex .ensures) (c .before .before .o .given .1) (omega arith) .1))

@@ -1,7 +1,7 @@
 -- `classify_active::store_active` stores an active halfspace and no other. Assumes nothing.
 use mathlib.Core.Path.{sym, ap, _∙_}
 use borrow.Author.Needs.{needs}
-use Rattle.classify_active.specs.Narrow.{activeStoredCount, activeStoredList}
+use Rattle.classify_active.specs.Active.{activeStoredCount, activeStoredList}
 use Rattle.classify_active.proofs.store_active.Statement.{statement}
 use Rattle.classify_active.proofs.store_active.Tie as tie
 

@@ -3,7 +3,7 @@ use native.Mathlib.Omega.{arith}
 use mathlib.Core.Path.{ap, _∙_}
 use borrow.Author.Needs.{needs}
 use Rattle.classify_active.specs.Anchor.{anchorIn}
-use Rattle.classify_active.proofs.NarrowLaws.{part-back}
+use Rattle.classify_active.proofs.ActiveRegionLaws.{part-back}
 use Rattle.classify_active.proofs.store_anchor_behind.Statement.{statement}
 use Rattle.classify_active.proofs.store_anchor_behind.Tie as tie
 

@@ -1,5 +1,5 @@
--- `classify_halfspace::classify_one` is the class: by the edges where V is not positive, apart where f is far, within where the cap is enclosed, else by the rays.
--- Assumes nothing.
+-- `classify_halfspace::classify_one` is the class: by the edges where V is not positive, apart where f is far, within where the cap is enclosed, else
+-- by the rays. Assumes nothing.
 use mathlib.Core.Path.{_≡_, sym, ap, _∙_}
 use mathlib.Core.Bool.{true}
 use borrow.Author.Tests.{not-true, not-false}

@@ -15,7 +15,7 @@ use Rattle.vector.specs.Vectors.{dot}
 use Rattle.vector.proofs.SizeLaws.{dot-self-positive}
 use Rattle.classify_prepared.specs.Measures.{squareOf}
 use Rattle.classify.proofs.RaysFirst.{passes}
-use Rattle.classify_rays.proofs.RayLaws.{ray-most, told-right}
+use Rattle.classify_rays.proofs.RayLaws.{ray-most, filter-right}
 use Rattle.classify_rays.proofs.passes.Statement.{statement}
 use Rattle.classify_rays.proofs.passes.Tie as tie
 
@@ -68,6 +68,6 @@ passes-spec =
     let x = upto-held (d .dot .ensures .1) tt .le in
     let g = size-most k in
     (omega arith, omega arith, d .before .before .pre .1 .1 .size))
-    (λ c. let k = c .before .before .before in told-right _ _ (k .before .before .before .before .pre .1 .1) (c .before .before .filtered .ensures) (c .enum-told .given .1) ∙ squares k)
-    (λ c. let k = c .before .before .before in told-right _ _ (k .before .before .before .before .pre .1 .1) (c .before .before .filtered .ensures) (c .enum-told2 .given .1) ∙ squares k)
+    (λ c. let k = c .before .before .before in filter-right _ _ (k .before .before .before .before .pre .1 .1) (c .before .before .filtered .ensures) (c .enum-told .given .1) ∙ squares k)
+    (λ c. let k = c .before .before .before in filter-right _ _ (k .before .before .before .before .pre .1 .1) (c .before .before .filtered .ensures) (c .enum-told2 .given .1) ∙ squares k)
     (λ c. c .reaches-exactly .ensures ∙ squares (c .before .before .before .before)))

@@ -1,7 +1,7 @@
 -- `classify_rays::reaches`: where the filter tells, it is right, and else the squares are compared in two words. Assumes nothing.
 use native.Mathlib.Omega.{arith}
 use borrow.Author.Needs.{needs}
-use Rattle.classify_rays.proofs.RayLaws.{ray-most, told-right}
+use Rattle.classify_rays.proofs.RayLaws.{ray-most, filter-right}
 use Rattle.classify_rays.proofs.reaches.Statement.{statement}
 use Rattle.classify_rays.proofs.reaches.Tie as tie
 
@@ -14,6 +14,6 @@ reaches-spec =
     (λ c. search needs)
     (λ c. search needs)
     (λ c κs. search needs)
-    (λ c. let s = c .before .before .before .before in told-right (s .args .x) (s .args .g) (s .pre .2) (c .before .before .filtered .ensures) (c .enum-told .given .1))
-    (λ c. let s = c .before .before .before .before in told-right (s .args .x) (s .args .g) (s .pre .2) (c .before .before .filtered .ensures) (c .enum-told2 .given .1))
+    (λ c. let s = c .before .before .before .before in filter-right (s .args .x) (s .args .g) (s .pre .2) (c .before .before .filtered .ensures) (c .enum-told .given .1))
+    (λ c. let s = c .before .before .before .before in filter-right (s .args .x) (s .args .g) (s .pre .2) (c .before .before .filtered .ensures) (c .enum-told2 .given .1))
     (λ c. c .reaches-exactly .ensures))

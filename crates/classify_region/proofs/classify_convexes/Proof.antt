@@ -10,7 +10,7 @@ use Rattle.mesh.specs.declared.Trixel.{Trixel}
 use Rattle.classify.specs.declared.Class.{Class}
 use Rattle.classify_prepared.specs.declared.PreparedHalfspace.{PreparedHalfspace}
 use Rattle.region.specs.Regions.{Region}
-use Rattle.classify_halfspace.specs.Halfspaces.{judged}
+use Rattle.classify_halfspace.specs.Halfspaces.{preparedClass}
 use Rattle.classify_prepared.specs.Measures.{SoundHalfspace}
 use Rattle.classify_prepared.specs.PreparedLists.{preparedIn, Prepared, meet, join}
 use Rattle.classify_region.proofs.ScanLaws.{AtConvex, AtHalfspace, start, opened, ended, full, stands, exhausted, left-out, Stands}
@@ -34,10 +34,10 @@ module _ (t : Trixel) (xs : List ℤ) (es : List ℕ) (n k end i : ℕ) (settled
   abbrev Each : ℕ → Class → Type 0
   Each i class = (g : Region) → Prepared g xs es n → AtHalfspace t xs es n g k end i settled class
 
-  taken : Each i class → i < end → {q : PreparedHalfspace} {b r : Class} → q ≡ preparedIn xs (7 * i) → b ≡ judged q t → r ≡ meet class b → Each (i + 1) r
+  taken : Each i class → i < end → {q : PreparedHalfspace} {b r : Class} → q ≡ preparedIn xs (7 * i) → b ≡ preparedClass q t → r ≡ meet class b → Each (i + 1) r
   taken inv h e f m g p =
       let s = stands t xs es n g k end i settled class (inv g p) h in
-      subst (AtHalfspace t xs es n g k end (i + 1) settled) (sym m) (s .taken _ (f ∙ ap (λ q. judged q t) e))
+      subst (AtHalfspace t xs es n g k end (i + 1) settled) (sym m) (s .taken _ (f ∙ ap (λ q. preparedClass q t) e))
 
 -- the place of the next end
 opening : (c : tie.In-convexes Inv-halfspaces μ-halfspaces Inv-convexes μ-convexes) → c .before .convexes .k < length (c .before .before .before .args .ends .now)

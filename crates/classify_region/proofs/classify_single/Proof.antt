@@ -1,5 +1,5 @@
--- `classify_region::classify_single` is the class for the only halfspace: by the rays, by the middle where none passes, or by the edges where V is not positive.
--- Assumes nothing.
+-- `classify_region::classify_single` is the class for the only halfspace: by the rays, by the middle where none passes, or by the edges where V is
+-- not positive. Assumes nothing.
 use mathlib.Core.Path.{_≡_, sym, ap, subst, _∙_}
 use mathlib.Core.Bool.{true}
 use borrow.Author.Needs.{needs}
@@ -7,7 +7,7 @@ use borrow.Author.Tests.{not-true, not-false}
 use Rattle.algebra.proofs.Sized.{held, upto-held}
 use Rattle.classify.specs.Shape.{positive, volume}
 use Rattle.classify_prepared.specs.Measures.{SoundHalfspace}
-use Rattle.classify_halfspace.specs.Halfspaces.{judged, classWithin}
+use Rattle.classify_halfspace.specs.Halfspaces.{preparedClass, classWithin}
 use Rattle.classify_rays.specs.Rays.{raysPassed}
 use Rattle.classify_prepared.proofs.PreparedLaws.{sound-small, sound-offset, sound-high}
 use Rattle.classify_rays.proofs.RayLaws.{own-rays, rays-passed}
@@ -35,7 +35,7 @@ returns c g p =
     let h = c .before .before .before in
     let s = h .before .before in
     only-class _ _ _ _ g p (s .pre .1 .1)
-    (c .class-by-edges .ensures ∙ sym (not-oriented (h .prepared-at .result) (s .args .t) (sym (s .pre .0 .0 .oriented) ∙ not-true _ (c .before .if1 .taken))) ∙ ap (λ q. judged q (s .args .t)) (h .prepared-at .ensures))
+    (c .class-by-edges .ensures ∙ sym (not-oriented (h .prepared-at .result) (s .args .t) (sym (s .pre .0 .0 .oriented) ∙ not-true _ (c .before .if1 .taken))) ∙ ap (λ q. preparedClass q (s .args .t)) (h .prepared-at .ensures))
 
 returns-2 : tie.Need-returns-2
 returns-2 c g p =
@@ -44,7 +44,7 @@ returns-2 c g p =
     let h = e .before .before in
     let s = h .before .before in
     only-class _ _ _ _ g p (s .pre .1 .1)
-    (c .class-within .ensures ∙ ap classWithin (held (sound-offset (sound h)) tt .eq) ∙ sym (when-all (h .prepared-at .result) (s .args .t) (oriented e) (sym (rays a) ∙ c .before .before .enum-told .given .1)) ∙ ap (λ q. judged q (s .args .t)) (h .prepared-at .ensures))
+    (c .class-within .ensures ∙ ap classWithin (held (sound-offset (sound h)) tt .eq) ∙ sym (when-all (h .prepared-at .result) (s .args .t) (oriented e) (sym (rays a) ∙ c .before .before .enum-told .given .1)) ∙ ap (λ q. preparedClass q (s .args .t)) (h .prepared-at .ensures))
 
 returns-3 : tie.Need-returns-3
 returns-3 c g p =
@@ -53,7 +53,7 @@ returns-3 c g p =
     let h = e .before .before in
     let s = h .before .before in
     only-class _ _ _ _ g p (s .pre .1 .1)
-    (sym (when-some (h .prepared-at .result) (s .args .t) (oriented e) (sound h) (sym (rays a) ∙ c .enum-told2 .given .1)) ∙ ap (λ q. judged q (s .args .t)) (h .prepared-at .ensures))
+    (sym (when-some (h .prepared-at .result) (s .args .t) (oriented e) (sound h) (sym (rays a) ∙ c .enum-told2 .given .1)) ∙ ap (λ q. preparedClass q (s .args .t)) (h .prepared-at .ensures))
 
 by-middle : tie.Need-class-by-middle-requires
 by-middle c κs =
@@ -68,7 +68,7 @@ returns-4 c g p =
     let h = e .before .before in
     let s = h .before .before in
     only-class _ _ _ _ g p (s .pre .1 .1)
-    (c .class-by-middle .ensures ∙ sym (when-none (h .prepared-at .result) (s .args .t) (oriented e) (sym (rays a) ∙ c .before .before .before .enum-told3 .given .1)) ∙ ap (λ q. judged q (s .args .t)) (h .prepared-at .ensures))
+    (c .class-by-middle .ensures ∙ sym (when-none (h .prepared-at .result) (s .args .t) (oriented e) (sym (rays a) ∙ c .before .before .before .enum-told3 .given .1)) ∙ ap (λ q. preparedClass q (s .args .t)) (h .prepared-at .ensures))
 
 pub classify-single-spec : {M : Type 1} → statement M
 classify-single-spec =

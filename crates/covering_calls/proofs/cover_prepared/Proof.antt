@@ -13,6 +13,6 @@ cover-prepared-spec =
     (λ c κs.
     let v = c .before .before .before .before .visit-roots .ensures in
     let s = c .before .before .before .before .before .before .before .before .before in
-    (v .room, cover-contained v (s .pre .1 .0) (s .pre .0 .1)))
+    (v .invariant, cover-contained v (s .pre .1 .0) (s .pre .0 .1)))
     (λ c. search needs)
     (λ c. cover-end (c .before .before .before .before .before .before .before .visit-roots .ensures) (c .before .before .before .before .before .before .before .before .before .before .no-tally .ensures) (search needs) (c .before .before .finish .ensures)))

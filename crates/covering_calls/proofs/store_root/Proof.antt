@@ -1,7 +1,7 @@
--- `covering_calls::store_root` keeps the root with its first ray. Assumes nothing.
+-- `covering_calls::store_root` stores the root with its first ray. Assumes nothing.
 use mathlib.Core.Path.{_∙_}
 use borrow.Author.Needs.{needs}
-use Rattle.covering_walk.proofs.StoredTrixelLaws.{trixel-kept}
+use Rattle.covering_walk.proofs.StoredTrixelLaws.{stored-trixel}
 use Rattle.covering_calls.proofs.store_root.Statement.{statement}
 use Rattle.covering_calls.proofs.store_root.Tie as tie
 
@@ -12,4 +12,4 @@ store-root-spec =
     (λ c κs. search needs)
     (λ c κs. search needs)
     (λ c κs. search needs)
-    (λ c. let r = c .before .before .before .root .ensures in (trixel-kept (r .1) (c .before .first-ray .ensures) (c .store-trixel .ensures), c .store-trixel .ensures .0 ∙ r .0)))
+    (λ c. let r = c .before .before .before .root .ensures in (stored-trixel (r .1) (c .before .first-ray .ensures) (c .store-trixel .ensures), c .store-trixel .ensures .0 ∙ r .0)))

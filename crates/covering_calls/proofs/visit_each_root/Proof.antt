@@ -26,7 +26,7 @@ visit-each-root-spec =
     (λ c. (refl, rooting-start (c .before .before .pre .0) (c .before .before .pre .1) refl (c .power .ensures)))
     (λ c κs. omega (arith, c .before .loop-test .taken))
     (λ c. omega arith)
-    (λ c κs. let d = c .before .before .before .before .before .before .loop .inv .1 in (root-needs d (omega (arith, c .before .before .before .before .before .loop-test .taken)) (c .before .before .before .store-root .ensures .0), d .beside))
+    (λ c κs. let d = c .before .before .before .before .before .before .loop .inv .1 in (root-needs d (omega (arith, c .before .before .before .before .before .loop-test .taken)) (c .before .before .before .store-root .ensures .0), d .active))
     (λ c. omega arith)
     (λ c. omega arith)
     (λ c.

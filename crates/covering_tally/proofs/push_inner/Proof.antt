@@ -7,7 +7,7 @@ use lib.ListN.{length, length-drop}
 use denote.Ref.{now}
 use Rattle.ranges.proofs.Pushing.{innerPush}
 use Rattle.ranges.specs.Ranges.{range}
-use Rattle.ranges_stored.specs.Stored.{sizesIn, Hinted, stateOf, Keeps}
+use Rattle.ranges_stored.specs.Stored.{sizesIn, Hinted, stateOf, Stores}
 use Rattle.covering_tally.proofs.LentTail.{tail-lent, tail-back, tail-after}
 use Rattle.covering_tally.proofs.push_inner.Statement.{statement}
 use Rattle.covering_tally.proofs.push_inner.Tie as tie
@@ -31,7 +31,7 @@ returns c =
       behind = record {
         rest = p .last .0;
         list = tail-back (2 * b) out h _;
-        keeps = subst (λ l. Keeps (innerPush b (stateOf (s .args .p) l) (range (s .args .low) (s .args .high))) l (p .last .0) (p .result)) (tail-lent (2 * b) out h) (p .ensures .0);
+        stores = subst (λ l. Stores (innerPush b (stateOf (s .args .p) l) (range (s .args .low) (s .args .high))) l (p .last .0) (p .result)) (tail-lent (2 * b) out h) (p .ensures .0);
       };
       few = p .ensures .1 .0;
       hinted = subst (λ l. Hinted (p .result .hint) (sizesIn 0 (p .result .n) l)) (sym (tail-after (2 * b) out h _)) (p .ensures .1 .1);

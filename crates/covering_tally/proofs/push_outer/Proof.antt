@@ -1,6 +1,6 @@
 -- `covering_tally::push_outer` pushes the range by what the tally knows, and notes what it knows then. Assumes nothing.
 use borrow.Author.Needs.{needs}
-use Rattle.covering_tally.proofs.TallyLaws.{outered}
+use Rattle.covering_tally.proofs.TallyLaws.{outer-pushed}
 use Rattle.covering_tally.proofs.push_outer.Statement.{statement}
 use Rattle.covering_tally.proofs.push_outer.Tie as tie
 
@@ -16,4 +16,4 @@ push-outer-spec =
     (λ c κs. search needs)
     (λ c. search needs)
     (λ c. search needs)
-    (λ c. let p = c .before .before .before .before .before in outered _ (p .outer-push .ensures) (c .before .before .note-outer .ensures)))
+    (λ c. let p = c .before .before .before .before .before in outer-pushed _ (p .outer-push .ensures) (c .before .before .note-outer .ensures)))

@@ -1,6 +1,6 @@
--- `covering_walk::visit` classifies the trixel, and leaves it out, accepts it or hands it to `covering_walk::children`, which cuts it and visits its four children.
--- `covering_walk::children_by_active` looks for the halfspaces that are active beside it first. The measures: 3 × left for `visit`, 3 × left - 1 for `children_by_active`
--- and 3 × left - 2 for `children`, which visits at a level below. Assumes nothing.
+-- `covering_walk::visit` classifies the trixel, and leaves it out, accepts it or hands it to `covering_walk::children`, which cuts it and visits its
+-- four children. `covering_walk::children_by_active` looks for the halfspaces that are active beside it first. The measures: 3 × left for `visit`, 3
+-- × left - 1 for `children_by_active` and 3 × left - 2 for `children`, which visits at a level below. Assumes nothing.
 use Prim.Native.Nat.{ℕ, _+_, _-_, _*_, _<_}
 use native.Mathlib.Omega.{arith}
 use mathlib.Core.Path.{_≡_, refl, ap, _∙_}
@@ -28,7 +28,7 @@ use Rattle.covering_walk.proofs.trixel_in.Reads as trixel-in-reads
 use Rattle.mesh_trixels.proofs.cut.Reads as cut-reads
 use Rattle.covering_tally.specs.Tally.{tallyIn}
 use Rattle.covering_walk.specs.Walk.{Dividing}
-use Rattle.covering_walk.proofs.StoredTrixelLaws.{kept-small}
+use Rattle.covering_walk.proofs.StoredTrixelLaws.{stored-small}
 use Rattle.covering_walk.proofs.VisitLaws.{visited-done, visited-cut, cut-needs, dividing-start, child-needs, dividing-more, divided}
 use Rattle.covering_walk.proofs.+children+children_by_active+visit.{statement}
 use Rattle.covering_walk.proofs.+children+children_by_active+visit.Tie.{close}
@@ -95,7 +95,7 @@ pub +children+children-by-active+visit-spec : {M : Type 1} → statement M
     (children-Inv-loop t)
     children-μ-loop
     (λ c κs. tt)
-    (λ c κs. kept-small (c .trixel-in .ensures) (c .before .before .pre .1 .0 .trixel))
+    (λ c κs. stored-small (c .trixel-in .ensures) (c .before .before .pre .1 .0 .trixel))
     (λ c κs. tt)
     (λ c. let s = c .before .before .before .before in (refl, omega (arith, s .pre .0), dividing-start (s .pre .1 .0) (s .pre .1 .1) (c .before .before .trixel-in .ensures) (c .before .cut .ensures) (c .first-ray-in .ensures)))
     (λ c κs. (c .before .before .loop .inv .2 .parts, omega (arith, c .before .loop-test .taken)))
@@ -104,7 +104,7 @@ pub +children+children-by-active+visit-spec : {M : Type 1} → statement M
     let l = c .before .before .before .before .before .before .before .loop in
     let d = l .inv .2 in
     let e = c .before .before .child-level .ensures in
-    (omega (arith, l .inv .1, ap (λ m. m .left) e, d .needs .divisible .above), (child-needs d (omega (arith, c .before .before .before .before .before .before .loop-test .taken)) (c .before .before .before .before .store-child .ensures) e, d .beside)))
+    (omega (arith, l .inv .1, ap (λ m. m .left) e, d .needs .divisible .above), (child-needs d (omega (arith, c .before .before .before .before .before .before .loop-test .taken)) (c .before .before .before .before .store-child .ensures) e, d .active)))
     (λ c. omega (arith, c .before .before .before .before .before .before .before .before .before .loop-test .taken))
     (λ c. omega (arith, c .before .before .before .before .before .before .before .before .before .loop-test .taken))
     (λ c.
@@ -145,7 +145,7 @@ pub +children+children-by-active+visit-spec : {M : Type 1} → statement M
     (visit-at t)
     visit.Post
     (λ c κs. let p = c .before .pre .1 in (p .0 .trixel, (p .0 .ready, p .1)))
-    (λ c κs. let n = c .before .before .before .before .pre .1 .0 in (n .room, n .level))
+    (λ c κs. let n = c .before .before .before .before .pre .1 .0 in (n .invariant, n .level))
     (λ c. c .before .before .before .accept-or-cut .kept .1 .1 .0)
     (λ c. visited-done (c .before .before .before .before .before .before .classify-trixel .ensures) (c .before .before .before .accept-or-cut .ensures) (c .before .before .before .before .before .before .before .before .pre .1 .0 .ready) (c .if1 .taken))
     (λ c κs. tt)

@@ -2,7 +2,7 @@
 use native.Mathlib.Omega.{arith}
 use mathlib.Core.Path.{refl}
 use borrow.Author.Needs.{needs}
-use Rattle.covering_walk.proofs.VisitLaws.{range-fits, small-range, countable, settled-outside, settled-full, settled-last, settled-cut}
+use Rattle.covering_walk.proofs.VisitLaws.{range-fits, small-range, countable, done-outside, done-full, done-last, to-be-cut}
 use Rattle.covering_walk.proofs.accept_or_cut.Statement.{statement}
 use Rattle.covering_walk.proofs.accept_or_cut.Tie as tie
 
@@ -21,9 +21,9 @@ accept-or-cut-spec =
     (λ c. search needs)
     (λ c κs. let s = c .before .before .before .before .before .before .before in (c .take-partial-arg2 .given .0 .1, (s .pre .0, countable (s .pre .1) (s .pre .0))))
     (λ c. c .before .before .take-partial .kept .0)
-    (λ c. settled-last (c .before .before .before .before .before .before .before .enum-told3 .given .1) (c .before .before .before .before .before .if1 .taken) (c .before .before .take-partial .ensures))
+    (λ c. done-last (c .before .before .before .before .before .before .before .enum-told3 .given .1) (c .before .before .before .before .before .if1 .taken) (c .before .before .take-partial .ensures))
     (λ c κs. let s = c .before .before .before .before .before .before in (c .seen-more-arg2 .given .0 .1, countable (s .pre .1) (s .pre .0)))
-    (λ c. settled-outside (c .before .before .enum-told .given .1) (c .before .before .before .before .before .pre .0) (c .seen-more .ensures) refl)
+    (λ c. done-outside (c .before .before .enum-told .given .1) (c .before .before .before .before .before .pre .0) (c .seen-more .ensures) refl)
     (λ c. c .before .before .take-full .kept .0)
-    (λ c. settled-full (c .before .before .before .before .before .enum-told2 .given .1) (c .before .before .before .before .before .before .before .before .pre .1) (c .before .before .take-full .ensures))
-    (λ c. settled-cut (c .before .before .before .before .enum-told3 .given .1) (omega (arith, c .before .before .if1 .left)) (c .seen-more2 .ensures) refl))
+    (λ c. done-full (c .before .before .before .before .before .enum-told2 .given .1) (c .before .before .before .before .before .before .before .before .pre .1) (c .before .before .take-full .ensures))
+    (λ c. to-be-cut (c .before .before .before .before .enum-told3 .given .1) (omega (arith, c .before .before .if1 .left)) (c .seen-more2 .ensures) refl))

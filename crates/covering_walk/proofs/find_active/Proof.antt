@@ -1,6 +1,6 @@
 -- `covering_walk::find_active` measures the trixel, and looks for what is active beside it. Assumes nothing.
 use borrow.Author.Needs.{needs}
-use Rattle.covering_walk.proofs.StoredTrixelLaws.{kept-small, first-kept}
+use Rattle.covering_walk.proofs.StoredTrixelLaws.{stored-small, stored-first-ray}
 use Rattle.covering_walk.proofs.find_active.Statement.{statement}
 use Rattle.covering_walk.proofs.find_active.Tie as tie
 
@@ -10,6 +10,6 @@ find-active-spec =
     (tie.spec
     (λ c κs. tt)
     (λ c κs. tt)
-    (λ c κs. let e = c .before .trixel-in .ensures in let k = c .before .before .pre .0 in (kept-small e k, first-kept e k (c .first-ray-in .ensures)))
-    (λ c κs. let s = c .before .before .before .before .before in ((kept-small (c .before .before .before .before .trixel-in .ensures) (s .pre .0), c .before .before .measured .ensures), s .pre .1))
+    (λ c κs. let e = c .before .trixel-in .ensures in let k = c .before .before .pre .0 in (stored-small e k, stored-first-ray e k (c .first-ray-in .ensures)))
+    (λ c κs. let s = c .before .before .before .before .before in ((stored-small (c .before .before .before .before .trixel-in .ensures) (s .pre .0), c .before .before .measured .ensures), s .pre .1))
     (λ c. search needs))

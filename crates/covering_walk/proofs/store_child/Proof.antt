@@ -1,8 +1,8 @@
--- `covering_walk::store_child` keeps each child with the ray that is its first one. Assumes nothing.
+-- `covering_walk::store_child` stores each child with the ray that is its first one. Assumes nothing.
 use native.Mathlib.Omega.{arith}
 use mathlib.Core.Path.{refl}
 use borrow.Author.Needs.{needs}
-use Rattle.covering_walk.proofs.StoredTrixelLaws.{kept-first, kept-second, kept-third, kept-last}
+use Rattle.covering_walk.proofs.StoredTrixelLaws.{stored-first, stored-second, stored-third, stored-last}
 use Rattle.covering_walk.proofs.store_child.Statement.{statement}
 use Rattle.covering_walk.proofs.store_child.Tie as tie
 
@@ -12,16 +12,16 @@ store-child-spec =
     (tie.spec
     (λ c κs. search needs)
     (λ c κs. search needs)
-    (λ c. kept-first (c .before .before .before .before .pre .0) (c .store-trixel .ensures) (c .before .before .before .if1 .taken) refl (c .before .child0 .ensures))
+    (λ c. stored-first (c .before .before .before .before .pre .0) (c .store-trixel .ensures) (c .before .before .before .if1 .taken) refl (c .before .child0 .ensures))
     (λ c κs. search needs)
     (λ c κs. search needs)
-    (λ c. kept-second (c .before .before .before .before .before .before .pre .0) (c .store-trixel2 .ensures) (c .before .before .before .before .if2 .taken) refl (c .before .child1 .ensures))
+    (λ c. stored-second (c .before .before .before .before .before .before .pre .0) (c .store-trixel2 .ensures) (c .before .before .before .before .if2 .taken) refl (c .before .child1 .ensures))
     (λ c κs. search needs)
     (λ c κs. search needs)
-    (λ c. kept-third (c .before .before .before .before .before .before .before .pre .0) (c .store-trixel3 .ensures) (c .before .before .before .before .if3 .taken) refl (c .before .child2 .ensures))
+    (λ c. stored-third (c .before .before .before .before .before .before .before .pre .0) (c .store-trixel3 .ensures) (c .before .before .before .before .if3 .taken) refl (c .before .child2 .ensures))
     (λ c κs. search needs)
     (λ c κs. search needs)
     (λ c κs. search needs)
     (λ c.
-    kept-last (c .before .before .before .before .before .before .before .pre .0) (c .store-trixel4 .ensures) (omega (arith, c .before .before .before .before .before .before .before .pre .1, c .before .before .before .before .if3 .left, c .before .before .before .before .before .if2 .left, c .before .before .before .before .before .before .if1 .left))
+    stored-last (c .before .before .before .before .before .before .before .pre .0) (c .store-trixel4 .ensures) (omega (arith, c .before .before .before .before .before .before .before .pre .1, c .before .before .before .before .if3 .left, c .before .before .before .before .before .if2 .left, c .before .before .before .before .before .before .if1 .left))
     (c .before .first-ray .ensures) (c .before .before .before .child3 .ensures)))

@@ -1,4 +1,4 @@
--- `frames_walk::count_disposition` by the four fates. Assumes nothing.
+-- `frames_walk::count_disposition` by the four dispositions. Assumes nothing.
 use mathlib.Core.Path.{sym, ap}
 use native.Mathlib.Omega.{arith}
 use borrow.Author.Needs.{needs}

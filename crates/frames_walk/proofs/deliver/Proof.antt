@@ -1,4 +1,4 @@
--- `frames_walk::deliver` stores a number for two of the four fates. Assumes nothing.
+-- `frames_walk::deliver` stores a number for two of the four dispositions. Assumes nothing.
 use Prim.Native.Nat.{ℕ, _<_}
 use mathlib.Core.Path.{_≡_, ap, _∙_}
 use mathlib.Core.Bool.{true, cond}
@@ -36,7 +36,7 @@ deliver-spec =
     (λ c. search needs)
     (λ c. rw (c .enum-told .given .1))
     (λ c. search needs)
-    (λ c. let v = c .before .before .before .before .args in stored (v .k) (v .numbers .now) (v .fate) (omega arith) (c .number-of .ensures) (ap isDelivered (c .before .enum-told2 .given .1)))
+    (λ c. let v = c .before .before .before .before .args in stored (v .k) (v .numbers .now) (v .disposition) (omega arith) (c .number-of .ensures) (ap isDelivered (c .before .enum-told2 .given .1)))
     (λ c. search needs)
-    (λ c. let v = c .before .before .before .before .args in stored (v .k) (v .numbers .now) (v .fate) (omega arith) (c .number-of2 .ensures) (ap isDelivered (c .before .enum-told3 .given .1)))
+    (λ c. let v = c .before .before .before .before .args in stored (v .k) (v .numbers .now) (v .disposition) (omega arith) (c .number-of2 .ensures) (ap isDelivered (c .before .enum-told3 .given .1)))
     (λ c. rw (c .enum-told4 .given .1)))

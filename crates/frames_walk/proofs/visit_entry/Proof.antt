@@ -16,7 +16,7 @@ use Rattle.frames_walk.proofs.visit_entry.Tie as tie
 abbrev start : tie.After-struct-known2 → tie.Start
 start c = c .before .before .before .before .before .before .before .before .before .before .before .before .before .before .before .before .before
 
--- the places after the calls, the last one first: deliver, fate_of, begins and ahead, each of the outer ranges (o) and of the inner ones (n), shortened
+-- the states after the calls, the last one first: deliver, disposition_of, begins and ahead, each of the outer ranges (o) and of the inner ones (n), shortened
 returns : tie.Need-returns
 returns c =
     let d = c .before .before .before .before in
@@ -38,7 +38,7 @@ returns c =
       inner = subst (λ xs. drop (b .inner) (rangesIn (v .lists .inner) xs) ≡ ahead id (drop (v .at .inner) (rangesIn (v .lists .inner) xs))) t (n₁ .ahead2 .ensures .0);
       in-inner = subst (λ xs. n .begins .result ≡ begins id (drop (b .inner) (rangesIn (v .lists .inner) xs))) t (n .begins .ensures);
       in-outer = o .begins2 .ensures;
-      fate = f .disposition-of .ensures;
+      disposition = f .disposition-of .ensures;
       met = refl;
       tests = c .count-disposition .ensures;
       numbers = d .deliver .ensures;

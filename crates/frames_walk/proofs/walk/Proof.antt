@@ -1,4 +1,5 @@
--- `frames_walk::walk` passes the entries one after the other. The loop's invariant: the walk is past i entries. The measure is the entries left. Assumes nothing.
+-- `frames_walk::walk` passes the entries one after the other. The loop's invariant: the walk is past i entries. The measure is the entries left.
+-- Assumes nothing.
 use Prim.Native.Nat.{_-_, _≤_}
 use mathlib.Core.Path.{_≡_, refl, _∙_}
 use native.Mathlib.Omega.{arith}

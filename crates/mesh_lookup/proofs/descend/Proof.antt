@@ -1,4 +1,5 @@
--- `mesh_lookup::descend` is the descent. The loop's invariant: what is left of it from here is what it was from the start. The measure is the levels left. Assumes nothing.
+-- `mesh_lookup::descend` is the descent. The loop's invariant: what is left of it from here is what it was from the start. The measure is the levels
+-- left. Assumes nothing.
 use Prim.Native.Nat.{_-_, _≤_}
 use native.Mathlib.Omega.{arith}
 use Rattle.vector.proofs.Sizes.{Small}

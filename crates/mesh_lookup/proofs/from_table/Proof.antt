@@ -7,7 +7,7 @@ use mathlib.Core.Path.{refl, sym, ap, _∙_}
 use Rattle.mesh.specs.Rotations.{turnedBy}
 use Rattle.mesh_trixels.specs.Corners.{tripleOf}
 use Rattle.mesh_table.specs.Table.{vectorAt}
-use Rattle.mesh_lookup.proofs.TableLaws.{root-digit, child-digit, started}
+use Rattle.mesh_lookup.proofs.TableLaws.{root-digit, child-digit, table-start}
 use Rattle.mesh_lookup.proofs.from_table.Statement.{statement}
 use Rattle.mesh_lookup.proofs.from_table.Tie as tie
 
@@ -37,7 +37,7 @@ returns c =
     let ee = by2 .0 ∙ child-digit r h p q there d (by .1) refl refl refl in
     let ec = t .0 ∙ ap (λ k. tripleOf (turnedBy k (vectorAt i)) (turnedBy k (vectorAt (i + 1))) (turnedBy k (vectorAt (i + 2)))) ek in
     record {
-      goes-on = started p r d e _ h ed ee (by .1) (by2 .1) refl ec;
+      goes-on = table-start p r d e _ h ed ee (by .1) (by2 .1) refl ec;
       small = t .1;
       low = small-id r d e h (by .1) (by2 .1);
     }

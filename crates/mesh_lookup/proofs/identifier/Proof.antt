@@ -1,7 +1,7 @@
 -- `mesh_lookup::identifier` is the identifier at a depth: to depth 2 from the root, deeper from the table. Assumes nothing.
 use native.Mathlib.Omega.{arith}
 use mathlib.Core.Path.{_∙_}
-use Rattle.mesh_lookup.proofs.AnswerLaws.{from-root, from-place}
+use Rattle.mesh_lookup.proofs.AnswerLaws.{from-root, from-table-start}
 use Rattle.mesh_lookup.proofs.identifier.Statement.{statement}
 use Rattle.mesh_lookup.proofs.identifier.Tie as tie
 
@@ -22,4 +22,4 @@ identifier-spec =
     (λ c.
     let g = c .before .before in
     let r = g .before .before in
-    c .descend2 .ensures ∙ from-place (r .before .args .p) (r .before .args .depth) _ (r .root-number .ensures .0) (g .from-table .result) (omega arith) (g .from-table .ensures)))
+    c .descend2 .ensures ∙ from-table-start (r .before .args .p) (r .before .args .depth) _ (r .root-number .ensures .0) (g .from-table .result) (omega arith) (g .from-table .ensures)))

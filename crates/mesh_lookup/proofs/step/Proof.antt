@@ -5,7 +5,7 @@ use Rattle.vector.specs.declared.Vec3.{Vec3}
 use Rattle.mesh.specs.declared.Corners.{Corners}
 use Rattle.mesh_lookup.specs.declared.Child.{Child}
 use Rattle.mesh_lookup.specs.LookupSteps.{childAt, ChildStep}
-use Rattle.mesh_lookup.proofs.StepLaws.{stepped-0, stepped-1, stepped-2, stepped-3}
+use Rattle.mesh_lookup.proofs.StepLaws.{child-step-0, child-step-1, child-step-2, child-step-3}
 use Rattle.mesh_lookup.proofs.step.Statement.{statement}
 use Rattle.mesh_lookup.proofs.step.Tie as tie
 
@@ -28,7 +28,7 @@ step-spec =
     let m = a .before in
     let s = m .before .before .before .before .before in
     done (s .args .p) (s .args .c) (c .chosen .ensures) (c .before .triple .ensures)
-    (stepped-0 (s .args .p) (s .args .c) (s .pre .1) (m .before .midpoint .ensures .0) (m .midpoint2 .ensures .0) (m .before .midpoint .ensures .1) (m .midpoint2 .ensures .1)
+    (child-step-0 (s .args .p) (s .args .c) (s .pre .1) (m .before .midpoint .ensures .0) (m .midpoint2 .ensures .0) (m .before .midpoint .ensures .1) (m .midpoint2 .ensures .1)
     (sym (a .on-side .ensures) ∙ g .if1 .taken)))
     (λ c κs. let p = c .before .before .before .before .before .before .before .pre .1 in (p .v1, p .v2))
     (λ c κs. ((c .midpoint3 .ensures .1, c .before .before .before .midpoint2 .ensures .1), c .before .before .before .before .before .before .before .before .pre .0))
@@ -43,7 +43,7 @@ step-spec =
     let s = m .before .before .before .before .before in
     let w = b .before .midpoint3 .ensures in
     done (s .args .p) (s .args .c) (c .chosen2 .ensures) (c .before .triple2 .ensures)
-    (stepped-1 (s .args .p) (s .args .c) (s .pre .1) (m .before .midpoint .ensures .0) (m .midpoint2 .ensures .0) (m .before .midpoint .ensures .1) (m .midpoint2 .ensures .1)
+    (child-step-1 (s .args .p) (s .args .c) (s .pre .1) (m .before .midpoint .ensures .0) (m .midpoint2 .ensures .0) (m .before .midpoint .ensures .1) (m .midpoint2 .ensures .1)
     (sym (a .on-side .ensures) ∙ e .if1 .left) (w .0) (w .1) (sym (b .on-side2 .ensures) ∙ g .if2 .taken)))
     (λ c κs. ((c .before .before .before .before .before .before .midpoint .ensures .1, c .before .before .midpoint3 .ensures .1), c .before .before .before .before .before .before .before .before .before .before .pre .0))
     (λ c κs. tt)
@@ -59,7 +59,7 @@ step-spec =
     let s = m .before .before .before .before .before in
     let w = b .before .midpoint3 .ensures in
     done (s .args .p) (s .args .c) (c .chosen3 .ensures) (c .before .triple3 .ensures)
-    (stepped-2 (s .args .p) (s .args .c) (s .pre .1) (m .before .midpoint .ensures .0) (m .midpoint2 .ensures .0) (m .before .midpoint .ensures .1) (m .midpoint2 .ensures .1)
+    (child-step-2 (s .args .p) (s .args .c) (s .pre .1) (m .before .midpoint .ensures .0) (m .midpoint2 .ensures .0) (m .before .midpoint .ensures .1) (m .midpoint2 .ensures .1)
     (sym (a .on-side .ensures) ∙ e .if1 .left) (w .0) (w .1) (sym (b .on-side2 .ensures) ∙ f .if2 .left) (sym (d .on-side3 .ensures) ∙ g .if3 .taken)))
     (λ c κs. tt)
     (λ c κs. tt)
@@ -74,5 +74,5 @@ step-spec =
     let s = m .before .before .before .before .before in
     let w = b .before .midpoint3 .ensures in
     done (s .args .p) (s .args .c) (c .chosen4 .ensures) (c .before .triple4 .ensures)
-    (stepped-3 (s .args .p) (s .args .c) (s .pre .1) (m .before .midpoint .ensures .0) (m .midpoint2 .ensures .0) (m .before .midpoint .ensures .1) (m .midpoint2 .ensures .1)
+    (child-step-3 (s .args .p) (s .args .c) (s .pre .1) (m .before .midpoint .ensures .0) (m .midpoint2 .ensures .0) (m .before .midpoint .ensures .1) (m .midpoint2 .ensures .1)
     (sym (a .on-side .ensures) ∙ e .if1 .left) (w .0) (w .1) (sym (b .on-side2 .ensures) ∙ f .if2 .left) (sym (d .on-side3 .ensures) ∙ g .if3 .left))))

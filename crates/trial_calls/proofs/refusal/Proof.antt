@@ -8,32 +8,32 @@ use Rattle.answer.specs.Answer.{Answer}
 use Rattle.region.specs.Budgets.{budgetOf}
 use Rattle.region.specs.Reader.{File}
 use Rattle.index.specs.Entries.{IndexLength}
-use Rattle.trial.specs.Answers.{settled}
-use Rattle.trial_calls.proofs.CheckLaws.{no-first, no-second, both-settled, by-lengths}
+use Rattle.trial.specs.Answers.{checkSetting}
+use Rattle.trial_calls.proofs.CheckLaws.{no-first, no-second, both-checked, by-lengths}
 use Rattle.trial_calls.proofs.refusal.Statement.{statement}
 use Rattle.trial_calls.proofs.refusal.Tie as tie
 
 first-bad : tie.Need-returns
 first-bad c =
     let a = c .before .before .args in
-    no-first (a .index) (a .s) (a .t) (a .first) (a .second) (c .before .unsettled .result) (c .before .unsettled .ensures) (c .if1 .taken)
+    no-first (a .index) (a .s) (a .t) (a .first) (a .second) (c .before .setting-refusal .result) (c .before .setting-refusal .ensures) (c .if1 .taken)
 
 second-bad : tie.Need-returns-2
 second-bad c =
     let e = c .before .before in
     let a = e .before .before .args in
-    no-second (a .index) (a .s) (a .t) (a .first) (a .second) (e .before .unsettled .result) (e .before .unsettled .ensures) (e .if1 .left)
-    (c .before .unsettled2 .result) (c .before .unsettled2 .ensures) (c .if2 .taken)
+    no-second (a .index) (a .s) (a .t) (a .first) (a .second) (e .before .setting-refusal .result) (e .before .setting-refusal .ensures) (e .if1 .left)
+    (c .before .setting-refusal2 .result) (c .before .setting-refusal2 .ensures) (c .if2 .taken)
 
 -- both settings are good
 good : (c : tie.Else2) →
     let x = c .before .before .before .before .args in
-    (a : Answer File) → settled (x .s) (settled (x .t) a) ≡ a
+    (a : Answer File) → checkSetting (x .s) (checkSetting (x .t) a) ≡ a
 good c =
     let e = c .before .before in
     let a = e .before .before .args in
-    both-settled (a .index) (a .s) (a .t) (a .first) (a .second) (e .before .unsettled .result) (e .before .unsettled .ensures) (e .if1 .left)
-    (c .before .unsettled2 .result) (c .before .unsettled2 .ensures) (c .if2 .left)
+    both-checked (a .index) (a .s) (a .t) (a .first) (a .second) (e .before .setting-refusal .result) (e .before .setting-refusal .ensures) (e .if1 .left)
+    (c .before .setting-refusal2 .result) (c .before .setting-refusal2 .ensures) (c .if2 .left)
 
 -- the first buffer has room, and the second
 one : (c : tie.Else3) →

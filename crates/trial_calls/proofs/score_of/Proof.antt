@@ -2,8 +2,8 @@
 use Prim.Native.Nat.{_+_, _*_}
 use native.Mathlib.Omega.{arith}
 use mathlib.Core.Path.{ap}
-use Rattle.trial_calls.specs.Tries.{outcomeOf}
-use Rattle.trial_calls.proofs.OutcomeLaws.{sky-fits}
+use Rattle.trial_calls.specs.Tries.{scoreOf}
+use Rattle.trial_calls.proofs.ScoreLaws.{sky-fits}
 use Rattle.trial_calls.proofs.score_of.Statement.{statement}
 use Rattle.trial_calls.proofs.score_of.Tie as tie
 
@@ -19,7 +19,7 @@ given c =
     let w = c .before .before in
     let a = w .before .args in
     let m = a .made .counts in
-    ap (λ p. record { tried = outcomeOf (a .depth) (a .made) .tried; sky = (m .full + m .partial + m .swallowed) * p }) (w .power .ensures)
+    ap (λ p. record { result = scoreOf (a .depth) (a .made) .result; sky = (m .full + m .partial + m .swallowed) * p }) (w .power .ensures)
 
 pub score-of-spec : {M : Type 1} → statement M
 score-of-spec =

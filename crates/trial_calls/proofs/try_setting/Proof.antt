@@ -6,7 +6,7 @@ use denote.Ref.{now}
 use borrow.Author.Needs.{needs}
 use Rattle.region.proofs.BudgetLaws.{budget-one}
 use Rattle.trial_calls.specs.Tries.{Tries}
-use Rattle.trial_calls.proofs.OutcomeLaws.{spanned-few, comes-to}
+use Rattle.trial_calls.proofs.ScoreLaws.{spanned-few, scored}
 use Rattle.trial_calls.proofs.try_setting.Statement.{statement}
 use Rattle.trial_calls.proofs.try_setting.Tie as tie
 
@@ -35,7 +35,7 @@ given c g k =
     let b = v .before .before .before in
     let a = b .before .before .args in
     subst (λ r. Tries (a .owner) (now (a .index)) (a .s) g (now (a .ranges)) r (v .search .last .1 .1 .1 .1 .1 .1 .0)) (sym (c .score-of .ensures))
-    (comes-to (a .s) (b .budget-of .ensures .0) (v .search .ensures) g k)
+    (scored (a .s) (b .budget-of .ensures .0) (v .search .ensures) g k)
 
 pub try-setting-spec : {M : Type 1} → statement M
 try-setting-spec =

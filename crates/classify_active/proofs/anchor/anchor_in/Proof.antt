@@ -14,7 +14,7 @@ anchor-in-spec =
     (λ c. search needs)
     (λ c. search needs)
     (λ c.
-    let ps = c .before .before .before .args .near .now in
+    let ps = c .before .before .before .args .numbers .now in
     let e = stored-same (getD ps 3 (pos 0)) (c .before .t4 .given) in
     let m = stored-same (getD ps 4 (pos 0)) (c .t6 .given) in
     λ i. record { b = c .before .before .vec-in .ensures i; reach = e i; margin = m i }))

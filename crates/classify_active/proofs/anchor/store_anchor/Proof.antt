@@ -16,7 +16,7 @@ returns : tie.Need-returns
 returns c =
     let s = c .before .before .before .before .before .before in
     let r = s .args .r in
-    let ps = s .args .near .now in
+    let ps = s .args .numbers .now in
     let e = stored-same (r .reach) (c .before .before .before .before .struct-told .given .1 .0 .1) in
     let m = stored-same (r .margin) (c .before .before .before .struct-told2 .given .1 .1 .0 .1) in
     let l : set (set (c .before .store .last .0) 3 (toZ w64 (ofZ w64 (r .reach)))) 4 (toZ w64 (ofZ w64 (r .margin))) ≡ set (set (put 0 (three (r .b)) ps) 3 (r .reach)) 4 (r .margin) =

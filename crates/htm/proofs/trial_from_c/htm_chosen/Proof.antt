@@ -30,8 +30,8 @@ short c =
     let k = no-room-for-part (now (a .numbers)) (now (a .first)) (now (a .second)) (now (a .part)) (omega (arith, i .if1 .left)) (omega (arith, j .if2 .taken)) in
     (held (m .1) tt .eq ∙ m .0 ∙ k .0, k .1)
 
-told : tie.Need-returns-3
-told c =
+handed-back : tie.Need-returns-3
+handed-back c =
     let p = c .before .before in
     let n = p .before .before in
     let t = n .before in
@@ -59,4 +59,4 @@ htm-chosen-spec =
     (λ c κs. search needs)
     (λ c κs. search needs)
     (λ c. search needs)
-    told)
+    handed-back)

@@ -14,22 +14,22 @@ use Rattle.region.specs.Reader.{File, read}
 use Rattle.region.specs.Answers.{headerOf, headerGiven}
 use Rattle.index.specs.Exposures.{isOwner}
 use Rattle.trial.specs.declared.Setting.{Setting}
-use Rattle.htm_abi.specs.TrialValues.{unsettledOr, anywayRefused}
+use Rattle.htm_abi.specs.TrialValues.{settingRefusalOr, anywayRefused}
 use Rattle.htm_abi.proofs.trials.refused_anyway.Statement.{statement}
 use Rattle.htm_abi.proofs.trials.refused_anyway.Tie as tie
 
 module _ (o : ℕ) (f : List ℕ) (s t : Setting) where
   no-owner : isOwner o ≡ false → anywayRefused o f s t ≡ refused Owner
-  no-owner e = ap (λ b. check Owner b (then (read f) (λ x. unsettledOr s t))) e
+  no-owner e = ap (λ b. check Owner b (then (read f) (λ x. settingRefusalOr s t))) e
 
   module _ (own : isOwner o ≡ true) where
-    by-file : (a : Answer File) → read f ≡ a → anywayRefused o f s t ≡ then a (λ x. unsettledOr s t)
-    by-file a e = ap (λ b. check Owner b (then (read f) (λ x. unsettledOr s t))) own ∙ ap (λ b. then b (λ x. unsettledOr s t)) e
+    by-file : (a : Answer File) → read f ≡ a → anywayRefused o f s t ≡ then a (λ x. settingRefusalOr s t)
+    by-file a e = ap (λ b. check Owner b (then (read f) (λ x. settingRefusalOr s t))) own ∙ ap (λ b. then b (λ x. settingRefusalOr s t)) e
 
     no-file : (n : ℕ) → refused n ≡ with-value headerOf (read f) → anywayRefused o f s t ≡ refused n
     no-file n e = by-file (refused n) (value-refused headerOf (read f) n (sym e))
 
-    a-file : (h : Header) (n : ℕ) → gives h ≡ with-value headerOf (read f) → unsettledOr s t ≡ refused n → anywayRefused o f s t ≡ refused n
+    a-file : (h : Header) (n : ℕ) → gives h ≡ with-value headerOf (read f) → settingRefusalOr s t ≡ refused n → anywayRefused o f s t ≡ refused n
     a-file h n e u = let v = value-gives headerOf (read f) h (sym e) in by-file (gives (v .0)) (v .1) ∙ u
 
 other : tie.Need-returns
@@ -44,7 +44,7 @@ given c =
     let d = m .before .before in
     let e = d .before .before in
     let a = e .before .before .args in
-    a-file (a .owner) (now (a .file)) (a .s) (a .t) (own e) _ (c .unsettled-or-space .result) (sym (ap headerGiven (m .enum-told .given .1)) ∙ d .decode .ensures .0) (c .unsettled-or-space .ensures)
+    a-file (a .owner) (now (a .file)) (a .s) (a .t) (own e) _ (c .setting-refusal-or-space .result) (sym (ap headerGiven (m .enum-told .given .1)) ∙ d .decode .ensures .0) (c .setting-refusal-or-space .ensures)
 
 refuses : tie.Need-returns-3
 refuses c =

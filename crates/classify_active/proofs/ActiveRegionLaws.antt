@@ -1,5 +1,5 @@
--- What is kept of a region beside an anchor, convex by convex: one that is outside for every close trixel is left out, of the others the active halfspaces
--- are kept. Assumes nothing.
+-- What is stored of a region beside an anchor, convex by convex: one that is outside for every close trixel is left out, of the others the active
+-- halfspaces are stored. Assumes nothing.
 use Prim.Native.Nat.{ℕ, suc, _+_, _-_, _*_, _≤_, _<_}
 use native.Mathlib.Omega.{arith}
 use mathlib.Core.Path.{_≡_, refl, sym, ap, subst, subst₂, _∙_}
@@ -30,8 +30,8 @@ use Rattle.classify_prepared.specs.PreparedLists.{convexSevens, sevens, endsFro
 use Rattle.classify_region.proofs.ScanLaws.{join-assoc, join-outside, region-cons, no-total, no-region, ConvexNext, region-start, convex-next, region-end}
 use Rattle.classify_prepared.proofs.PreparingLaws.{length-sevens}
 use Rattle.classify_active.specs.declared.ActiveResult.{ActiveResult}
-use Rattle.classify_active.specs.Narrow.{Alike, Narrowed, ActiveLists, ActiveListsIn, ByActive, activeCount, Stores, ActiveResultOf, SomeConvex, ActiveConvex, Narrowing}
-use Rattle.classify_active.proofs.OpenLaws.{length-snoc}
+use Rattle.classify_active.specs.Active.{Alike, ActivePrepared, ActiveLists, ActiveListsIn, ByActive, activeCount, Stores, ActiveResultOf, SomeConvex, ActiveConvex, RegionSearch}
+use Rattle.classify_active.proofs.ActiveConvexLaws.{length-snoc}
 
 -- ---- one more at the end of a region
 
@@ -87,7 +87,7 @@ unfolding total
 few-convexes [] f = omega arith
 few-convexes (c ∷ cs) f = omega (arith, f .0, few-convexes cs (f .1))
 
--- ---- what is put behind an anchor leaves what is before it
+-- ---- what is put behind a place leaves what is before it
 
 module _ {A : Type 0} (k : ℕ) (xs before : List A) (h : k ≤ length before) where
   put-before : take k (put k xs before) ≡ take k before
@@ -103,25 +103,25 @@ module _ {A : Type 0} (k : ℕ) (xs before : List A) (h : k ≤ length before) w
 -- ---- the convexes of a region
 
 module _ (r : Anchor) (xs : List ℤ) (es : List ℕ) (n : ℕ) (g : Region) where
-  pub narrow-start : Prepared g xs es n → (ys : List ℤ) (ms : List ℕ) → 7 * 32 ≤ length ys → 32 ≤ length ms → Narrowing r xs es n g 0 0 0 0 ys ms
+  pub region-search-start : Prepared g xs es n → (ys : List ℤ) (ms : List ℕ) → 7 * 32 ≤ length ys → 32 ≤ length ms → RegionSearch r xs es n g 0 0 0 0 ys ms
   unfolding total sevens endsFrom good every
-  narrow-start p ys ms long wide = record {
+  region-search-start p ys ms long wide = record {
     left = g;
     at = region-start xs es n g p;
-    kept = [];
+    stored = [];
     halfspaces = refl;
     convexes = refl;
     few = omega arith;
     full = tt;
     good = refl;
     list = refl;
-    marks = refl;
+    stops = refl;
     long = long;
     wide = wide;
     class = λ t c. ap (λ a. join a (regionClass g t)) (no-region [] t tt no-total);
   }
 
-  module _ {i k w c : ℕ} {ys : List ℤ} {ms : List ℕ} (h : i < n) (a : Narrowing r xs es n g i k w c ys ms) where
+  module _ {i k w c : ℕ} {ys : List ℤ} {ms : List ℕ} (h : i < n) (a : RegionSearch r xs es n g i k w c ys ms) where
     following : ConvexNext xs es n i k (getD es k 0) (a .left)
     following = convex-next xs es n i k (a .left) (a .at) h .1 (getD es k 0) refl
 
@@ -135,68 +135,68 @@ module _ (r : Anchor) (xs : List ℤ) (es : List ℕ) (n : ℕ) (g : Region) whe
     some-convex = (following .convex, following .at)
 
     -- the class of the region, with that of its next convex
-    with-next : (t : Trixel) → Close r t → {b : Class} → convexClass (following .convex) t ≡ b → join (regionClass (a .kept) t) (join b (regionClass (following .rest) t)) ≡ regionClass g t
+    with-next : (t : Trixel) → Close r t → {b : Class} → convexClass (following .convex) t ≡ b → join (regionClass (a .stored) t) (join b (regionClass (following .rest) t)) ≡ regionClass g t
     with-next t c e =
-        ap (λ b. join (regionClass (a .kept) t) (join b (regionClass (following .rest) t))) (sym e) ∙ ap (join (regionClass (a .kept) t)) (sym (following .class t)) ∙ a .class t c
+        ap (λ b. join (regionClass (a .stored) t) (join b (regionClass (following .rest) t))) (sym e) ∙ ap (join (regionClass (a .stored) t)) (sym (following .class t)) ∙ a .class t c
 
-    -- what was kept before stays, and is followed by what is kept now
+    -- what was stored before stays, and is followed by what is stored now
     module _ (u : Convex) {ys′ : List ℤ} (s : Stores w u ys ys′) where
       long-after : 7 * 32 ≤ length ys′
       long-after = omega (arith, ap length (s .list) ∙ put-length (7 * w) (convexSevens u) ys (omega (arith, length-sevens u, s .small, a .long)), a .long)
 
-      kept-before : take (7 * w) ys′ ≡ sevens (a .kept)
-      kept-before = ap (take (7 * w)) (s .list) ∙ put-before (7 * w) (convexSevens u) ys (omega (arith, a .long, a .few)) ∙ a .list
+      stored-before : take (7 * w) ys′ ≡ sevens (a .stored)
+      stored-before = ap (take (7 * w)) (s .list) ∙ put-before (7 * w) (convexSevens u) ys (omega (arith, a .long, a .few)) ∙ a .list
 
-      dropped : ((t : Trixel) → Close r t → convexClass (following .convex) t ≡ Outside) → Narrowing r xs es n g (getD es k 0) (k + 1) w c ys′ ms
+      dropped : ((t : Trixel) → Close r t → convexClass (following .convex) t ≡ Outside) → RegionSearch r xs es n g (getD es k 0) (k + 1) w c ys′ ms
       dropped o = record {
         left = following .rest;
         at = following .after;
-        kept = a .kept;
+        stored = a .stored;
         halfspaces = a .halfspaces;
         convexes = a .convexes;
         few = a .few;
         full = a .full;
         good = a .good;
-        list = kept-before;
-        marks = a .marks;
+        list = stored-before;
+        stops = a .stops;
         long = long-after;
         wide = a .wide;
         class = λ t c. with-next t c (o t c);
       }
 
       module _ {m : ℕ} (e : m ≡ w + length u) (l : w < m) where
-        kept-with : take (7 * m) ys′ ≡ sevens (a .kept ++ u ∷ [])
-        kept-with =
+        stored-with : take (7 * m) ys′ ≡ sevens (a .stored ++ u ∷ [])
+        stored-with =
             let at : 7 * m ≡ 7 * w + length (convexSevens u) = omega (arith, e, length-sevens u) in
             (λ j. take (at j) (s .list j)) ∙ put-with (7 * w) (convexSevens u) ys (omega (arith, a .long, a .few)) ∙ ap (λ l. l ++ convexSevens u) (a .list)
-            ∙ sym (region-sevens u (a .kept))
+            ∙ sym (region-sevens u (a .stored))
 
-        few-marks : c < 32
-        few-marks = omega (arith, e, s .small, a .convexes, a .halfspaces, few-convexes (a .kept) (a .full))
+        few-stops : c < 32
+        few-stops = omega (arith, e, s .small, a .convexes, a .halfspaces, few-convexes (a .stored) (a .full))
 
-        marked-with : take (c + 1) (set ms c m) ≡ endsFrom 0 (a .kept ++ u ∷ [])
-        marked-with =
+        stops-with : take (c + 1) (set ms c m) ≡ endsFrom 0 (a .stored ++ u ∷ [])
+        stops-with =
             let one : c + 1 ≡ suc c = omega arith in
-            let end : m ≡ 0 + total (a .kept) + length u = omega (arith, e, a .halfspaces) in
-            ap (λ j. take j (set ms c m)) one ∙ take-suc-set ms c m (omega (arith, few-marks, a .wide)) ∙ (λ j. a .marks j ++ end j ∷ []) ∙ sym (ends-snoc u 0 (a .kept))
+            let end : m ≡ 0 + total (a .stored) + length u = omega (arith, e, a .halfspaces) in
+            ap (λ j. take j (set ms c m)) one ∙ take-suc-set ms c m (omega (arith, few-stops, a .wide)) ∙ (λ j. a .stops j ++ end j ∷ []) ∙ sym (ends-snoc u 0 (a .stored))
 
-        taken : ((t : Trixel) → Close r t → convexClass (following .convex) t ≡ convexClass u t) → Narrowing r xs es n g (getD es k 0) (k + 1) m (c + 1) ys′ (set ms c m)
+        taken : ((t : Trixel) → Close r t → convexClass (following .convex) t ≡ convexClass u t) → RegionSearch r xs es n g (getD es k 0) (k + 1) m (c + 1) ys′ (set ms c m)
         taken o = record {
           left = following .rest;
           at = following .after;
-          kept = a .kept ++ u ∷ [];
-          halfspaces = omega (arith, e, a .halfspaces, total-snoc u (a .kept));
-          convexes = omega (arith, a .convexes, length-snoc (a .kept) u);
+          stored = a .stored ++ u ∷ [];
+          halfspaces = omega (arith, e, a .halfspaces, total-snoc u (a .stored));
+          convexes = omega (arith, a .convexes, length-snoc (a .stored) u);
           few = omega (arith, e, s .small);
-          full = filled-snoc u (a .kept) (a .full) (omega (arith, e));
-          good = region-good-snoc u (a .kept) (a .good) (s .good);
-          list = kept-with;
-          marks = marked-with;
+          full = filled-snoc u (a .stored) (a .full) (omega (arith, e));
+          good = region-good-snoc u (a .stored) (a .good) (s .good);
+          list = stored-with;
+          stops = stops-with;
           long = long-after;
           wide = omega (arith, length-set ms c m, a .wide);
           class = λ t c.
-              ap (λ b. join b (regionClass (following .rest) t)) (region-snoc u (a .kept) t)
-              ∙ join-assoc (regionClass (a .kept) t) (convexClass u t) (regionClass (following .rest) t)
+              ap (λ b. join b (regionClass (following .rest) t)) (region-snoc u (a .stored) t)
+              ∙ join-assoc (regionClass (a .stored) t) (convexClass u t) (regionClass (following .rest) t)
               ∙ with-next t c (o t c);
         }
 
@@ -204,44 +204,44 @@ module _ (r : Anchor) (xs : List ℤ) (es : List ℕ) (n : ℕ) (g : Region) whe
     found : (ys′ : List ℤ) {o p : ActiveResult} → ActiveConvex r xs i (getD es k 0) w ys ys′ o → o ≡ p → ActiveResultOf r (following .convex) w ys ys′ p
     found ys′ f e = subst (ActiveResultOf r (following .convex) w ys ys′) e (f (following .convex) (following .at))
 
-    pub add-outside : {ys′ : List ℤ} {o : ActiveResult} → ActiveConvex r xs i (getD es k 0) w ys ys′ o → o ≡ ActiveResult.Outside → Narrowing r xs es n g (getD es k 0) (k + 1) w c ys′ ms
+    pub add-outside : {ys′ : List ℤ} {o : ActiveResult} → ActiveConvex r xs i (getD es k 0) w ys ys′ o → o ≡ ActiveResult.Outside → RegionSearch r xs es n g (getD es k 0) (k + 1) w c ys′ ms
     add-outside {ys′} f e = let b = found ys′ f e in dropped (b .0) (b .1) (b .2)
 
-    pub add-halves : {ys′ : List ℤ} {o : ActiveResult} {m : ℕ} → ActiveConvex r xs i (getD es k 0) w ys ys′ o → o ≡ ActiveResult.Active m → w < m
-        → (c < 32) × Narrowing r xs es n g (getD es k 0) (k + 1) m (c + 1) ys′ (set ms c m)
-    add-halves {ys′} f e l = let b = found ys′ f e in (few-marks (b .0) (b .1) (b .2) l, taken (b .0) (b .1) (b .2) l (b .3))
+    pub add-active : {ys′ : List ℤ} {o : ActiveResult} {m : ℕ} → ActiveConvex r xs i (getD es k 0) w ys ys′ o → o ≡ ActiveResult.Active m → w < m
+        → (c < 32) × RegionSearch r xs es n g (getD es k 0) (k + 1) m (c + 1) ys′ (set ms c m)
+    add-active {ys′} f e l = let b = found ys′ f e in (few-stops (b .0) (b .1) (b .2) l, taken (b .0) (b .1) (b .2) l (b .3))
 
-  -- no convex is left: what is kept is a region of its own
-  pub narrow-end : (i k w c : ℕ) (ys : List ℤ) (ms : List ℕ) → Narrowing r xs es n g i k w c ys ms → n ≤ i → (h : Region) × Prepared h ys ms w × Alike r g h
-  narrow-end i k w c ys ms a h = (
-    a .kept,
+  -- no convex is left: what is stored is a region of its own
+  pub region-search-end : (i k w c : ℕ) (ys : List ℤ) (ms : List ℕ) → RegionSearch r xs es n g i k w c ys ms → n ≤ i → (h : Region) × Prepared h ys ms w × Alike r g h
+  region-search-end i k w c ys ms a h = (
+    a .stored,
     record {
       count = a .halfspaces;
       filled = a .full;
       good = a .good;
       more = drop (7 * w) ys;
-      halves = sym (take-append-drop (7 * w) ys) ∙ ap (λ l. l ++ drop (7 * w) ys) (a .list);
+      halfspaces = sym (take-append-drop (7 * w) ys) ∙ ap (λ l. l ++ drop (7 * w) ys) (a .list);
       further = drop c ms;
-      ends = sym (take-append-drop c ms) ∙ ap (λ l. l ++ drop c ms) (a .marks);
+      ends = sym (take-append-drop c ms) ∙ ap (λ l. l ++ drop c ms) (a .stops);
     },
     λ t c′.
-        sym (a .class t c′) ∙ ap (join (regionClass (a .kept) t)) (region-end xs es n i k (a .left) (a .at) h t) ∙ join-outside (regionClass (a .kept) t),
+        sym (a .class t c′) ∙ ap (join (regionClass (a .stored) t)) (region-end xs es n i k (a .left) (a .at) h t) ∙ join-outside (regionClass (a .stored) t),
   )
 
 -- ---- the class of a trixel that is close, by what is active
 
-pub by-open : {xs : List ℤ} {es : List ℕ} {n : ℕ} {ys : List ℤ} {ms : List ℕ} {w : ℕ} {r : Anchor} {t : Trixel} {m : BoundingCap} → Narrowed xs es n ys ms w r
+pub by-active : {xs : List ℤ} {es : List ℕ} {n : ℕ} {ys : List ℤ} {ms : List ℕ} {w : ℕ} {r : Anchor} {t : Trixel} {m : BoundingCap} → ActivePrepared xs es n ys ms w r
     → IsBoundingCap t m → positive (volume t) ≡ true → closeTo r m ≡ true → {c : Class} → Classed t ys ms w c → Classed t xs es n c
-by-open {t = t} {m = m} k b v e f g p = let h = k g p in f (h .0) (h .1) ∙ sym (h .2 t (record { cap = m; bounds = b; oriented = v; close = e }))
+by-active {t = t} {m = m} k b v e f g p = let h = k g p in f (h .0) (h .1) ∙ sym (h .2 t (record { cap = m; bounds = b; oriented = v; close = e }))
 
-pub by-open-in : {xs : List ℤ} {es : List ℕ} {ys : List ℤ} {ms : List ℕ} {t : Trixel} {m : BoundingCap} {c : Class} → ActiveListsIn xs es ys ms → ByActive t m ys ms
+pub by-active-in : {xs : List ℤ} {es : List ℕ} {ys : List ℤ} {ms : List ℕ} {t : Trixel} {m : BoundingCap} {c : Class} → ActiveListsIn xs es ys ms → ByActive t m ys ms
     → IsBoundingCap t m → Classed t ys ms (activeCount ms) c → Classed t xs es (countIn es) c
-by-open-in k o b f = by-open (k .narrowed (o .some)) b (o .oriented) (o .close) f
+by-active-in k o b f = by-active (k .active (o .some)) b (o .oriented) (o .close) f
 
 -- the region of the active halfspaces
-pub open-ready : {xs : List ℤ} {es : List ℕ} {ys : List ℤ} {ms : List ℕ} {t : Trixel} {m : BoundingCap} → ActiveListsIn xs es ys ms → ByActive t m ys ms
+pub active-ready : {xs : List ℤ} {es : List ℕ} {ys : List ℤ} {ms : List ℕ} {t : Trixel} {m : BoundingCap} → ActiveListsIn xs es ys ms → ByActive t m ys ms
     → Ready xs es (countIn es) → Ready ys ms (activeCount ms)
-open-ready k o r = let h = k .narrowed (o .some) (r .0) (r .1) in (h .0, h .1)
+active-ready k o r = let h = k .active (o .some) (r .0) (r .1) in (h .0, h .1)
 
 -- ---- what goes with a trixel
 
@@ -253,8 +253,8 @@ module _ {xs : List ℤ} {es : List ℕ} {n m : ℕ} (e : n ≡ m) where
   pub prepared-count : {g : Region} → Prepared g xs es m → Prepared g xs es n
   prepared-count {g} h = subst (λ n. Prepared g xs es n) (sym e) h
 
-  pub narrowed-count : {ys : List ℤ} {ms : List ℕ} {w : ℕ} {r : Anchor} → Narrowed xs es n ys ms w r → Narrowed xs es m ys ms w r
-  narrowed-count {ys} {ms} {w} {r} h = subst (λ n. Narrowed xs es n ys ms w r) e h
+  pub active-prepared-count : {ys : List ℤ} {ms : List ℕ} {w : ℕ} {r : Anchor} → ActivePrepared xs es n ys ms w r → ActivePrepared xs es m ys ms w r
+  active-prepared-count {ys} {ms} {w} {r} h = subst (λ n. ActivePrepared xs es n ys ms w r) e h
 
 -- a part of a list that was lent from number a on, and has come back
 pub part-back : (a : ℕ) (xs ys : List ℤ) → a ≤ length xs → drop a (putMid a (length xs - a) xs ys) ≡ ys
@@ -270,30 +270,30 @@ prepared-longer {h} a b p = record {
   filled = p .filled;
   good = p .good;
   more = p .more ++ a;
-  halves = ap (λ l. l ++ a) (p .halves) ∙ append-assoc (sevens h) (p .more) a;
+  halfspaces = ap (λ l. l ++ a) (p .halfspaces) ∙ append-assoc (sevens h) (p .more) a;
   further = p .further ++ b;
   ends = ap (λ l. l ++ b) (p .ends) ∙ append-assoc (endsFrom 0 h) (p .further) b;
 }
 
 -- an anchor that stands behind, and what was found beside it, with the count behind it
-pub beside-behind : {xs : List ℤ} {es : List ℕ} {n : ℕ} {r : Anchor} (ys front : List ℤ) (ms marks : List ℕ) (w : ℕ) → IsAnchor r → anchorIn (drop 224 ys) ≡ r
-    → length ys ≡ 229 → length ms ≡ 33 → length front ≡ length (take 224 ys) → length marks ≡ length (take 32 ms) → (0 < w → Narrowed xs es n front marks w r)
-    → ActiveLists xs es n (front ++ drop 224 ys) (set (marks ++ drop 32 ms) 32 w) (activeCount (set (marks ++ drop 32 ms) 32 w)) (drop 224 (front ++ drop 224 ys))
-beside-behind {xs} {es} {n} {r} ys front ms marks w p e ly l kf km f =
+pub active-lists-behind : {xs : List ℤ} {es : List ℕ} {n : ℕ} {r : Anchor} (ys front : List ℤ) (ms stops : List ℕ) (w : ℕ) → IsAnchor r → anchorIn (drop 224 ys) ≡ r
+    → length ys ≡ 229 → length ms ≡ 33 → length front ≡ length (take 224 ys) → length stops ≡ length (take 32 ms) → (0 < w → ActivePrepared xs es n front stops w r)
+    → ActiveLists xs es n (front ++ drop 224 ys) (set (stops ++ drop 32 ms) 32 w) (activeCount (set (stops ++ drop 32 ms) 32 w)) (drop 224 (front ++ drop 224 ys))
+active-lists-behind {xs} {es} {n} {r} ys front ms stops w p e ly l kf km f =
     let lf : length front ≡ 224 = kf ∙ length-take-le 224 ys (omega arith) in
-    let lm : length marks ≡ 32 = km ∙ length-take-le 32 ms (omega arith) in
-    let all = marks ++ drop 32 ms in
-    let long : 32 < length all = omega (arith, length-append marks (drop 32 ms), length-drop 32 ms) in
+    let lm : length stops ≡ 32 = km ∙ length-take-le 32 ms (omega arith) in
+    let all = stops ++ drop 32 ms in
+    let long : 32 < length all = omega (arith, length-append stops (drop 32 ms), length-drop 32 ms) in
     let there : anchorIn (drop 224 (front ++ drop 224 ys)) ≡ r = ap anchorIn (drop-at front (drop 224 ys) 224 lf) ∙ e in
-    let kept : set all 32 w ≡ marks ++ w ∷ drop 33 all = set-split all 32 w long ∙ ap (λ m. m ++ w ∷ drop 33 all) (take-at marks (drop 32 ms) 32 lm) in
+    let stored : set all 32 w ≡ stops ++ w ∷ drop 33 all = set-split all 32 w long ∙ ap (λ m. m ++ w ∷ drop 33 all) (take-at stops (drop 32 ms) 32 lm) in
     let count : activeCount (set all 32 w) ≡ w = getD-set-same all 32 w 0 long in
     record {
-      placed = subst IsAnchor (sym there) p;
-      narrowed = λ h g q.
+      anchor = subst IsAnchor (sym there) p;
+      active = λ h g q.
           let k = f (subst (λ v. 0 < v) count h) g q in
-          (k .0, subst₂ (λ m v. Prepared (k .0) (front ++ drop 224 ys) m v) (sym kept) (sym count) (prepared-longer (drop 224 ys) (w ∷ drop 33 all) (k .1)), subst (λ z. Alike z g (k .0)) (sym there) (k .2));
+          (k .0, subst₂ (λ m v. Prepared (k .0) (front ++ drop 224 ys) m v) (sym stored) (sym count) (prepared-longer (drop 224 ys) (w ∷ drop 33 all) (k .1)), subst (λ z. Alike z g (k .0)) (sym there) (k .2));
     }
 
 -- nothing is known
-pub beside-none : {xs : List ℤ} {es : List ℕ} {n : ℕ} {ys : List ℤ} {ms : List ℕ} {ps : List ℤ} → IsAnchor (anchorIn ps) → ActiveLists xs es n ys ms 0 ps
-beside-none p = record { placed = p; narrowed = λ h. absurd (omega arith) }
+pub active-lists-none : {xs : List ℤ} {es : List ℕ} {n : ℕ} {ys : List ℤ} {ms : List ℕ} {ps : List ℤ} → IsAnchor (anchorIn ps) → ActiveLists xs es n ys ms 0 ps
+active-lists-none p = record { anchor = p; active = λ h. absurd (omega arith) }

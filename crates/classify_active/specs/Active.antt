@@ -1,16 +1,17 @@
 -- The active halfspaces of a region beside an anchor, in two lists of their own: those that are not settled for every trixel close to it. Document 01,
 -- 'Classifying': a convex is outside if one halfspace is, and a full halfspace leaves it as it is, so both need not be looked at again.
 --   Alike r g h                the regions g and h have the same class for every trixel that is close to r
---   Narrowed xs es n ys ms w r   for every region that was prepared to xs and es the lists ys and ms have one of w halfspaces that is alike
---   ActiveLists xs es n ys ms w ps   ps has an anchor, and where w is not 0 the lists ys and ms have the w halfspaces that are active beside it
---   activeCount ms, ActiveListsIn ..   how many they are, behind the ends of 32 convexes; the same where the anchor stands behind the numbers of 32 halfspaces
+--   ActivePrepared ..          for every region that was prepared to xs and es the lists ys and ms have one of w halfspaces that is alike
+--   ActiveLists ..             ps has an anchor, and where w is not 0 the lists ys and ms have the w halfspaces that are active beside it
+--   activeCount ms             how many they are, behind the ends of 32 convexes
+--   ActiveListsIn xs es ys ms  ActiveLists, where the anchor stands behind the numbers of 32 halfspaces
 --   ByActive t m ys ms         the class of t is that by the active halfspaces
 --   Stores w u ys ys′          the halfspaces of u were stored from number w on; 32 are the most
---   ActiveResultOf r v w ys ys′ o   what was found of a convex: it is outside, or the active halfspaces were stored, or they are too many
+--   ActiveResultOf ..          what was found of a convex: it is outside, or the active halfspaces were stored, or they are too many
 --   SomeConvex, ActiveConvex   of some convex that stands there; of every one
---   activeStoredCount, activeStoredList   how many are stored, and the list, after a halfspace of that class: an active one is stored
---   Narrowing ..               where the narrowing stands, before convex number k, whose first halfspace is number i: w halfspaces in c convexes are kept
---   SomeNarrowing, NarrowsOn   of some region; that it goes on behind a convex more, of every one
+--   activeStoredCount c w      how many are stored after a halfspace of class c: an active one is stored; activeStoredList: the list then
+--   RegionSearch ..            how far the search is, before convex number k, whose first halfspace is number i: w halfspaces in c convexes are stored
+--   SomeRegionSearch ..        the same of some region; RegionSearchOn: it goes on behind a convex more, of every one
 use Prim.Native.Nat.{ℕ, _+_, _*_, _≤_, _<_}
 use mathlib.Core.Path.{_≡_}
 use mathlib.Core.Bool.{true}
@@ -40,13 +41,13 @@ use Rattle.classify_prepared.specs.PreparedLists.{seven, convexSevens, sevens, 
 abbrev pub Alike : Anchor → Region → Region → Type 0
 Alike r g h = (t : Trixel) → Close r t → regionClass g t ≡ regionClass h t
 
-abbrev pub Narrowed : List ℤ → List ℕ → ℕ → List ℤ → List ℕ → ℕ → Anchor → Type 0
-Narrowed xs es n ys ms w r = (g : Region) → Prepared g xs es n → (h : Region) × Prepared h ys ms w × Alike r g h
+abbrev pub ActivePrepared : List ℤ → List ℕ → ℕ → List ℤ → List ℕ → ℕ → Anchor → Type 0
+ActivePrepared xs es n ys ms w r = (g : Region) → Prepared g xs es n → (h : Region) × Prepared h ys ms w × Alike r g h
 
 -- what goes with a trixel of the cutting: an anchor, and the active halfspaces beside it, if any
 pub record ActiveLists (xs : List ℤ) (es : List ℕ) (n : ℕ) (ys : List ℤ) (ms : List ℕ) (w : ℕ) (ps : List ℤ) : Type 0 where
-  pub placed : IsAnchor (anchorIn ps)
-  pub narrowed : 0 < w → Narrowed xs es n ys ms w (anchorIn ps)
+  pub anchor : IsAnchor (anchorIn ps)
+  pub active : 0 < w → ActivePrepared xs es n ys ms w (anchorIn ps)
 
 abbrev pub activeCount : List ℕ → ℕ
 activeCount ms = getD ms 32 0
@@ -90,26 +91,26 @@ activeStoredList Full w q ys = ys
 
 -- ---- convex after convex
 
-pub record Narrowing (r : Anchor) (xs : List ℤ) (es : List ℕ) (n : ℕ) (g : Region) (i k w c : ℕ) (ys : List ℤ) (ms : List ℕ) : Type 0 where
+pub record RegionSearch (r : Anchor) (xs : List ℤ) (es : List ℕ) (n : ℕ) (g : Region) (i k w c : ℕ) (ys : List ℤ) (ms : List ℕ) : Type 0 where
   pub left : Region
   pub at : RegionAt xs es n i k left
-  pub kept : Region
-  pub halfspaces : w ≡ total kept
-  pub convexes : c ≡ length kept
+  pub stored : Region
+  pub halfspaces : w ≡ total stored
+  pub convexes : c ≡ length stored
   pub few : w ≤ 32
-  pub full : Filled kept
-  pub good : good kept ≡ true
-  pub list : take (7 * w) ys ≡ sevens kept
-  pub marks : take c ms ≡ endsFrom 0 kept
+  pub full : Filled stored
+  pub good : good stored ≡ true
+  pub list : take (7 * w) ys ≡ sevens stored
+  pub stops : take c ms ≡ endsFrom 0 stored
   pub long : 7 * 32 ≤ length ys
   pub wide : 32 ≤ length ms
-  pub class : (t : Trixel) → Close r t → join (regionClass kept t) (regionClass left t) ≡ regionClass g t
+  pub class : (t : Trixel) → Close r t → join (regionClass stored t) (regionClass left t) ≡ regionClass g t
 
-abbrev pub SomeNarrowing : Anchor → List ℤ → List ℕ → ℕ → ℕ → ActiveCounts → List ℤ → List ℕ → Type 0
-SomeNarrowing r xs es i k s ys ms = (n : ℕ) × (i < n) × (g : Region) × Narrowing r xs es n g i k (s .halves) (s .convexes) ys ms
+abbrev pub SomeRegionSearch : Anchor → List ℤ → List ℕ → ℕ → ℕ → ActiveCounts → List ℤ → List ℕ → Type 0
+SomeRegionSearch r xs es i k s ys ms = (n : ℕ) × (i < n) × (g : Region) × RegionSearch r xs es n g i k (s .halfspaces) (s .convexes) ys ms
 
--- convex number k more: the narrowing goes on behind it, for every region that has one more
-abbrev pub NarrowsOn : Anchor → List ℤ → List ℕ → ℕ → ℕ → ActiveCounts → List ℤ → List ℕ → ActiveCounts → List ℤ → List ℕ → Type 0
-NarrowsOn r xs es i k s ys ms s′ ys′ ms′ =
-    (n : ℕ) (g : Region) → i < n → Narrowing r xs es n g i k (s .halves) (s .convexes) ys ms → s′ .more ≡ true
-    → Narrowing r xs es n g (getD es k 0) (k + 1) (s′ .halves) (s′ .convexes) ys′ ms′
+-- convex number k more: the search goes on behind it, for every region that has one more
+abbrev pub RegionSearchOn : Anchor → List ℤ → List ℕ → ℕ → ℕ → ActiveCounts → List ℤ → List ℕ → ActiveCounts → List ℤ → List ℕ → Type 0
+RegionSearchOn r xs es i k s ys ms s′ ys′ ms′ =
+    (n : ℕ) (g : Region) → i < n → RegionSearch r xs es n g i k (s .halfspaces) (s .convexes) ys ms → s′ .more ≡ true
+    → RegionSearch r xs es n g (getD es k 0) (k + 1) (s′ .halfspaces) (s′ .convexes) ys′ ms′

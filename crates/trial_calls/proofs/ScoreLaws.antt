@@ -1,4 +1,4 @@
--- A search under a setting comes to what the setting comes to: the full trixels' identifiers, the partial ones and those swallowed are the identifiers of the
+-- A search under a setting gives the result of the setting: the full trixels' identifiers, the partial ones and those swallowed are the identifiers of the
 -- outer list (`outer-counted`), and few (`counts-small`). Assumes nothing.
 use Prim.Native.Nat.{ℕ, _+_, _-_, _*_, _^_, _≤_}
 use native.Mathlib.Omega.{arith}
@@ -17,7 +17,7 @@ use Rattle.frames_calls.specs.declared.Searched.{Searched}
 use Rattle.frames_calls.specs.Searches.{Leaves, SearchesRows}
 use Rattle.trial.specs.declared.Setting.{Setting}
 use Rattle.trial.specs.Trials.{walkBy}
-use Rattle.trial_calls.specs.Tries.{outcomeOf, Tries}
+use Rattle.trial_calls.specs.Tries.{scoreOf, Tries}
 
 abbrev spanned : Searched → ℕ
 spanned r = r .counts .full + r .counts .partial + r .counts .swallowed
@@ -40,12 +40,12 @@ module _ (s : Setting) {o b n : ℕ} {l rs : List ℤ} {before numbers lists lef
   pub spanned-few : s .depth ≤ 12 → spanned r ≤ 2 ^ 25
   spanned-few h = subst (λ c. c .full + c .partial + c .swallowed ≤ 2 ^ 25) (sym (leaves .counts)) (counts-small g (s .depth) B (budget-one (s .budget)) h)
 
-  pub comes-to : Tries o l s g before (outcomeOf (s .depth) r) lists
+  pub scored : Tries o l s g before (scoreOf (s .depth) r) lists
   unfolding coverOf walkBy
-  comes-to =
+  scored =
       let v = leaves in
       record {
-        tried = λ i. record {
+        result = λ i. record {
           unchecked = v .tests i .unchecked;
           held = v .tests i .held;
           discarded = v .tests i .discarded;

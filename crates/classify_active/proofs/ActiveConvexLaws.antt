@@ -1,5 +1,5 @@
--- What is kept of a convex beside an anchor, halfspace by halfspace: a settled one is outside for every close trixel, and so is its convex, or it is full and
--- leaves the class of its convex as it is. Assumes nothing.
+-- What is stored of a convex beside an anchor, halfspace by halfspace: a settled one is outside for every close trixel, and so is its convex, or it is
+-- full and leaves the class of its convex as it is. Assumes nothing.
 use Prim.Native.Nat.{ℕ, _+_, _*_, _≤_, _<_}
 use native.Mathlib.Omega.{arith}
 use mathlib.Core.Path.{_≡_, refl, sym, ap, subst₂, _∙_}
@@ -21,14 +21,14 @@ use Rattle.classify_prepared.specs.declared.PreparedHalfspace.{PreparedHalfspac
 use Rattle.classify_active.specs.declared.anchor.Anchor.{Anchor}
 use Rattle.classify.specs.Classes.{isOutside, halfspaceClass, convexClass}
 use Rattle.classify_prepared.specs.Measures.{prepared, SoundHalfspace}
-use Rattle.classify_halfspace.specs.Halfspaces.{judged}
+use Rattle.classify_halfspace.specs.Halfspaces.{preparedClass}
 use Rattle.classify_active.specs.Anchor.{IsAnchor, settledBy, Close}
-use Rattle.classify_halfspace.proofs.ClassLaws.{judged-is}
+use Rattle.classify_halfspace.proofs.ClassLaws.{prepared-class-is}
 use Rattle.classify_active.proofs.AnchorLaws.{stays-outside, stays-full}
 use Rattle.classify_prepared.specs.PreparedLists.{seven, preparedIn, convexSevens, ConvexAt, meet}
 use Rattle.classify_region.proofs.ScanLaws.{meet-assoc, meet-full, convex-cons, no-convex, HalfAt, half-next, convex-end}
 use Rattle.classify_prepared.proofs.PreparingLaws.{length-sevens}
-use Rattle.classify_active.specs.Narrow.{Stores, activeStoredCount, activeStoredList}
+use Rattle.classify_active.specs.Active.{Stores, activeStoredCount, activeStoredList}
 
 -- ---- one more at the end of a convex
 
@@ -66,23 +66,23 @@ only-outside Full e = absurd (true≢false (sym e))
 
 module _ (r : Anchor) (xs : List ℤ) (end : ℕ) (v : Convex) (w : ℕ) (ys : List ℤ) where
   -- before halfspace number i; m halfspaces are stored
-  pub record AtOpen (i m : ℕ) (ys′ : List ℤ) : Type 0 where
+  pub record ConvexSearch (i m : ℕ) (ys′ : List ℤ) : Type 0 where
     pub left : Convex
     pub at : ConvexAt xs i end left
-    pub opened : Convex
-    pub stores : Stores w opened ys ys′
-    pub count : m ≡ w + length opened
-    pub class : (t : Trixel) → Close r t → meet (convexClass opened t) (convexClass left t) ≡ convexClass v t
+    pub stored : Convex
+    pub stores : Stores w stored ys ys′
+    pub count : m ≡ w + length stored
+    pub class : (t : Trixel) → Close r t → meet (convexClass stored t) (convexClass left t) ≡ convexClass v t
 
   nothing-stored : w ≤ 32 → Stores w [] ys ys
   unfolding goodConvex every convexSevens
   nothing-stored h = record { good = refl; small = omega arith; list = sym (put-none (7 * w) ys) }
 
-  pub open-start : (i : ℕ) → ConvexAt xs i end v → w ≤ 32 → AtOpen i w ys
-  open-start i a h = record {
+  pub convex-search-start : (i : ℕ) → ConvexAt xs i end v → w ≤ 32 → ConvexSearch i w ys
+  convex-search-start i a h = record {
     left = v;
     at = a;
-    opened = [];
+    stored = [];
     stores = nothing-stored h;
     count = omega arith;
     class = λ t c. ap (λ a. meet a (convexClass v t)) (no-convex [] t refl);
@@ -103,69 +103,69 @@ module _ (r : Anchor) (xs : List ℤ) (end : ℕ) (v : Convex) (w : ℕ) (ys : L
       }
 
   -- the halfspace that stands at number i
-  pub record OpenHalf (i m : ℕ) (ys′ : List ℤ) : Type 0 where
+  pub record NextHalfspace (i m : ℕ) (ys′ : List ℤ) : Type 0 where
     pub room : 7 * i + 7 ≤ length xs
     pub sound : SoundHalfspace (preparedIn xs (7 * i))
     pub outside : settledBy (preparedIn xs (7 * i)) r ≡ Outside → (t : Trixel) → Close r t → convexClass v t ≡ Outside
-    pub kept : (c : Class) → c ≡ settledBy (preparedIn xs (7 * i)) r → isOutside c ≡ false → m < 32 → 7 * 32 ≤ length ys
-        → AtOpen (i + 1) (activeStoredCount c m) (activeStoredList c m (preparedIn xs (7 * i)) ys′)
+    pub after : (c : Class) → c ≡ settledBy (preparedIn xs (7 * i)) r → isOutside c ≡ false → m < 32 → 7 * 32 ≤ length ys
+        → ConvexSearch (i + 1) (activeStoredCount c m) (activeStoredList c m (preparedIn xs (7 * i)) ys′)
 
-  module _ (p : IsAnchor r) (i m : ℕ) (ys′ : List ℤ) (a : AtOpen i m ys′) (l : i < end) where
+  module _ (p : IsAnchor r) (i m : ℕ) (ys′ : List ℤ) (a : ConvexSearch i m ys′) (l : i < end) where
     here : HalfAt xs i end (a .left)
     here = half-next xs i end (a .left) (a .at) l
 
     -- the class of the convex, with that of the halfspace
-    with-first : (t : Trixel) → Close r t → {c : Class} → judged (preparedIn xs (7 * i)) t ≡ c → meet (convexClass (a .opened) t) (meet c (convexClass (here .rest) t)) ≡ convexClass v t
+    with-first : (t : Trixel) → Close r t → {c : Class} → preparedClass (preparedIn xs (7 * i)) t ≡ c → meet (convexClass (a .stored) t) (meet c (convexClass (here .rest) t)) ≡ convexClass v t
     with-first t c e =
-        ap (λ b. meet (convexClass (a .opened) t) (meet b (convexClass (here .rest) t))) (sym e) ∙ ap (meet (convexClass (a .opened) t)) (sym (here .class t)) ∙ a .class t c
+        ap (λ b. meet (convexClass (a .stored) t) (meet b (convexClass (here .rest) t))) (sym e) ∙ ap (meet (convexClass (a .stored) t)) (sym (here .class t)) ∙ a .class t c
 
-    passed : settledBy (preparedIn xs (7 * i)) r ≡ Full → AtOpen (i + 1) m ys′
+    passed : settledBy (preparedIn xs (7 * i)) r ≡ Full → ConvexSearch (i + 1) m ys′
     passed s = record {
       left = here .rest;
       at = here .after;
-      opened = a .opened;
+      stored = a .stored;
       stores = a .stores;
       count = a .count;
       class = λ t c. with-first t c (stays-full p (here .sound) c s);
     }
 
-    left-open : m < 32 → 7 * 32 ≤ length ys → AtOpen (i + 1) (m + 1) (put (7 * m) (seven (preparedIn xs (7 * i))) ys′)
-    left-open l room = record {
+    left-active : m < 32 → 7 * 32 ≤ length ys → ConvexSearch (i + 1) (m + 1) (put (7 * m) (seven (preparedIn xs (7 * i))) ys′)
+    left-active l room = record {
       left = here .rest;
       at = here .after;
-      opened = a .opened ++ here .first ∷ [];
-      stores = stored-more (a .opened) (here .first) (a .stores) (here .good) (a .count) l room (here .is);
-      count = omega (arith, a .count, length-snoc (a .opened) (here .first));
+      stored = a .stored ++ here .first ∷ [];
+      stores = stored-more (a .stored) (here .first) (a .stores) (here .good) (a .count) l room (here .is);
+      count = omega (arith, a .count, length-snoc (a .stored) (here .first));
       class = λ t c.
-          ap (λ b. meet b (convexClass (here .rest) t)) (convex-snoc (here .first) (a .opened) t)
-          ∙ meet-assoc (convexClass (a .opened) t) (halfspaceClass (here .first) t) (convexClass (here .rest) t)
-          ∙ with-first t c (ap (λ q. judged q t) (here .is) ∙ judged-is (here .first) t);
+          ap (λ b. meet b (convexClass (here .rest) t)) (convex-snoc (here .first) (a .stored) t)
+          ∙ meet-assoc (convexClass (a .stored) t) (halfspaceClass (here .first) t) (convexClass (here .rest) t)
+          ∙ with-first t c (ap (λ q. preparedClass q t) (here .is) ∙ prepared-class-is (here .first) t);
     }
 
-    kept-by : (c : Class) → c ≡ settledBy (preparedIn xs (7 * i)) r → isOutside c ≡ false → m < 32 → 7 * 32 ≤ length ys
-        → AtOpen (i + 1) (activeStoredCount c m) (activeStoredList c m (preparedIn xs (7 * i)) ys′)
-    kept-by Outside e o l room = absurd (true≢false o)
-    kept-by Partial e o l room = left-open l room
-    kept-by Full e o l room = passed (sym e)
+    stored-by : (c : Class) → c ≡ settledBy (preparedIn xs (7 * i)) r → isOutside c ≡ false → m < 32 → 7 * 32 ≤ length ys
+        → ConvexSearch (i + 1) (activeStoredCount c m) (activeStoredList c m (preparedIn xs (7 * i)) ys′)
+    stored-by Outside e o l room = absurd (true≢false o)
+    stored-by Partial e o l room = left-active l room
+    stored-by Full e o l room = passed (sym e)
 
-    pub open-half : OpenHalf i m ys′
-    open-half = record {
+    pub next-halfspace : NextHalfspace i m ys′
+    next-halfspace = record {
       room = here .room;
       sound = here .sound;
-      outside = λ s t c. sym (with-first t c (stays-outside p (here .sound) c s)) ∙ meet-outside (convexClass (a .opened) t);
-      kept = kept-by;
+      outside = λ s t c. sym (with-first t c (stays-outside p (here .sound) c s)) ∙ meet-outside (convexClass (a .stored) t);
+      after = stored-by;
     }
 
   -- no halfspace is left
-  pub open-end : (i m : ℕ) (ys′ : List ℤ) (a : AtOpen i m ys′) → end ≤ i → (t : Trixel) → Close r t → convexClass v t ≡ convexClass (a .opened) t
-  open-end i m ys′ a l t c =
-      sym (a .class t c) ∙ ap (meet (convexClass (a .opened) t)) (convex-end xs i end (a .left) (a .at) l t) ∙ meet-full (convexClass (a .opened) t)
+  pub convex-search-end : (i m : ℕ) (ys′ : List ℤ) (a : ConvexSearch i m ys′) → end ≤ i → (t : Trixel) → Close r t → convexClass v t ≡ convexClass (a .stored) t
+  convex-search-end i m ys′ a l t c =
+      sym (a .class t c) ∙ ap (meet (convexClass (a .stored) t)) (convex-end xs i end (a .left) (a .at) l t) ∙ meet-full (convexClass (a .stored) t)
 
   -- as a program finds it: the halfspace q, its class c, whether that is outside, and what is stored then
-  module _ {i m : ℕ} {ys′ : List ℤ} (k : OpenHalf i m ys′) {q : PreparedHalfspace} {c : Class} {o : Bool} (is : q ≡ preparedIn xs (7 * i)) (settled : c ≡ settledBy q r) (told : o ≡ isOutside c) where
-    pub open-outside : o ≡ true → (t : Trixel) → Close r t → convexClass v t ≡ Outside
-    open-outside e = k .outside (sym (settled ∙ ap (λ q. settledBy q r) is) ∙ only-outside c (sym told ∙ e))
+  module _ {i m : ℕ} {ys′ : List ℤ} (k : NextHalfspace i m ys′) {q : PreparedHalfspace} {c : Class} {o : Bool} (is : q ≡ preparedIn xs (7 * i)) (settled : c ≡ settledBy q r) (tested : o ≡ isOutside c) where
+    pub next-outside : o ≡ true → (t : Trixel) → Close r t → convexClass v t ≡ Outside
+    next-outside e = k .outside (sym (settled ∙ ap (λ q. settledBy q r) is) ∙ only-outside c (sym tested ∙ e))
 
-    pub open-more : o ≡ false → m < 32 → 7 * 32 ≤ length ys → {m′ : ℕ} {ys″ : List ℤ} → m′ ≡ activeStoredCount c m → ys″ ≡ activeStoredList c m q ys′ → AtOpen (i + 1) m′ ys″
-    open-more e l room f g =
-        subst₂ (AtOpen (i + 1)) (sym f) (sym (g ∙ ap (λ q. activeStoredList c m q ys′) is)) (k .kept c (settled ∙ ap (λ q. settledBy q r) is) (sym told ∙ e) l room)
+    pub next-stored : o ≡ false → m < 32 → 7 * 32 ≤ length ys → {m′ : ℕ} {ys″ : List ℤ} → m′ ≡ activeStoredCount c m → ys″ ≡ activeStoredList c m q ys′ → ConvexSearch (i + 1) m′ ys″
+    next-stored e l room f g =
+        subst₂ (ConvexSearch (i + 1)) (sym f) (sym (g ∙ ap (λ q. activeStoredList c m q ys′) is)) (k .after c (settled ∙ ap (λ q. settledBy q r) is) (sym tested ∙ e) l room)
