@@ -10,7 +10,6 @@ pub mod Inequalities
 pub mod Moved
 pub mod Order
 pub mod Plane
-pub mod Reciprocal
 pub mod Ring
 pub mod RingLaws
 pub mod Separation

@@ -3,7 +3,6 @@ use mathlib.Core.Path.{_≡_, refl, sym, _∙_, ap, subst}
 use mathlib.Core.Bool.{Bool, true, false, not}
 use mathlib.Core.List.{[], _∷_}
 use Prim.Native.Nat.{ℕ, zero, suc, _+_, _-_, _*_, _≤_}
-use native.Mathlib.Nat.{le-antisymm}
 use native.Mathlib.Omega.{arith}
 use lib.Dec.{T, leb→le, leb·zero, leb·suc-zero, leb·suc-suc}
 use lib.IntN.{ℤ, pos, negsuc, sucℤ, negℤ, _+ℤ_, _-ℤ_, _*ℤ_, +ℤ-idl, +ℤ-assoc, +ℤ-invl, +ℤ-one, negℤ-+ℤ, -ℤ-+ℤ-cancel}
@@ -99,12 +98,3 @@ pub gap-le : {a b : ℤ} → pos 0 ≤ℤ (b -ℤ a) → a ≤ℤ b
 gap-le {a} {b} h = by-order b a
     (λ l. absurd ((subst (λ z. pos 0 ≤ℤ z) (solve (var 1 :- var 0 :+ (var 0 :- (var 1 :+ con (pos 1)))) (con (negsuc 0)) refl (a ∷ b ∷ [])) (nn-add h (gap-nn (suc-le l)))) .le))
     (λ g. g)
-
-antisym′ : (a b : ℤ) → T (leZ a b) → T (leZ b a) → a ≡ b
-antisym′ (pos a) (pos b) h k = ap pos (le-antisymm (leb→le a b h) (leb→le b a k))
-antisym′ (pos a) (negsuc b) h k = absurd h
-antisym′ (negsuc a) (pos b) h k = absurd k
-antisym′ (negsuc a) (negsuc b) h k = ap negsuc (le-antisymm (leb→le a b k) (leb→le b a h))
-
-pub ≤ℤ-antisym : {a b : ℤ} → a ≤ℤ b → b ≤ℤ a → a ≡ b
-≤ℤ-antisym {a} {b} h k = antisym′ a b (h .le) (k .le)

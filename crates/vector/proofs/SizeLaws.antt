@@ -1,6 +1,6 @@
 -- How large numbers get: Unit and Scale give components within ±K, whatever they are given. n is at least every component, since its square
 -- is the greatest square up to the sum of their squares; and so is m. Assumes nothing.
-use Prim.Native.Nat.{ℕ, suc, _+_, _*_, _/_, _^_, _≤_}
+use Prim.Native.Nat.{ℕ, suc, _+_, _*_, _/_, _≤_}
 use native.Mathlib.Nat.{div-le-of-le-mul, mul-le-mul-right}
 use native.Mathlib.Omega.{arith}
 use mathlib.Core.Path.{_≡_, refl, sym, ap, _∙_, subst}
@@ -9,11 +9,9 @@ use borrow.Author.Tests.{leb-true}
 use lib.Dec.{T, leb, leb→le, eqb}
 use lib.IntN.{ℤ, pos, negsuc, negℤ, natAbs, _+ℤ_, _*ℤ_}
 use lib.Signed.{nonNeg}
-use mir.Syntax.{w64}
-use mir.Val.{toZ, ofZ}
 use Rattle.algebra.proofs.Sizes.{Upto}
 use Rattle.algebra.proofs.Tests.{and-left, and-right}
-use Rattle.algebra.proofs.Sized.{natAbs-neg, held, upto-mono, upto-neg, upto-add, upto-sub, upto-mul}
+use Rattle.algebra.proofs.Sized.{natAbs-neg, upto-mono, upto-neg, upto-add, upto-sub, upto-mul}
 use Rattle.vector.specs.declared.Vec3.{Vec3}
 use Rattle.vector.specs.Numbers.{Kℕ, K, quot, between, root}
 use Rattle.vector.specs.Vectors.{vec, plus, minus, dot, cross, dividedBy, unit, largest, scale}
@@ -38,10 +36,6 @@ at-most-cross p q = record {
 
 pub dot-upto : {m n : ℕ} {a b : Vec3} → AtMost m a → AtMost n b → Upto (m * n + m * n + m * n) (dot a b)
 dot-upto p q = upto-add (upto-add (upto-mul (p .x) (q .x)) (upto-mul (p .y) (q .y))) (upto-mul (p .z) (q .z))
-
--- a number that is handed on by its bits is the same
-pub same-held : {n : ℕ} {z : ℤ} → n ≤ 2 ^ 41 → Upto n z → toZ w64 (ofZ w64 z) ≡ z
-same-held l h = held (upto-mono l h) tt .eq
 
 -- by three tests: for numbers that are written, `small-test v tt tt tt`
 pub small-test : (v : Vec3) → T (leb (natAbs (v .x)) Kℕ) → T (leb (natAbs (v .y)) Kℕ) → T (leb (natAbs (v .z)) Kℕ) → Small v
@@ -106,14 +100,10 @@ pub unit-small : (v : Vec3) → Small (unit v)
 unfolding unit
 unit-small v = divided-small v (root (natAbs (dot v v))) (root-at-most v)
 
--- n is the root of the square length of v: no component is beyond n, and v divided by n is Unit
-module _ (v : Vec3) {n : ℕ} (e : n ≡ root (natAbs (dot v v))) where
-  pub at-most-root : AtMost n v
-  at-most-root = subst (λ n. AtMost n v) (sym e) (root-at-most v)
-
-  pub unit-by : {r : Vec3} → r ≡ dividedBy n v → (r ≡ unit v) × Small r
-  unfolding unit
-  unit-by d = let u = d ∙ ap (λ n. dividedBy n v) e in (u, subst Small (sym u) (unit-small v))
+-- v divided by the root of its square length is Unit
+pub unit-by : (v : Vec3) {n : ℕ} → n ≡ root (natAbs (dot v v)) → {r : Vec3} → r ≡ dividedBy n v → (r ≡ unit v) × Small r
+unfolding unit
+unit-by v e d = let u = d ∙ ap (λ n. dividedBy n v) e in (u, subst Small (sym u) (unit-small v))
 
 pub largest-at-most : (v : Vec3) → AtMost (largest v) v
 largest-at-most v = record { x = record { le = omega arith }; y = record { le = omega arith }; z = record { le = omega arith } }

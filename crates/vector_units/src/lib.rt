@@ -2,7 +2,7 @@
 use limits::K;
 use vector::Vec3;
 ghost use mathlib.Core.Path.{_≡_};
-ghost use Prim.Native.Nat.{max, _-_, _*_, _/_, _^_, _≤_, _<_};
+ghost use Prim.Native.Nat.{max, _-_, _^_, _≤_, _<_};
 ghost use lib.IntN.{pos, natAbs, _*ℤ_};
 ghost use Rattle.algebra.proofs.Sizes.{Upto};
 ghost use Rattle.vector.specs.Numbers.{K, quot};
