@@ -69,8 +69,10 @@ met e f = record { entry = e; disposition = f }
 unfoldable pub walk : ℕ → (Vec3 → Bool) → List Range → List Range → List Entry → List Met
 walk d held os ns [] = []
 walk d held os ns (e ∷ es) =
-    met e (dispositionOf held (begins (shortened d e) (ahead (shortened d e) ns)) (begins (shortened d e) (ahead (shortened d e) os)) (e .pointing))
-    ∷ walk d held (ahead (shortened d e) os) (ahead (shortened d e) ns) es
+    let i = shortened d e in
+    let outer = ahead i os in
+    let inner = ahead i ns in
+    met e (dispositionOf held (begins i inner) (begins i outer) (e .pointing)) ∷ walk d held outer inner es
 
 -- ---- what it delivers and counts
 

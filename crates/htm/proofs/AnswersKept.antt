@@ -6,7 +6,7 @@ use mathlib.Core.Bool.{Bool, true}
 use mathlib.Core.List.{List}
 use lib.Dec.{leb}
 use lib.ListN.{length}
-use borrow.Author.Tests.{leb-true}
+use borrow.Author.Tests.{leb-true, le-leb}
 use Rattle.answer.specs.declared.Number.{Number}
 use Rattle.answer.specs.Calls.{numberOf}
 use Rattle.answer.specs.Answer.{gives, check, Vector, Space}
@@ -17,19 +17,15 @@ use Rattle.vector.specs.Vectors.{isVector}
 use Rattle.region.specs.Regions.{holds}
 use Rattle.region.specs.Budgets.{budgetOf}
 use Rattle.region.specs.Reader.{File, read, Accepted}
-use Rattle.region.specs.Answers.{pointTest}
+use Rattle.region.specs.declared.HeldOf.{HeldOf}
+use Rattle.region.specs.Answers.{pointTest, heldGiven}
+use Rattle.mesh.specs.Lookup.{lookup}
 use Rattle.covering.specs.Cover.{cover, countsOf}
 use Rattle.covering.specs.declared.Counts.{Counts}
 use Rattle.covering.proofs.ListedLaws.{outer-back, inner-back}
-use Rattle.htm.specs.Answers.{coverInto, coverAnswer, bothLists, coverAfter, outerIn, innerIn}
-use Rattle.htm.specs.Promise.{CoverSound, PromiseOfAnswers, PromiseOfCalls, Demand3, DemandThree}
-use borrow.Author.Tests.{le-leb}
-use Rattle.answer.specs.Answer.{refused}
-use Rattle.region.specs.declared.HeldOf.{HeldOf}
-use Rattle.region.specs.Answers.{heldGiven}
-use Rattle.mesh.specs.Lookup.{lookup}
+use Rattle.htm.specs.Answers.{coverInto, coverAnswer, bothLists, coverAfter, coverGiven, outerIn, innerIn}
+use Rattle.htm.specs.Promise.{CoverSound, ListsSound, DemandThree}
 use Rattle.htm.specs.declared.CoverOf.{CoverOf}
-use Rattle.htm.specs.Answers.{coverGiven}
 use Rattle.htm.proofs.PromiseKept.{promise-kept}
 
 -- ---- the three answers
@@ -70,7 +66,10 @@ tested f p h x e r =
       subst (λ z. holds (z .region) p ≡ h) s (same-value (holds (t .0 .region) p) h (check-gives Vector (isVector p) held h (t .2))),
     )
 
-pub answers-kept : PromiseOfAnswers
+-- Whatever the cover and the point test answer for one file: the file is accepted, the lookup answers at its depth, and the promise holds of the answers and of
+-- the two lists in the lent list as the cover leaves it.
+pub answers-kept : (p : Vec3) (f before : List ℕ) (c : Counts) (held : Bool) → coverAnswer f before ≡ gives c → pointTest f p ≡ gives held
+    → (x : File) × Accepted f x × (i : ℕ) × (lookup p (x .depth) ≡ gives i) × ListsSound i c (coverAfter f before) (budgetOf (x .budget)) held
 answers-kept p f before c h cov tst =
     let v : Covered f before c = covered f before c cov in
     let x = v .file in
@@ -94,7 +93,11 @@ found-is : (found : Number) (i : ℕ) → numberOf found ≡ gives i → found �
 found-is (Number.Gives n) i e = ap Number.Gives (same-value n i e)
 found-is (Number.Refused n) i e = refused-gives n i e
 
-pub calls-kept : PromiseOfCalls
+-- The same of values that meet the contracts, `after` in the lent list: there is an identifier that the lookup gives, and the promise holds of all of them.
+pub calls-kept : (p : Vec3) (f before after : List ℕ) (c : Counts) (held : Bool)
+    → coverGiven (CoverOf.Gives c) ≡ coverAnswer f before → after ≡ coverAfter f before → heldGiven (HeldOf.Gives held) ≡ pointTest f p
+    → (x : File) × Accepted f x × (i : ℕ) × ((found : Number) → numberOf found ≡ lookup p (x .depth) → found ≡ Number.Gives i)
+    × ListsSound i c after (budgetOf (x .budget)) held
 calls-kept p f before after c h cov left tst =
     let k = answers-kept p f before c h (sym cov) (sym tst) in
     let B = budgetOf (k .0 .budget) in
@@ -121,20 +124,33 @@ covered-is (CoverOf.Refused n) c e = refused-gives n c e
 pub demand-three : DemandThree
 demand-three p f before x v r l =
     let k = promise-kept p f x v r in
+    let c = countsOf (cover x) in
+    let h = holds (x .region) p in
+    let B = budgetOf (x .budget) in
     let cov = cover-gives f before x r l in
     let tst = test-gives f p x v r in
-    let c = covered f before (countsOf (cover x)) cov in
-    let same : c .file ≡ x = same-value (c .file) x (sym (c .accepted) ∙ r) in
-    let B = budgetOf (x .budget) in
+    let w = covered f before c cov in
+    let same : w .file ≡ x = same-value (w .file) x (sym (w .accepted) ∙ r) in
     let few = k .2 .outer-list .few in
-    let left : bothLists x before ≡ coverAfter f before = subst (λ y. bothLists y before ≡ coverAfter f before) same (c .lists) in (
-      k .0,
-      record {
-        rules = k .2;
-        answers = subst (λ s. CoverSound (k .0) (outerIn (countsOf (cover x)) s) (innerIn B (countsOf (cover x)) s) B (holds (x .region) p)) left
-            (subst₂ (λ o n. CoverSound (k .0) o n B (holds (x .region) p)) (sym (outer-back B (cover x) before l few)) (sym (inner-back B (cover x) before l few)) (k .2));
-        locates = λ found e. found-is found (k .0) (e ∙ k .1);
-        tests = λ q e. held-is q (holds (x .region) p) (e ∙ tst);
-        covers = λ q e. covered-is q (countsOf (cover x)) (e ∙ cov);
-      },
-    )
+    let left : bothLists x before ≡ coverAfter f before = subst (λ y. bothLists y before ≡ coverAfter f before) same (w .lists) in
+    let lists : ListsSound (k .0) c (coverAfter f before) B h =
+    subst (λ s. ListsSound (k .0) c s B h) left
+    (subst₂ (λ o n. CoverSound (k .0) o n B h) (sym (outer-back B (cover x) before l few)) (sym (inner-back B (cover x) before l few)) (k .2)) in
+    record {
+      i = k .0;
+      c = c;
+      lookup-gives = k .1;
+      test-gives = tst;
+      cover-gives = cov;
+      rules = k .2;
+      answers = lists;
+      calls = λ found held got after e d b a. record {
+        i = k .0;
+        h = h;
+        c = c;
+        locates = found-is found (k .0) (e ∙ k .1);
+        tests = held-is held h (d ∙ tst);
+        covers = covered-is got c (b ∙ cov);
+        lists = subst (λ s. ListsSound (k .0) c s B h) (sym a) lists;
+      };
+    }

@@ -1,10 +1,12 @@
 -- The promise: demand 3. Document 01, 'The two lists'.
--- For every vector p and every accepted file: the lookup at the file's depth answers an identifier i, and of i and the file's two lists holds
+-- `DemandThree` is promise 3, undivided: of every vector p, every accepted file and every list of at least 4 × budget elements, and of nothing else. The lookup
+-- at the file's depth gives an identifier i, the point test and the cover give too, and of i and the two lists holds `CoverSound`:
 --   inner-held    where i is in an inner range, the region holds p
 --   held-outer    where the region holds p, i is in exactly one outer range
 --   outer-list, inner-list   each list ascends, leaves at least one identifier between neighbours, and has at most the budget of ranges
--- `Promise` says so of the rules, `PromiseOfAnswers` of what the calls answer and of the lists that stand in the lent list afterwards,
--- `PromiseOfCalls` of values that meet the calls' contracts. All are proved: proofs/PromiseKept, proofs/AnswersKept.
+-- It holds of the rules (`rules`), of what the calls answer and of the lists in the lent list afterwards (`answers`), and of whatever values meet the contracts of
+-- `htm::locate`, `htm::holds` and `htm::cover` (`calls`, by `CallsSound`). `Promise` is its part of the rules alone. Proved: `demand-three` proofs/AnswersKept,
+-- `promise-kept` proofs/PromiseKept.
 use Prim.Native.Nat.{ℕ, _*_, _≤_}
 use mathlib.Core.Path.{_≡_}
 use mathlib.Core.Bool.{Bool, true}
@@ -22,7 +24,7 @@ use Rattle.region.specs.Reader.{File, Accepted}
 use Rattle.region.specs.declared.HeldOf.{HeldOf}
 use Rattle.region.specs.Answers.{pointTest, heldGiven}
 use Rattle.ranges.specs.Ranges.{Range, inSome, timesIn, Proper}
-use Rattle.covering.specs.Cover.{cover, countsOf}
+use Rattle.covering.specs.Cover.{cover}
 use Rattle.covering.specs.declared.Counts.{Counts}
 use Rattle.htm.specs.declared.CoverOf.{CoverOf}
 use Rattle.htm.specs.Answers.{coverAnswer, coverAfter, coverGiven, outerIn, innerIn}
@@ -40,33 +42,31 @@ Promise =
     → (i : ℕ) × (lookup p (x .depth) ≡ gives i)
     × CoverSound i (cover x .outer) (cover x .inner) (budgetOf (x .budget)) (holds (x .region) p)
 
--- Whatever the cover and the point test answer for one file: the file is accepted, the lookup answers at its depth, and the promise holds of
--- the answers and of the two lists in the lent list as the cover leaves it.
-abbrev pub PromiseOfAnswers : Type 0
-PromiseOfAnswers =
-    (p : Vec3) (f before : List ℕ) (c : Counts) (held : Bool) → coverAnswer f before ≡ gives c → pointTest f p ≡ gives held
-    → (x : File) × Accepted f x × (i : ℕ) × (lookup p (x .depth) ≡ gives i)
-    × CoverSound i (outerIn c (coverAfter f before)) (innerIn (budgetOf (x .budget)) c (coverAfter f before)) (budgetOf (x .budget)) held
+-- of the two lists that stand in the lent list `after`, by the counts c
+abbrev pub ListsSound : ℕ → Counts → List ℕ → ℕ → Bool → Type 0
+ListsSound i c after budget held = CoverSound i (outerIn c after) (innerIn budget c after) budget held
 
--- The same by the contracts of the calls, `htm::cover`, `htm::holds` and `htm::locate` (src/lib.rt): where the cover gave c and left `after` in the
--- lent list, and the point test gave `held`, there is an identifier i that the lookup at the file's depth gives, and the promise holds of all of them.
-abbrev pub PromiseOfCalls : Type 0
-PromiseOfCalls =
-    (p : Vec3) (f before after : List ℕ) (c : Counts) (held : Bool)
-    → coverGiven (CoverOf.Gives c) ≡ coverAnswer f before → after ≡ coverAfter f before
-    → heldGiven (HeldOf.Gives held) ≡ pointTest f p
-    → (x : File) × Accepted f x × (i : ℕ) × ((found : Number) → numberOf found ≡ lookup p (x .depth) → found ≡ Number.Gives i)
-    × CoverSound i (outerIn c after) (innerIn (budgetOf (x .budget)) c after) (budgetOf (x .budget)) held
+-- of what three calls gave: an identifier, whether the region holds the point, and the counts of a cover that left `after` in the lent list
+pub record CallsSound (found : Number) (held : HeldOf) (covered : CoverOf) (after : List ℕ) (budget : ℕ) : Type 0 where
+  pub i : ℕ
+  pub h : Bool
+  pub c : Counts
+  pub locates : found ≡ Number.Gives i
+  pub tests : held ≡ HeldOf.Gives h
+  pub covers : covered ≡ CoverOf.Gives c
+  pub lists : ListsSound i c after budget h
 
--- Demand 3, undivided: of a vector, an accepted file and a list that is long enough, and of nothing else. The three calls give, and what they give is kept.
-pub record Demand3 (p : Vec3) (f before : List ℕ) (x : File) (i : ℕ) (held : Bool) (c : Counts) : Type 0 where
+pub record Demand3 (p : Vec3) (f before : List ℕ) (x : File) : Type 0 where
+  pub i : ℕ
+  pub c : Counts
+  pub lookup-gives : lookup p (x .depth) ≡ gives i
+  pub test-gives : pointTest f p ≡ gives (holds (x .region) p)
+  pub cover-gives : coverAnswer f before ≡ gives c
   pub rules : CoverSound i (cover x .outer) (cover x .inner) (budgetOf (x .budget)) (holds (x .region) p)
-  pub answers : CoverSound i (outerIn c (coverAfter f before)) (innerIn (budgetOf (x .budget)) c (coverAfter f before)) (budgetOf (x .budget)) held
-  pub locates : (found : Number) → numberOf found ≡ lookup p (x .depth) → found ≡ Number.Gives i
-  pub tests : (r : HeldOf) → heldGiven r ≡ pointTest f p → r ≡ HeldOf.Gives held
-  pub covers : (r : CoverOf) → coverGiven r ≡ coverAnswer f before → r ≡ CoverOf.Gives c
+  pub answers : ListsSound i c (coverAfter f before) (budgetOf (x .budget)) (holds (x .region) p)
+  pub calls : (found : Number) (held : HeldOf) (covered : CoverOf) (after : List ℕ)
+      → numberOf found ≡ lookup p (x .depth) → heldGiven held ≡ pointTest f p → coverGiven covered ≡ coverAnswer f before → after ≡ coverAfter f before
+      → CallsSound found held covered after (budgetOf (x .budget))
 
 abbrev pub DemandThree : Type 0
-DemandThree =
-    (p : Vec3) (f before : List ℕ) (x : File) → isVector p ≡ true → Accepted f x → 4 * budgetOf (x .budget) ≤ length before
-    → (i : ℕ) × Demand3 p f before x i (holds (x .region) p) (countsOf (cover x))
+DemandThree = (p : Vec3) (f before : List ℕ) (x : File) → isVector p ≡ true → Accepted f x → 4 * budgetOf (x .budget) ≤ length before → Demand3 p f before x

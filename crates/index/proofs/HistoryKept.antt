@@ -4,7 +4,7 @@
 use Prim.Native.Nat.{ℕ, zero, suc, _+_, _≤_, _<_}
 use mathlib.Core.Path.{_≡_, sym, ap, subst, _∙_, refl}
 use mathlib.Core.Bool.{Bool, true, false, cond, not, _&&_, _||_, and-true, and-false, true≢false, false≢true}
-use mathlib.Core.List.{List, [], _∷_, map}
+use mathlib.Core.List.{List, [], _∷_, _++_, map}
 use native.Mathlib.Omega.{arith}
 use borrow.Author.Tests.{le-leb, lt-ltb, le-ltb, ltb-true, ltb-false, eqb-true, eqb-false, not-true}
 use lib.Dec.{leb, ltb, eqb, leb·zero}
@@ -248,19 +248,56 @@ its-owner : (a b : Bool) → a && (b && a) ≡ b && a
 its-owner true b = refl
 its-owner false b = sym (and-false b)
 
-serves-again : (xs : List Exposure) → ((o : ℕ) → tally (hasOwner o) xs ≤ OwnerCapacity) → ServesAgain xs
-serves-again xs few = record {
-  full = λ x w e v o. let f : hasPlace OwnerCapacity (hasOwner (x .owner)) xs ≡ false = le-ltb (tally (hasOwner (x .owner)) xs) OwnerCapacity (omega arith) in rw (w, v, o, f) refl;
-  withdrawn = λ k w p. rw (w, p) refl;
-  again = λ k x w same p v o.
+-- calls behind a history
+content-on : (xs : List Exposure) (h g : List Call) → contentFrom OwnerCapacity xs (h ++ g) ≡ contentFrom OwnerCapacity (contentFrom OwnerCapacity xs h) g
+unfolding contentFrom
+content-on xs [] g = refl
+content-on xs (c ∷ h) g = content-on (leaving (giving OwnerCapacity c xs) xs) h g
+
+answers-on : (xs : List Exposure) (h g : List Call)
+    → answersFrom OwnerCapacity xs (h ++ g) ≡ answersFrom OwnerCapacity xs h ++ answersFrom OwnerCapacity (contentFrom OwnerCapacity xs h) g
+unfolding contentFrom answersFrom
+answers-on xs [] g = refl
+answers-on xs (c ∷ h) g = ap (λ l. answered (giving OwnerCapacity c xs) ∷ l) (answers-on (leaving (giving OwnerCapacity c xs) xs) h g)
+
+-- of the exposures that are there: one owner has all it may have; one of them is taken away, and another of the same owner has its place
+module _ (xs : List Exposure) where
+  refused-full : (x : Exposure) → isOwner (x .owner) ≡ true → isVector (x .pointing) ≡ true → some (hasKey (keyOf x)) xs ≡ false
+      → tally (hasOwner (x .owner)) xs ≡ OwnerCapacity → giving OwnerCapacity (adds x) xs ≡ refused Full
+  refused-full x w v o e =
+      let f : hasPlace OwnerCapacity (hasOwner (x .owner)) xs ≡ false = le-ltb (tally (hasOwner (x .owner)) xs) OwnerCapacity (omega arith) in
+      rw (w, v, o, f) refl
+
+  taken-again : ((o : ℕ) → tally (hasOwner o) xs ≤ OwnerCapacity) → (k : Key) (x : Exposure) → some (hasKey k) xs ≡ true → k .owner ≡ x .owner
+      → isOwner (x .owner) ≡ true → isVector (x .pointing) ≡ true → some (hasKey (keyOf x)) (without k xs) ≡ false
+      → giving OwnerCapacity (adds x) (without k xs) ≡ gives (x ∷ without k xs)
+  taken-again few k x p same w v o =
       let t : 0 < tally (hasKey k) xs = ltb-true 0 (tally (hasKey k) xs) (sym (some-tally (hasKey k) xs) ∙ p) in
-      let own : tally (λ y. hasOwner (k .owner) y && hasKey k y) xs ≡ tally (hasKey k) xs = λ i. tally (λ y. its-owner (hasOwner (k .owner) y) (eqb (y .number) (k .number)) i) xs in
+      let own : tally (λ y. hasOwner (k .owner) y && hasKey k y) xs ≡ tally (hasKey k) xs =
+      λ i. tally (λ y. its-owner (hasOwner (k .owner) y) (eqb (y .number) (k .number)) i) xs in
       let less : tally (hasOwner (k .owner)) (without k xs) < OwnerCapacity =
       omega (arith, only-tally (hasOwner (k .owner)) (λ y. not (hasKey k y)) xs, parted (hasOwner (k .owner)) (hasKey k) xs, few (k .owner)) in
-      let f : hasPlace OwnerCapacity (hasOwner (x .owner)) (without k xs) ≡ true = subst (λ m. hasPlace OwnerCapacity (hasOwner m) (without k xs) ≡ true) same (lt-ltb (tally (hasOwner (k .owner)) (without k xs)) OwnerCapacity less) in
-      let z : isOwner (x .owner) ≡ true = subst (λ m. isOwner m ≡ true) same w in
-      rw (z, v, o, f) refl;
-}
+      let f : hasPlace OwnerCapacity (hasOwner (x .owner)) (without k xs) ≡ true =
+      subst (λ m. hasPlace OwnerCapacity (hasOwner m) (without k xs) ≡ true) same (lt-ltb (tally (hasOwner (k .owner)) (without k xs)) OwnerCapacity less) in
+      rw (w, v, o, f) refl
+
+serves-again : (h : List Call) → ((o : ℕ) → tally (hasOwner o) (contentOf OwnerCapacity h) ≤ OwnerCapacity) → ServesAgain h
+unfolding contentFrom answersFrom
+serves-again h few =
+    let xs = contentOf OwnerCapacity h in
+    let old = answersFrom OwnerCapacity [] h in
+    record {
+      full = λ x new e. answers-on [] h (adds x ∷ []) ∙ ap (λ a. old ++ answered a ∷ []) (refused-full xs x (new .owned) (new .pointed) (new .absent) e);
+      again = λ k x p same new.
+          let w : isOwner (k .owner) ≡ true = ap isOwner same ∙ new .owned in
+          let gone : giving OwnerCapacity (removes k) xs ≡ gives (without k xs) = rw (w, p) refl in
+          let left : contentOf OwnerCapacity (h ++ removes k ∷ []) ≡ without k xs = content-on [] h (removes k ∷ []) ∙ ap (λ a. leaving a xs) gone in
+          let absent : some (hasKey (keyOf x)) (without k xs) ≡ false = subst (λ ys. some (hasKey (keyOf x)) ys ≡ false) left (new .absent) in
+          let taken = taken-again xs few k x p same (new .owned) (new .pointed) absent in
+          answers-on [] h (removes k ∷ adds x ∷ [])
+          ∙ ap (λ a. old ++ answered a ∷ answered (giving OwnerCapacity (adds x) (leaving a xs)) ∷ []) gone
+          ∙ ap (λ a. old ++ gives tt ∷ answered a ∷ []) taken;
+    }
 
 -- ---- an empty one
 
@@ -308,6 +345,6 @@ history-kept = record {
   kept = λ l n h rs e u runs.
       let o = run h rs l n [] u (is-empty l e) runs in
       let xs = contentOf OwnerCapacity h in
-      record { answers = o .0; index = is-index xs n (o .1); content = o .1 .files .holds; count = counts xs n (o .1); again = serves-again xs (o .1 .files .within) };
+      record { answers = o .0; index = is-index xs n (o .1); content = o .1 .files .holds; count = counts xs n (o .1); again = serves-again h (o .1 .files .within) };
   room = room-left;
 }

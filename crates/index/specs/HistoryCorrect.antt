@@ -7,14 +7,16 @@
 --   Does ..           the call c, as its contract has it, gave r and left the list `after` of `before`
 --   Runs l h rs n     the calls h one after the other give rs, from the list l on, and leave the list n
 --   Numbered h        the numbers of the exposures that h adds have 32 bits
---   ServesAgain xs    an owner's 1024 are all; with one withdrawn, whether they were 1024 or fewer, any other of the same owner is taken
+--   IsNew x h         after the history h, x may be added as far as its owner, its pointing and its number go
+--   ServesAgain h     after the history h, one more of an owner that has 1024 is refused as full; and when one is withdrawn, whether there were 1024 or fewer,
+--                     any other of the same owner is taken
 --   Leaves h rs n     the answers rs and the list n are what the rule says of the history h
 --   HistoryCorrect    the statement: lists of zeros, and lists that `begin` leaves, are empty indexes; from one every history leaves what it should; and in
 --                     an index there is room wherever an owner has a place
 use Prim.Native.Nat.{ℕ, _≤_}
 use mathlib.Core.Path.{_≡_}
 use mathlib.Core.Bool.{Bool, true, false, _&&_, _||_}
-use mathlib.Core.List.{List, [], _∷_, map}
+use mathlib.Core.List.{List, [], _∷_, _++_, map}
 use lib.ListN.{length, getD}
 use lib.IntN.{ℤ, pos, natAbs}
 use lib.Signed.{leZ}
@@ -26,7 +28,7 @@ use Rattle.mesh.specs.Lookup.{identifier}
 use Rattle.index.specs.declared.Entry.{Entry}
 use Rattle.index.specs.declared.Change.{Change}
 use Rattle.index.specs.Exposures.{IndexCapacity, OwnerCapacity, isOwner, Exposure, isNumber, Key, keyOf, hasOwner, hasKey, hasPlace}
-use Rattle.index.specs.Exposures.{Call, adds, removes, without, giving, contentOf, answersOf}
+use Rattle.index.specs.Exposures.{Call, adds, removes, contentOf, answersOf}
 use Rattle.index.specs.Entries.{IndexLength, entryOf, precedes, isOwned, isKeyed, hasRoom, entriesIn}
 use Rattle.index.specs.Answers.{addAnswer, addAfter, removeAnswer, removeAfter, beginAnswer, beginAfter, countAnswer, changeGiven}
 
@@ -87,19 +89,24 @@ Numbered h = every numbered h ≡ true
 
 -- ---- the statement
 
-pub record ServesAgain (xs : List Exposure) : Type 0 where
-  pub full : (x : Exposure) → isOwner (x .owner) ≡ true → tally (hasOwner (x .owner)) xs ≡ OwnerCapacity → isVector (x .pointing) ≡ true
-      → some (hasKey (keyOf x)) xs ≡ false → giving OwnerCapacity (adds x) xs ≡ refused Full
-  pub withdrawn : (k : Key) → isOwner (k .owner) ≡ true → some (hasKey k) xs ≡ true → giving OwnerCapacity (removes k) xs ≡ gives (without k xs)
-  pub again : (k : Key) (x : Exposure) → isOwner (k .owner) ≡ true → k .owner ≡ x .owner → some (hasKey k) xs ≡ true → isVector (x .pointing) ≡ true
-      → some (hasKey (keyOf x)) (without k xs) ≡ false → giving OwnerCapacity (adds x) (without k xs) ≡ gives (x ∷ without k xs)
+-- of an exposure x and the history h: x has an owner and a vector, and its number is not the owner's after h
+pub record IsNew (x : Exposure) (h : List Call) : Type 0 where
+  pub owned : isOwner (x .owner) ≡ true
+  pub pointed : isVector (x .pointing) ≡ true
+  pub absent : some (hasKey (keyOf x)) (contentOf OwnerCapacity h) ≡ false
+
+pub record ServesAgain (h : List Call) : Type 0 where
+  pub full : (x : Exposure) → IsNew x h → tally (hasOwner (x .owner)) (contentOf OwnerCapacity h) ≡ OwnerCapacity
+      → answersOf OwnerCapacity (h ++ adds x ∷ []) ≡ answersOf OwnerCapacity h ++ refused Full ∷ []
+  pub again : (k : Key) (x : Exposure) → some (hasKey k) (contentOf OwnerCapacity h) ≡ true → k .owner ≡ x .owner → IsNew x (h ++ removes k ∷ [])
+      → answersOf OwnerCapacity (h ++ removes k ∷ adds x ∷ []) ≡ answersOf OwnerCapacity h ++ gives tt ∷ gives tt ∷ []
 
 pub record Leaves (h : List Call) (rs : List Change) (n : List ℤ) : Type 0 where
   pub answers : map changeGiven rs ≡ answersOf OwnerCapacity h
   pub index : IsIndex n
   pub content : Holds (contentOf OwnerCapacity h) (entriesIn n)
   pub count : countAnswer n ≡ gives (length (contentOf OwnerCapacity h))
-  pub again : ServesAgain (contentOf OwnerCapacity h)
+  pub again : ServesAgain h
 
 pub record HistoryCorrect : Type 0 where
   pub zeros : (l : List ℤ) → IndexLength ≤ length l → every (eqZ (pos 0)) l ≡ true → IsEmpty l

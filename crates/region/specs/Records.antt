@@ -1,5 +1,6 @@
 -- Records of a region file by kind and length, and the two styles of a file. Document 01, 'Regions' and 'What is sent back', 3; document 02, F-7.
---   kind r, size r        the kind and the length in bytes of a record r: a header, a convex, a halfspace, the end, or a group of n halfspaces
+--   shape r               the kind and the length in bytes of a record r: a header, a convex, a halfspace, the end, or a group of n halfspaces
+--   kind r, size r        each of the two
 --   recordOf n len        the record of kind n and length len, or the refusal 3
 --   sameStyle s t         s and t are the same style, plain (kinds 2 and 3) or grouped (kind 5)
 --   Styles                the styles that the records of a file may have: either of them, or only one
@@ -14,19 +15,23 @@ use Rattle.region.specs.declared.Record.{Record}
 use Rattle.region.specs.declared.Style.{Style}
 use Rattle.region.specs.Building.{mostInConvex}
 
+-- the table of kinds and lengths
+pub record Shape : Type 0 where
+  pub kind : ℕ
+  pub size : ℕ
+
+abbrev pub shape : Record → Shape
+shape Record.Header = record { kind = 1; size = 8 }
+shape Record.Convex = record { kind = 2; size = 4 }
+shape Record.Halfspace = record { kind = 3; size = 20 }
+shape Record.End = record { kind = 4; size = 4 }
+shape (Record.Group n) = record { kind = 5; size = 4 + 16 * n }
+
 abbrev pub kind : Record → ℕ
-kind Record.Header = 1
-kind Record.Convex = 2
-kind Record.Halfspace = 3
-kind Record.End = 4
-kind (Record.Group n) = 5
+kind r = shape r .kind
 
 abbrev pub size : Record → ℕ
-size Record.Header = 8
-size Record.Convex = 4
-size Record.Halfspace = 20
-size Record.End = 4
-size (Record.Group n) = 4 + 16 * n
+size r = shape r .size
 
 -- a group has 1 to 100 halfspaces
 abbrev pub allowed : Record → Bool
