@@ -1,6 +1,6 @@
--- Taking a cheapest one, again and again, is the cheapest way to take n of some things, which are here their costs: any n + 1 of them cost at least what a
--- cheapest one costs and what any n of the others do. If the cheapest one is among them, the rest are n of the others; if it is not, any one of them costs
--- as much or more. Which one is taken among equals plays no part. Assumes nothing.
+-- Taking a cheapest one, again and again, is the cheapest way to take n of some things, of which only the costs are told: any n + 1 of them cost at
+-- least what a cheapest one costs and what any n of the others do. If the cheapest one is among them, the rest are n of the others; if it is not, any
+-- one of them costs as much or more. Which one is taken among equals plays no part. Assumes nothing.
 use Prim.Native.Nat.{ℕ, zero, suc, _+_, _-_, _≤_}
 use mathlib.Core.Path.{_≡_}
 use mathlib.Core.List.{List, [], _∷_, _++_}

@@ -1,8 +1,8 @@
 -- What the outer list contains: the identifiers of the ranges that went in, and those in the gaps that were joined over. Joining two touching ranges
 -- changes no count, and joining over a gap adds the gap; and in a list that ascends no identifier is counted twice. Assumes nothing.
 use Prim.Native.Nat.{ℕ, zero, suc, _+_, _-_, _*_, _≤_, _<_}
-use mathlib.Core.Path.{_≡_, refl, sym, ap, _∙_, subst}
-use mathlib.Core.Bool.{Bool, true, false}
+use mathlib.Core.Path.{_≡_, refl, sym, ap, _∙_}
+use mathlib.Core.Bool.{Bool, false}
 use mathlib.Core.List.{List, [], _∷_, _++_}
 use native.Mathlib.Omega.{arith}
 use lib.Dec.{eqb}
@@ -10,15 +10,15 @@ use lib.ListN.{length, getD, drop}
 use lib.Seq.{getD-drop}
 use borrow.Author.Tests.{lt-ltb, le-ltb, eqb-true, eqb-false}
 use Rattle.algebra.specs.Lists.{some, numbersFrom}
-use Rattle.algebra.proofs.Tests.{split, or-left, or-right}
+use Rattle.algebra.proofs.Tests.{split, or-left}
 use Rattle.algebra.proofs.Counting.{count, count-parts, count-all, count-none, count-same}
-use Rattle.ranges.specs.Ranges.{Range, isIn, inSome, Ascends, rangesIn}
+use Rattle.ranges.specs.Ranges.{Range, inSome, rangesIn}
 use Rattle.ranges.specs.Lists.{over, touch, joined, joinedFrom, smallest, place, earliest, gap, gaps, joinAt, joinSmallest, outerOf}
 use Rattle.ranges.specs.Contents.{identifiers, different, Contains, swallowedFrom, swallowedOf}
 use Rattle.ranges.proofs.Earliest.{place-here, place-later, earliest-inside}
 use Rattle.ranges.proofs.Loop.{reduced-ind, reduced-keeps}
 use Rattle.ranges.proofs.OuterPass.{length-gaps, joinSmallest-shrinks}
-use Rattle.ranges.proofs.ListLaws.{is-in, not-below, not-above, Between, between-le, between-widen}
+use Rattle.ranges.proofs.ListLaws.{is-in, not-below, not-above, Between, between-le}
 
 -- ---- lists in a row, and in a stretch
 

@@ -1,5 +1,6 @@
 -- Worked examples of the two lists, by computing: document 01's 'with budget 4 the first two outer ranges become S00 S10', the last range kept,
--- the shortest dropped, and the earliest among equals; what a gap and a range have; and what ranges contain and the outer list swallows. Assumes nothing.
+-- the shortest dropped, and the earliest among equals; what gaps and ranges have; and what ranges contain and the outer list swallows. Assumes
+-- nothing.
 use Prim.Native.Nat.{ℕ}
 use mathlib.Core.Path.{_≡_, refl}
 use mathlib.Core.List.{List, [], _∷_}

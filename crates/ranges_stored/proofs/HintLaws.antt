@@ -1,6 +1,6 @@
--- What is known of the gaps of a list, or of its sizes less one, a `MinHint`: the one that it points at is the earliest of the smallest ones, and it stays
--- true when that one goes and another comes behind. So it does in the outer list when the last range goes on and when two ranges join at that place, and in
--- the inner list when the range there is dropped. Assumes nothing.
+-- What is known of the gaps of a list, or of its sizes less one, a `MinHint`: the one that it points at is the earliest of the smallest ones, and it
+-- stays true when that one goes and another comes behind. So it does in the outer list when the last range goes on and when two ranges join at that
+-- place, and in the inner list when the range there is dropped. Assumes nothing.
 use Prim.Native.Nat.{ℕ, zero, suc, _+_, _*_, _-_, _≤_, _<_}
 use mathlib.Core.Path.{_≡_, refl, sym, ap, ap₂, subst, _∙_}
 use mathlib.Core.Bool.{true}
@@ -13,7 +13,7 @@ use Rattle.algebra.proofs.Tests.{split}
 use Rattle.ranges_stored.specs.declared.MinHint.{MinHint}
 use Rattle.ranges.specs.Ranges.{Range, rangesIn}
 use Rattle.ranges.specs.Lists.{smallest, place, earliest, gaps, joinAt, size, without}
-use Rattle.ranges.proofs.Pushing.{below, lastHigh, extend, newGap, outerFull, innerFull}
+use Rattle.ranges.proofs.Pushing.{below, extend, newGap, outerFull, innerFull}
 use Rattle.ranges_stored.specs.Stored.{difference, differences, differencesIn, Writes, hintOf, noHint, Hinted, FirstAt, PointsAt}
 use Rattle.ranges.proofs.Earliest.{below-cons, cons-below, place-here, place-later, earliest-inside, earliest-snoc, earliest-more, below-more}
 use Rattle.ranges.proofs.OuterPass.{length-gaps, length-joinAt, gaps-snoc, gaps-extend, gaps-joinAt, lastHigh-joinAt, full-join}

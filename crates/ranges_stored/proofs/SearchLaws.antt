@@ -1,8 +1,8 @@
--- The search for the smallest of some differences and one number more, from the end: `Least` says what is known of those from place j on, and one turn of
--- the search keeps it. Read one element later, the differences are the gaps. Assumes nothing.
+-- The search for the smallest of some differences and one number more, from the end: `Least` says what is known of those from place j on, and one
+-- turn of the search keeps it. Read one element later, the differences are the gaps. Assumes nothing.
 use Prim.Native.Nat.{ℕ, zero, suc, _+_, _*_, _-_, _≤_, _<_}
 use mathlib.Core.Path.{_≡_, refl, sym, ap, ap₂, _∙_}
-use mathlib.Core.List.{List, [], _∷_, _++_, map}
+use mathlib.Core.List.{List, [], _∷_, _++_}
 use native.Mathlib.Omega.{arith}
 use lib.ListN.{length, getD, drop, length-drop, length-map, List·getD-append}
 use lib.Seq.{getD-drop}

@@ -1,8 +1,8 @@
 -- The two lists as one pass keeps them, in lent memory. Document 01, 'The two lists': pairs low, high, one range after the other.
 --   difference less r   high − low − less, and 0 where that is below 0
 --   differences less rs   those of some ranges. Less 0 they are the sizes less one, and the place of the smallest is the same
---   differencesIn start less n l   those of n pairs low, high, from element `start` of the list l on. From element 1 on a pair is a high and the next low,
---                    and less 1 they are the gaps
+--   differencesIn start less n l   those of n pairs low, high, from element `start` of the list l on. From element 1 on a pair is a high and the
+--                    next low, and less 1 they are the gaps
 --   written xs l     the list l with the ranges xs at its front, as pairs; the other elements stay
 --   Writes xs before after n   `after` is `before` with the ranges xs, n of them, at its front
 -- Where the smallest gap of the outer list is, or the shortest range of the inner list, as far as it is known: a `MinHint`.
@@ -21,7 +21,7 @@
 use Prim.Native.Nat.{ℕ, _+_, _-_, _≤_, _<_}
 use mathlib.Core.Path.{_≡_}
 use mathlib.Core.Bool.{false, cond}
-use mathlib.Core.List.{List, [], _∷_, map}
+use mathlib.Core.List.{List, [], map}
 use lib.ListN.{length, getD, drop}
 use lib.Seq.{paste}
 use Rattle.ranges_stored.specs.declared.MinHint.{MinHint}

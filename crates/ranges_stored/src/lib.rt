@@ -1,4 +1,5 @@
-// Ranges in lent memory: the smallest gap or the shortest range, what is known of it, and the removing of a range. specs/Stored says how they stand there.
+// Ranges in lent memory: the smallest gap or the shortest range, what is known of it, and the removing of a range. specs/Stored says how they
+// stand there.
 ghost use mathlib.Core.Path.{_≡_};
 ghost use mathlib.Core.List.{[], _∷_, _++_};
 ghost use Prim.Native.Nat.{_+_, _*_, _-_, _≤_, _<_};
@@ -7,7 +8,8 @@ ghost use lib.ListN.{length, getD};
 ghost use Rattle.ranges.specs.Lists.{earliest};
 ghost use Rattle.ranges_stored.specs.Stored.{differencesIn, hintOf, noHint, Hinted, FirstAt, PointsAt, shifted};
 
-// What is known of some numbers, the gaps between ranges or their sizes less one: every one is at least floor, and those before number `from` are above it.
+// What is known of some numbers, the gaps between ranges or their sizes less one: every one is at least floor, and those before number `from`
+// are above it.
 pub struct MinHint {
     pub from: usize,
     pub floor: u64,
@@ -44,8 +46,8 @@ pub fn touches(high: u64, low: u64) -> bool
     high < low && low - high == 1
 }
 
-// Both lists search the differences of pairs in the lent list: the gaps are those from element 1 on, less 1, and the sizes, less one, those from element 0
-// on, less 0. Here the difference of pair number i, from element start on.
+// Both lists search the differences of pairs in the lent list: the gaps are those from element 1 on, less 1, and the sizes, less one, those from
+// element 0 on, less 0. Here the difference of pair number i, from element start on.
 fn difference_at(list: &[u64], start: usize, less: u64, i: usize) -> u64
     requires { ⌜ start + 2 * i + 2 ≤ length (now list) ⌝ }
     ensures { λ r. ⌜ r ≡ getD (now (list .entry)) (start + 2 * i + 1) 0 - getD (now (list .entry)) (start + 2 * i) 0 - less ⌝ }
