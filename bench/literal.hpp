@@ -432,15 +432,18 @@ static inline Ranges join_touching(const Ranges&a){
     }
     return o;
 }
-// literal: one join / one drop at a time; swallowed gains what lies in each gap that is joined over
+// the identifiers between two neighbours, and those of a range
+static inline u64 gap(const Range&a,const Range&b){return b.first-a.second-1;}
+static inline u64 size(const Range&a){return a.second-a.first+1;}
+// literal: one join / one drop at a time; swallowed gains each gap that is joined over
 static inline Ranges reduce_outer_naive(Ranges a,size_t budget,u64&swallowed){
     while(a.size()>budget){
         size_t best=0; u64 bg=0; bool have=false;
         for(size_t i=0;i+1<a.size();i++){
-            u64 gap=a[i+1].first-a[i].second;
-            if(!have||gap<bg){have=true;bg=gap;best=i;}
+            u64 g=gap(a[i],a[i+1]);
+            if(!have||g<bg){have=true;bg=g;best=i;}
         }
-        swallowed+=bg-1;
+        swallowed+=bg;
         a[best].second=a[best+1].second;
         a.erase(a.begin()+(long)best+1);
     }
@@ -450,7 +453,7 @@ static inline Ranges reduce_inner_naive(Ranges a,size_t budget){
     while(a.size()>budget){
         size_t best=0; u64 bl=0; bool have=false;
         for(size_t i=0;i<a.size();i++){
-            u64 l=a[i].second-a[i].first;
+            u64 l=size(a[i]);
             if(!have||l<bl){have=true;bl=l;best=i;}
         }
         a.erase(a.begin()+(long)best);
@@ -461,10 +464,10 @@ static inline Ranges reduce_inner_naive(Ranges a,size_t budget){
 static inline Ranges reduce_outer_set(const Ranges&a,size_t budget,u64&swallowed){
     if(a.size()<=budget) return a;
     std::set<std::pair<u64,size_t>> q;             // (gap, position); gaps never change by joining
-    for(size_t i=0;i+1<a.size();i++) q.insert({a[i+1].first-a[i].second,i});
+    for(size_t i=0;i+1<a.size();i++) q.insert({gap(a[i],a[i+1]),i});
     std::vector<char> joined(a.size(),0);
     size_t n=a.size();
-    while(n>budget){auto it=q.begin();joined[it->second]=1;swallowed+=it->first-1;q.erase(it);n--;}
+    while(n>budget){auto it=q.begin();joined[it->second]=1;swallowed+=it->first;q.erase(it);n--;}
     Ranges o;
     for(size_t i=0;i<a.size();i++){
         if(i>0&&joined[i-1]) o.back().second=a[i].second; else o.push_back(a[i]);
@@ -474,7 +477,7 @@ static inline Ranges reduce_outer_set(const Ranges&a,size_t budget,u64&swallowed
 static inline Ranges reduce_inner_set(const Ranges&a,size_t budget){
     if(a.size()<=budget) return a;
     std::set<std::pair<u64,size_t>> q;
-    for(size_t i=0;i<a.size();i++) q.insert({a[i].second-a[i].first,i});
+    for(size_t i=0;i<a.size();i++) q.insert({size(a[i]),i});
     std::vector<char> gone(a.size(),0);
     size_t n=a.size();
     while(n>budget){auto it=q.begin();gone[it->second]=1;q.erase(it);n--;}

@@ -12,7 +12,7 @@ import sys
 sys.dont_write_bytecode = True
 import htm
 from cover_cases import AXES, DEGREE, K2, K3, cap
-from htm import K, identifiers, joined, outer_of
+from htm import K, gap, identifiers, joined, outer_of
 from region_cases import file_of
 
 
@@ -38,7 +38,7 @@ def by_steps(accepted, budget, choose=min, more=0):
     outer = joined(accepted)
     while len(outer) > budget or more and len(outer) > 1:
         more -= len(outer) <= budget
-        gaps = [b[0] - a[1] for a, b in zip(outer, outer[1:])]
+        gaps = [gap(a, b) for a, b in zip(outer, outer[1:])]
         k = gaps.index(choose(gaps))
         outer[k:k + 2] = [(outer[k][0], outer[k + 1][1])]
     return outer

@@ -8,6 +8,7 @@ use mathlib.Core.List.{[], _∷_}
 use lib.Dec.{lit<}
 use Rattle.mesh.specs.declared.Trixel.{Trixel}
 use Rattle.mesh.specs.Trixels.{child, rootTrixel}
+use Rattle.mesh.specs.Identifiers.{identifiersAt}
 use Rattle.region.specs.Regions.{Region}
 use Rattle.classify.specs.Classes.{regionClass}
 use Rattle.ranges.specs.Ranges.{Range}
@@ -15,7 +16,7 @@ use Rattle.ranges.specs.Contents.{identifiers, Contains}
 use Rattle.ranges.proofs.ContentsLaws.{identifiers-append, identifiers-few, between-contains, between-outer, identifiers-outer}
 use Rattle.ranges.proofs.ListLaws.{Between}
 use Rattle.covering.specs.Cover.{Found, descendants, leftOut, takenFull, takenPartial, both, four, visit, visitRoot, cutting, Cover, listed}
-use Rattle.covering.proofs.CoverLaws.{by-class, Which, full-stretch, power, below, found-outside, found-full, found-last, found-cut, found-between, cutting-between}
+use Rattle.covering.proofs.CoverLaws.{by-class, Which, full-stretch, power, below, found-outside, found-full, found-last, found-cut, found-between, cutting-between, cutting-at-depth}
 
 -- a full trixel n levels above the depth has 4^n descendants there
 pub descendants-count : (n i : ℕ) → identifiers (descendants n i ∷ []) ≡ 4 ^ n
@@ -79,14 +80,6 @@ module _ (g : Region) (d B : ℕ) where
   abbrev c : Cover
   c = listed B (cutting d g)
 
-  pub full-contains : Contains (cutting d g .full) (c .full)
-  full-contains = between-contains (8 * 4 ^ (d - 1)) (16 * 4 ^ (d - 1)) (cutting d g .full) (cutting-between g d Which.full)
-
-  pub accepted-contains : Contains (cutting d g .accepted) (c .full + c .partial)
-  accepted-contains =
-      subst (Contains (cutting d g .accepted)) (cutting-shared g d)
-      (between-contains (8 * 4 ^ (d - 1)) (16 * 4 ^ (d - 1)) (cutting d g .accepted) (cutting-between g d Which.accepted))
-
   module _ (one : 1 ≤ B) where
     pub outer-between : Between (8 * 4 ^ (d - 1)) (16 * 4 ^ (d - 1)) (c .outer)
     outer-between = between-outer B one (8 * 4 ^ (d - 1)) (16 * 4 ^ (d - 1)) (cutting d g .accepted) (cutting-between g d Which.accepted)
@@ -95,9 +88,6 @@ module _ (g : Region) (d B : ℕ) where
     outer-counted =
         identifiers-outer B one (8 * 4 ^ (d - 1)) (16 * 4 ^ (d - 1)) (cutting d g .accepted) (cutting-between g d Which.accepted)
         ∙ ap (λ n. n + c .swallowed) (cutting-shared g d)
-
-    pub outer-contains : Contains (c .outer) (c .full + c .partial + c .swallowed)
-    outer-contains = subst (Contains (c .outer)) outer-counted (between-contains (8 * 4 ^ (d - 1)) (16 * 4 ^ (d - 1)) (c .outer) outer-between)
 
     -- how many identifiers the depth has
     pub outer-few : identifiers (c .outer) ≤ 8 * 4 ^ (d - 1)
@@ -114,3 +104,25 @@ module _ (g : Region) (d B : ℕ) where
     counts-small h =
         let m : 4 ^ (d - 1) ≤ 4 ^ 11 = pow-le-pow-right {n = 4} (lit< tt) {i = d - 1} {j = 11} (omega arith) in
         omega (arith, counts-few)
+
+-- ---- of the identifiers at the depth they contain so many, each once
+
+module _ (g : Region) (d B : ℕ) (deep : 1 ≤ d) where
+  abbrev low : ℕ
+  low = 2 ^ (2 * d + 1)
+
+  abbrev lists : Cover
+  lists = listed B (cutting d g)
+
+  pub full-contains : Contains (identifiersAt d) (cutting d g .full) (lists .full)
+  full-contains = between-contains low low (cutting d g .full) (cutting-at-depth g d Which.full deep)
+
+  pub accepted-contains : Contains (identifiersAt d) (cutting d g .accepted) (lists .full + lists .partial)
+  accepted-contains =
+      subst (Contains (identifiersAt d) (cutting d g .accepted)) (cutting-shared g d)
+      (between-contains low low (cutting d g .accepted) (cutting-at-depth g d Which.accepted deep))
+
+  pub outer-contains : 1 ≤ B → Contains (identifiersAt d) (lists .outer) (lists .full + lists .partial + lists .swallowed)
+  outer-contains one =
+      subst (Contains (identifiersAt d) (lists .outer)) (outer-counted g d B one)
+      (between-contains low low (lists .outer) (between-outer B one low (low + low) (cutting d g .accepted) (cutting-at-depth g d Which.accepted deep)))

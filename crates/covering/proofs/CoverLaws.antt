@@ -20,6 +20,7 @@ use Rattle.vector.proofs.VectorLaws.{Long}
 use Rattle.mesh.specs.declared.Trixel.{Trixel}
 use Rattle.mesh.specs.Trixels.{child, rootTrixel}
 use Rattle.mesh.specs.Lookup.{rootNumber, digit, descend, identifier}
+use Rattle.mesh.proofs.NameLaws.{next-power}
 use Rattle.mesh.proofs.LookupLaws.{four-low, four-high, root-small, descend-low, descend-high}
 use Rattle.mesh.proofs.Path.{Inside, root-inside, child-inside, digit-small}
 use Rattle.region.specs.Regions.{Region, holds}
@@ -207,6 +208,14 @@ module _ (g : Region) (d : ℕ) where
   unfolding cutting
   cutting-between accepted = eight (rootList accepted) (root-between accepted)
   cutting-between full = eight (rootList full) (root-between full)
+
+  -- the lowest of which is 2^(2·d + 1), and there are as many
+  pub cutting-at-depth : (w : Which) → 1 ≤ d → Between (2 ^ (2 * d + 1)) (2 ^ (2 * d + 1) + 2 ^ (2 * d + 1)) (listOf w (cutting d g))
+  cutting-at-depth w deep =
+      let e : d ≡ suc (d - 1) = omega arith in
+      let q : 4 ^ d ≡ 4 ^ (d - 1) * 4 = ap (λ n. 4 ^ n) e ∙ pow-suc 4 (d - 1) in
+      let l = next-power d in
+      between-widen _ _ (8 * 4 ^ (d - 1)) (16 * 4 ^ (d - 1)) (listOf w (cutting d g)) (omega arith) (omega arith) (cutting-between w)
 
   pub accepted-ascends : SpacedBy 0 (cutting d g .accepted)
   accepted-ascends = between-spaced (8 * 4 ^ (d - 1)) (16 * 4 ^ (d - 1)) (cutting d g .accepted) (cutting-between accepted)

@@ -13,7 +13,7 @@ use Rattle.ranges_lists.specs.declared.Pushed.{Pushed}
 use Rattle.ranges.specs.Ranges.{Range, rangesIn}
 use Rattle.ranges.specs.Lists.{gaps}
 use Rattle.ranges.proofs.Pushing.{outerPush}
-use Rattle.ranges_stored.specs.Stored.{Writes, sizesIn, hintOf, Hinted}
+use Rattle.ranges_stored.specs.Stored.{Writes, differencesIn, hintOf, Hinted}
 use Rattle.covering.specs.Cover.{takenFull, takenPartial}
 use Rattle.covering_tally.specs.Tally.{Tally, tallyIn, withOuter, withInner, oneMore, oneFull, onePartial, OuterPushed, InnerNeeds, InnerPushed, Inside, Countable, SmallRange, TallyInvariant, TrixelAccepted}
 use Rattle.covering_tally.proofs.WalkLaws.{taken-partial, taken-full, hinted-before, hinted-behind}
@@ -51,7 +51,7 @@ outer-pushed r {m} {s} {s₁} {out} {out₁} h e =
     subst (λ q. OuterPushed r s out q out₁) (sym e) (record { writes = h .0; few = h .1 .0 .1; hinted = h .1 .1; inner = refl; seen = refl; budget = refl; full = refl; partial = refl })
 
 module _ {r : Range} {s s₁ : Tally} {out out₁ : List ℕ} (invariant : TallyInvariant s out) (o : OuterPushed r s out s₁ out₁) (same : length out₁ ≡ length out) where
-  behind : Hinted (s .inner .hint) (sizesIn (2 * s .budget) (s .inner .n) out₁)
+  behind : Hinted (s .inner .hint) (differencesIn (2 * s .budget) 0 (s .inner .n) out₁)
   behind = hinted-behind (s .inner .hint) (s .inner .n) (s .budget) (o .writes) (o .few) (omega (arith, invariant .list)) (invariant .innerHinted)
 
   pub partial-taken : {s₂ : Tally} → s₂ ≡ onePartial s₁ → TrixelAccepted (takenPartial r) s out s₂ out₁

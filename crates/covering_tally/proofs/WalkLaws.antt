@@ -3,7 +3,7 @@
 use Prim.Native.Nat.{ℕ, zero, suc, _+_, _-_, _*_, _^_, _≤_}
 use native.Mathlib.Omega.{arith}
 use mathlib.Core.Path.{_≡_, refl, sym, ap, subst, _∙_}
-use mathlib.Core.List.{List, [], _∷_, _++_, map, foldl, append-assoc, append-nil}
+use mathlib.Core.List.{List, [], _∷_, _++_, foldl, append-assoc, append-nil}
 use lib.ListN.{length, take, drop, take-append-drop}
 use lib.Seq.{take-at, drop-at, length-take-le, drop-append-add}
 use Rattle.answer.specs.Lent.{put}
@@ -11,11 +11,11 @@ use Rattle.region.specs.Regions.{Region}
 use Rattle.ranges_stored.specs.declared.MinHint.{MinHint}
 use Rattle.ranges_stored.specs.declared.Pending.{Pending}
 use Rattle.ranges.specs.Ranges.{Range, pairs, range, rangesIn}
-use Rattle.ranges.specs.Lists.{gaps, size, outerOf, innerOf}
+use Rattle.ranges.specs.Lists.{gaps, outerOf, innerOf}
 use Rattle.ranges.specs.Contents.{identifiers, swallowedOf}
 use Rattle.ranges.proofs.ContentsLaws.{identifiers-append}
 use Rattle.ranges.proofs.Pushing.{outerPush, outerPass, empty, innerPush, innerEnd, innerPass}
-use Rattle.ranges_stored.specs.Stored.{sizesIn, written, Writes, Hinted, nothingYet, stateOf, Stores}
+use Rattle.ranges_stored.specs.Stored.{differences, differencesIn, written, Writes, Hinted, nothingYet, stateOf, Stores}
 use Rattle.ranges.proofs.OnePass.{one-pass}
 use Rattle.ranges_stored.proofs.StoredLaws.{laid, laid-put, length-written}
 use Rattle.ranges_lists.proofs.Pushes.{writes-in, writes-none, writes-push, stores-none, stores-push, stores-end}
@@ -68,11 +68,11 @@ past-laid (suc (suc k)) (a ∷ xs) (x ∷ y ∷ l) h f = past-laid k xs l (omega
 past-written : (k : ℕ) (xs : List Range) (l : List ℕ) → 2 * length xs ≤ k → 2 * length xs ≤ length l → drop k (written xs l) ≡ drop k l
 past-written k xs l h f = ap (drop k) (sym (laid-put xs l)) ∙ past-laid k xs l h f
 
--- what is known of the sizes behind, where another list is written at the front
+-- what is known of the sizes, less one, behind, where another list is written at the front
 pub hinted-behind : (h : MinHint) (n b : ℕ) {xs : List Range} {before after : List ℕ} {m : ℕ} → Writes xs before after m → m ≤ b → 2 * b ≤ length before
-    → Hinted h (sizesIn (2 * b) n before) → Hinted h (sizesIn (2 * b) n after)
+    → Hinted h (differencesIn (2 * b) 0 n before) → Hinted h (differencesIn (2 * b) 0 n after)
 hinted-behind h n b {xs} {before} w few long p =
-    subst (λ l. Hinted h (map size (rangesIn n l))) (sym (ap (drop (2 * b)) (w .list) ∙ past-written (2 * b) xs before (omega (arith, w .count)) (omega (arith, w .count)))) p
+    subst (λ l. Hinted h (differences 0 (rangesIn n l))) (sym (ap (drop (2 * b)) (w .list) ∙ past-written (2 * b) xs before (omega (arith, w .count)) (omega (arith, w .count)))) p
 
 fold-snoc : {S : Type 0} (step : S → Range → S) (s : S) (rs : List Range) (r : Range) → foldl step s (rs ++ r ∷ []) ≡ step (foldl step s rs) r
 fold-snoc step s [] r = refl

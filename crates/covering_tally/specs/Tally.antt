@@ -16,7 +16,7 @@
 --   InnerNeeds ..      what is needed to push a range onto the inner list; InnerPushed: what is so then; Inside: it is noted
 --   InnerStored ..     the inner list's writer was lent the list from element 2 × b on: the elements before it stay; InnerEnded: the same at the end
 --   TallyInvariant ..  the counts are at most the budget, the list has room for both lists, and what s knows of the gaps of the outer list and of the
---                      sizes of the inner list's stored ranges is so; and the counts of identifiers are no more than the trixels seen can have
+--                      sizes, less one, of the inner list's stored ranges is so; and the counts of identifiers are no more than the trixels seen can have
 use Prim.Native.Nat.{ℕ, _+_, _-_, _*_, _^_, _≤_, _<_}
 use mathlib.Core.Path.{_≡_}
 use mathlib.Core.List.{List, [], _++_, foldl}
@@ -29,7 +29,7 @@ use Rattle.ranges.specs.Ranges.{Range, rangesIn}
 use Rattle.ranges.specs.Lists.{gaps}
 use Rattle.ranges.specs.Contents.{identifiers}
 use Rattle.ranges.proofs.Pushing.{outerPush, outerPass, Inner, empty, innerPush}
-use Rattle.ranges_stored.specs.Stored.{sizesIn, Writes, hintOf, noHint, Hinted, nothingYet, stateOf, Stores}
+use Rattle.ranges_stored.specs.Stored.{differencesIn, Writes, hintOf, noHint, Hinted, nothingYet, stateOf, Stores}
 use Rattle.covering.specs.declared.Counts.{Counts}
 use Rattle.covering.specs.Cover.{Found, both}
 
@@ -124,7 +124,7 @@ pub record TallyInvariant (s : Tally) (out : List ℕ) : Type 0 where
   pub inner : s .inner .n ≤ s .budget
   pub list : 4 * s .budget ≤ length out
   pub hinted : Hinted (s .hint) (gaps (rangesIn (s .outer) out))
-  pub innerHinted : Hinted (s .inner .hint) (sizesIn (2 * s .budget) (s .inner .n) out)
+  pub innerHinted : Hinted (s .inner .hint) (differencesIn (2 * s .budget) 0 (s .inner .n) out)
   pub full : s .full ≤ 2 ^ 26 * s .seen
   pub partial : s .partial ≤ s .seen
 
@@ -149,12 +149,12 @@ pub record InnerNeeds (b : ℕ) (p : Pending) (out : List ℕ) : Type 0 where
   pub budget : 1 ≤ b
   pub few : p .n ≤ b
   pub list : 4 * b ≤ length out
-  pub hinted : Hinted (p .hint) (sizesIn (2 * b) (p .n) out)
+  pub hinted : Hinted (p .hint) (differencesIn (2 * b) 0 (p .n) out)
 
 pub record InnerPushed (b : ℕ) (r : Range) (p : Pending) (out : List ℕ) (q : Pending) (out′ : List ℕ) : Type 0 where
   pub behind : InnerStored b out out′ (innerPush b (stateOf p (drop (2 * b) out)) r) q
   pub few : q .n ≤ b
-  pub hinted : Hinted (q .hint) (sizesIn (2 * b) (q .n) out′)
+  pub hinted : Hinted (q .hint) (differencesIn (2 * b) 0 (q .n) out′)
 
 pub record Inside (r : Range) (s : Tally) (out : List ℕ) (s′ : Tally) (out′ : List ℕ) : Type 0 where
   pub beside : Pending

@@ -1,9 +1,8 @@
 -- The outer list is the tightest for its budget: document 02, F-9. The accepted ranges lie among the identifiers at the depth (CoverLaws of covering), and
 -- of ranges in a stretch the outer list is the tightest (Tightest of ranges). Assumes nothing.
-use Prim.Native.Nat.{ℕ, suc, _+_, _-_, _*_, _^_, _≤_}
-use native.Mathlib.Nat.{pow-suc}
+use Prim.Native.Nat.{ℕ, _+_, _*_, _^_, _≤_}
 use native.Mathlib.Omega.{arith}
-use mathlib.Core.Path.{_≡_, sym, ap, subst, subst₂, _∙_}
+use mathlib.Core.Path.{_≡_, sym, subst, subst₂}
 use mathlib.Core.Bool.{true}
 use mathlib.Core.List.{List}
 use borrow.Author.Tests.{le-leb, lt-ltb}
@@ -17,11 +16,11 @@ use Rattle.region.proofs.BudgetLaws.{budget-one}
 use Rattle.region.proofs.ReaderLaws.{read-depth}
 use Rattle.ranges.specs.Ranges.{Range, inSome}
 use Rattle.ranges.specs.Lists.{outerOf}
-use Rattle.ranges.proofs.ListLaws.{some-has, Between, between-widen, between-low, between-high}
+use Rattle.ranges.proofs.ListLaws.{some-has, Between, between-low, between-high}
 use Rattle.ranges.proofs.ContentsLaws.{between-outer}
 use Rattle.ranges.proofs.Tightest.{outer-feasible, outer-tightest, outer-empty}
 use Rattle.covering.specs.Cover.{cutting, cover, coverOf, countsOf}
-use Rattle.covering.proofs.CoverLaws.{Which, cutting-between}
+use Rattle.covering.proofs.CoverLaws.{Which, cutting-at-depth}
 use Rattle.htm.specs.Answers.{bothLists, outerIn}
 use Rattle.htm.specs.Tightest.{TightestFor, TightestOf, Tightest, TightestOfAnswers, TightestOfCalls}
 use Rattle.covering.proofs.ListedLaws.{outer-back}
@@ -41,11 +40,7 @@ module _ (d b : ℕ) (g : Region) (deep : 1 ≤ d) where
 
   -- the descendants of the eight roots are the identifiers at the depth
   stretch : Between low (low + low) accepted
-  stretch =
-      let e : d ≡ suc (d - 1) = omega arith in
-      let q : 4 ^ d ≡ 4 ^ (d - 1) * 4 = ap (λ n. 4 ^ n) e ∙ pow-suc 4 (d - 1) in
-      let l = next-power d in
-      between-widen low (low + low) (8 * 4 ^ (d - 1)) (16 * 4 ^ (d - 1)) accepted (omega arith) (omega arith) (cutting-between g d Which.accepted)
+  stretch = cutting-at-depth g d Which.accepted deep
 
   at-depth : (i : ℕ) → inSome i (outerOf B accepted) ≡ true → identifierAt d i ≡ true
   at-depth i e =

@@ -2,29 +2,33 @@
 --   in-full       the full trixels have `full` identifiers at the depth
 --   in-accepted   the accepted trixels, full ones and partial ones at the depth, have full + partial
 --   in-outer      the outer ranges contain full + partial + swallowed
--- each identifier counted once (`Contains`, ranges/specs/Contents). `Counted` says so of the rules, `CountedOfAnswers` of what the cover answers and of the
--- outer list that stands in the lent list afterwards. Both are proved: proofs/Counted.
+-- of the identifiers at the depth, each counted once (`Contains`, ranges/specs/Contents). `Counted` says so of the rules, `CountedOfAnswers` of what
+-- the cover answers and of the outer list that stands in the lent list afterwards. Both are proved: proofs/Counted.
 use Prim.Native.Nat.{ℕ, _+_}
 use mathlib.Core.Path.{_≡_}
 use mathlib.Core.List.{List}
 use Rattle.answer.specs.Answer.{gives}
 use Rattle.region.specs.Reader.{File, Accepted}
+use Rattle.mesh.specs.Identifiers.{identifiersAt}
 use Rattle.ranges.specs.Ranges.{Range}
 use Rattle.ranges.specs.Contents.{Contains}
 use Rattle.covering.specs.declared.Counts.{Counts}
 use Rattle.covering.specs.Cover.{Found, cutting, cover, countsOf}
 use Rattle.htm.specs.Answers.{coverAnswer, coverAfter, outerIn}
 
--- of what a cutting found, a list of ranges and the counts
-pub record Contents (found : Found) (outer : List Range) (c : Counts) : Type 0 where
-  pub in-full : Contains (found .full) (c .full)
-  pub in-accepted : Contains (found .accepted) (c .full + c .partial)
-  pub in-outer : Contains outer (c .full + c .partial + c .swallowed)
+-- of a depth, what a cutting found there, a list of ranges and the counts
+pub record Contents (d : ℕ) (found : Found) (outer : List Range) (c : Counts) : Type 0 where
+  pub in-full : Contains (identifiersAt d) (found .full) (c .full)
+  pub in-accepted : Contains (identifiersAt d) (found .accepted) (c .full + c .partial)
+  pub in-outer : Contains (identifiersAt d) outer (c .full + c .partial + c .swallowed)
+
+abbrev pub ContentsOf : File → List Range → Counts → Type 0
+ContentsOf x outer c = Contents (x .depth) (cutting (x .depth) (x .region)) outer c
 
 abbrev pub Counted : Type 0
-Counted = (f : List ℕ) (x : File) → Accepted f x → Contents (cutting (x .depth) (x .region)) (cover x .outer) (countsOf (cover x))
+Counted = (f : List ℕ) (x : File) → Accepted f x → ContentsOf x (cover x .outer) (countsOf (cover x))
 
 abbrev pub CountedOfAnswers : Type 0
 CountedOfAnswers =
     (f before : List ℕ) (c : Counts) → coverAnswer f before ≡ gives c
-    → (x : File) × Accepted f x × Contents (cutting (x .depth) (x .region)) (outerIn c (coverAfter f before)) c
+    → (x : File) × Accepted f x × ContentsOf x (outerIn c (coverAfter f before)) c

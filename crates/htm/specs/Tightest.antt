@@ -7,13 +7,12 @@
 -- The rule's 'earliest among equals' plays no part: it chooses between gaps of one size, so between lists that contain equally many identifiers.
 -- `Tightest` says so of the rules, `TightestOfAnswers` of the list that stands in the lent list where the cover answers, `TightestOfCalls` of values that
 -- meet the contract of the call. All are proved: proofs/TightestKept.
-use Prim.Native.Nat.{ℕ, _+_, _*_, _^_, _≤_}
+use Prim.Native.Nat.{ℕ, _≤_}
 use mathlib.Core.Path.{_≡_}
 use mathlib.Core.Bool.{true, false}
 use mathlib.Core.List.{List, []}
-use Rattle.algebra.specs.Lists.{numbersFrom}
 use Rattle.answer.specs.Answer.{gives}
-use Rattle.mesh.specs.Identifiers.{identifierAt}
+use Rattle.mesh.specs.Identifiers.{identifierAt, identifiersAt}
 use Rattle.region.specs.Budgets.{budgetOf}
 use Rattle.region.specs.Reader.{File, Accepted}
 use Rattle.ranges.specs.Ranges.{Range, inSome}
@@ -22,10 +21,6 @@ use Rattle.covering.specs.Cover.{cutting, cover}
 use Rattle.covering.specs.declared.Counts.{Counts}
 use Rattle.htm.specs.declared.CoverOf.{CoverOf}
 use Rattle.htm.specs.Answers.{coverAnswer, coverAfter, coverGiven, outerIn}
-
--- the identifiers at depth d, in a row: those whose highest set bit is bit 2·d + 1
-abbrev pub identifiersAt : ℕ → List ℕ
-identifiersAt d = numbersFrom (2 ^ (2 * d + 1)) (2 ^ (2 * d + 1))
 
 -- of a depth, the budget that is counted with, the accepted ranges and a list
 pub record TightestFor (d budget : ℕ) (accepted outer : List Range) : Type 0 where

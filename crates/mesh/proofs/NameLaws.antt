@@ -1,4 +1,4 @@
--- The depth of an identifier, and that its name leads back to it. Assumes nothing.
+-- The depth of an identifier, the identifiers of a depth, and that the name of one leads back to it. Assumes nothing.
 use Prim.Native.Nat.{ℕ, zero, suc, _+_, _-_, _*_, _/_, _%_, _^_, _≤_, _<_}
 use native.Mathlib.Nat.{pow-le-pow-right, pow-suc, pow-succ', div-div-eq-div-mul, le-div-iff-mul-le, div-lt-iff-lt-mul, one-le-pow}
 use native.Mathlib.Omega.{arith}
@@ -8,11 +8,12 @@ use mathlib.Core.List.{List, [], _∷_, _++_}
 use lib.Dec.{leb, ltb, eqb, lit<}
 use native.Mathlib.Numerals.{add-one}
 use lib.ListN.{length, length-append}
-use borrow.Author.Tests.{leb-true, ltb-true, lt-ltb, lt-leb, le-leb, eqb-true, eqb-false}
-use Rattle.algebra.proofs.Tests.{split, and-left, and-right, and-both, and-no-left}
+use borrow.Author.Tests.{leb-true, leb-false, ltb-true, lt-ltb, le-ltb, lt-leb, le-leb, eqb-true, eqb-false}
+use Rattle.algebra.specs.Lists.{some, numbersFrom}
+use Rattle.algebra.proofs.Tests.{split, and-left, and-right, and-both, and-no-left, and-no-right}
 use Rattle.vector.proofs.GreatestLaws.{greatest-is, greatest-most, greatest-found}
 use Rattle.answer.specs.Answer.{gives, check, Name}
-use Rattle.mesh.specs.Identifiers.{identifierAt, depthOf, isIdentifier}
+use Rattle.mesh.specs.Identifiers.{identifierAt, identifiersAt, depthOf, isIdentifier}
 use Rattle.mesh.specs.Names.{letterS, digit0, digits, letter, nameAt, isDigit, areDigits, isLetter, isName, withDigits, valueOf, identifierOf}
 
 -- ---- the depth
@@ -105,6 +106,29 @@ last-power d =
     let s : 2 * d + 2 ≡ suc (2 * d + 1) = omega arith in
     let e : 2 ^ (2 * d + 2) ≡ 2 ^ (2 * d + 1) * 2 = ap (λ x. 2 ^ x) s ∙ pow-suc 2 (2 * d + 1) in
     omega (arith, next-power d)
+
+-- `identifiersAt d` has the identifiers of depth d, and no other number
+in-row : (i a n : ℕ) → some (eqb i) (numbersFrom a n) ≡ leb a i && ltb i (a + n)
+unfolding some numbersFrom
+in-row i a zero = split (leb a i)
+    (λ t. sym (and-no-right (leb a i) (le-ltb i (a + 0) (omega (arith, leb-true a i t)))))
+    (λ t. sym (and-no-left (ltb i (a + 0)) t))
+in-row i a (suc n) = split (eqb i a)
+    (λ t. let e = eqb-true i a t in rw t (sym (and-both (le-leb a i (omega arith)) (lt-ltb i (a + suc n) (omega arith)))))
+    (λ t.
+    let s : suc a + n ≡ a + suc n = omega arith in
+    let l : leb (suc a) i ≡ leb a i = other (eqb-false i a t) in
+    rw t (in-row i (suc a) n ∙ rw (s, l)))
+  where
+    other : (i ≡ a → ⊥) → leb (suc a) i ≡ leb a i
+    other n = split (leb a i)
+        (λ t. le-leb (suc a) i (omega (arith, leb-true a i t)) ∙ sym t)
+        (λ t. lt-leb (suc a) i (omega (arith, leb-false a i t)) ∙ sym t)
+
+pub identifiers-at : (d i : ℕ) → some (eqb i) (identifiersAt d) ≡ identifierAt d i
+identifiers-at d i =
+    let e : 2 ^ (2 * d + 1) + 2 ^ (2 * d + 1) ≡ 2 ^ (2 * d + 2) = omega (arith, next-power d, last-power d) in
+    in-row i (2 ^ (2 * d + 1)) (2 ^ (2 * d + 1)) ∙ ap (λ n. leb (2 ^ (2 * d + 1)) i && ltb i n) e
 
 before-low : (d i : ℕ) → identifierAt d i ≡ true → 2 ≤ i / 4 ^ d
 before-low d i e = le-div-iff-mul-le (one-le-pow d 4 (lit< tt)) .1 (omega (arith, next-power d, at-low d i e))

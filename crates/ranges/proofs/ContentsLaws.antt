@@ -1,8 +1,8 @@
 -- What the outer list contains: the identifiers of the ranges that went in, and those in the gaps that were joined over. Joining two touching ranges
--- changes no count, and joining over a gap adds what lies in it; and in a list that ascends no identifier is counted twice. Assumes nothing.
+-- changes no count, and joining over a gap adds the gap; and in a list that ascends no identifier is counted twice. Assumes nothing.
 use Prim.Native.Nat.{ℕ, zero, suc, _+_, _-_, _*_, _≤_, _<_}
-use mathlib.Core.Path.{_≡_, refl, sym, ap, _∙_, subst}
-use mathlib.Core.Bool.{Bool, true, false}
+use mathlib.Core.Path.{_≡_, refl, sym, ap, _∙_}
+use mathlib.Core.Bool.{Bool, false}
 use mathlib.Core.List.{List, [], _∷_, _++_}
 use native.Mathlib.Omega.{arith}
 use lib.Dec.{eqb}
@@ -10,15 +10,15 @@ use lib.ListN.{length, getD, drop}
 use lib.Seq.{getD-drop}
 use borrow.Author.Tests.{lt-ltb, le-ltb, eqb-true, eqb-false}
 use Rattle.algebra.specs.Lists.{some, numbersFrom}
-use Rattle.algebra.proofs.Tests.{split, or-left, or-right}
+use Rattle.algebra.proofs.Tests.{split, or-left}
 use Rattle.algebra.proofs.Counting.{count, count-parts, count-all, count-none, count-same}
-use Rattle.ranges.specs.Ranges.{Range, isIn, inSome, Ascends, rangesIn}
+use Rattle.ranges.specs.Ranges.{Range, inSome, rangesIn}
 use Rattle.ranges.specs.Lists.{over, touch, joined, joinedFrom, smallest, place, earliest, gap, gaps, joinAt, joinSmallest, outerOf}
-use Rattle.ranges.specs.Contents.{identifiers, different, Contains, inGap, swallowedFrom, swallowedOf}
+use Rattle.ranges.specs.Contents.{identifiers, different, Contains, swallowedFrom, swallowedOf}
 use Rattle.ranges.proofs.Earliest.{place-here, place-later, earliest-inside}
 use Rattle.ranges.proofs.Loop.{reduced-ind, reduced-keeps}
 use Rattle.ranges.proofs.OuterPass.{length-gaps, joinSmallest-shrinks}
-use Rattle.ranges.proofs.ListLaws.{is-in, not-below, not-above, Between, between-le, between-widen}
+use Rattle.ranges.proofs.ListLaws.{is-in, not-below, not-above, Between, between-le}
 
 -- ---- lists in a row, and in a stretch
 
@@ -73,7 +73,7 @@ joinAt-between (suc i) a b (r ∷ s ∷ rs) p = (p .0, p .1, joinAt-between i (r
 
 -- the place of the gap g, if it is one of them
 over-gap : (g a b : ℕ) (rs : List Range) → Between a b rs → place g (gaps rs) < length (gaps rs)
-    → identifiers (joinAt (place g (gaps rs)) rs) ≡ identifiers rs + inGap g
+    → identifiers (joinAt (place g (gaps rs)) rs) ≡ identifiers rs + g
 unfolding gaps
 over-gap g a b [] p h = absurd (omega arith)
 over-gap g a b (r ∷ []) p h = absurd (omega arith)
@@ -86,11 +86,11 @@ over-gap g a b (r ∷ s ∷ rs) p h =
     let e = place-later g (gap r s) (gaps (s ∷ rs)) (eqb-false g (gap r s) t) in
     rw e (next (place g (gaps (s ∷ rs))) (over-gap g (r .high + 1) b (s ∷ rs) (p .2) (omega arith))))
   where
-    first : g ≡ gap r s → identifiers (joinAt 0 (r ∷ s ∷ rs)) ≡ identifiers (r ∷ s ∷ rs) + inGap g
+    first : g ≡ gap r s → identifiers (joinAt 0 (r ∷ s ∷ rs)) ≡ identifiers (r ∷ s ∷ rs) + g
     first e = unfold joinAt identifiers in omega arith
 
-    next : (i : ℕ) → identifiers (joinAt i (s ∷ rs)) ≡ identifiers (s ∷ rs) + inGap g
-        → identifiers (joinAt (suc i) (r ∷ s ∷ rs)) ≡ identifiers (r ∷ s ∷ rs) + inGap g
+    next : (i : ℕ) → identifiers (joinAt i (s ∷ rs)) ≡ identifiers (s ∷ rs) + g
+        → identifiers (joinAt (suc i) (r ∷ s ∷ rs)) ≡ identifiers (r ∷ s ∷ rs) + g
     next i e = unfold joinAt identifiers in omega arith
 
 pub some-gap : (rs : List Range) → 1 < length rs → 0 < length (gaps rs)
@@ -99,7 +99,7 @@ some-gap (r ∷ rs) h = omega (arith, length-gaps r rs)
 
 module _ (a b : ℕ) where
   pub identifiers-joinSmallest : (rs : List Range) → 1 < length rs → Between a b rs
-      → identifiers (joinSmallest rs) ≡ identifiers rs + inGap (smallest (gaps rs))
+      → identifiers (joinSmallest rs) ≡ identifiers rs + smallest (gaps rs)
   unfolding joinSmallest earliest
   identifiers-joinSmallest rs h p = over-gap (smallest (gaps rs)) a b rs p (earliest-inside (gaps rs) (some-gap rs h))
 
@@ -116,7 +116,7 @@ module _ (B : ℕ) (one : 1 ≤ B) where
   none-swallowed (suc fuel) xs h = rw (le-ltb B (length xs) h)
 
   pub more-swallowed : (xs : List Range) → B < length xs
-      → swallowedFrom B (length xs) xs ≡ inGap (smallest (gaps xs)) + swallowedFrom B (length (joinSmallest xs)) (joinSmallest xs)
+      → swallowedFrom B (length xs) xs ≡ smallest (gaps xs) + swallowedFrom B (length (joinSmallest xs)) (joinSmallest xs)
   unfolding swallowedFrom
   more-swallowed xs h =
       ap (λ n. swallowedFrom B n xs) (sym (joinSmallest-shrinks xs (omega arith))) ∙ rw (lt-ltb B (length xs) h)
@@ -165,39 +165,9 @@ counted-once a b (r ∷ rs) p =
 pub different-all : (a n : ℕ) (rs : List Range) → Between a (a + n) rs → different (numbersFrom a n) rs ≡ identifiers rs
 different-all a n rs p = let e : n ≡ a + n - a = omega arith in ap (λ k. different (numbersFrom a k) rs) e ∙ counted-once a (a + n) rs p
 
--- a list ends before any number that no identifier in it reaches
-ends-before : (a b m : ℕ) (rs : List Range) → ((i : ℕ) → inSome i rs ≡ true → i < m) → a ≤ m → Between a b rs → Between a m rs
-unfolding some
-ends-before a b m [] f h p = h
-ends-before a b m (r ∷ rs) f h p =
-    let l = f (r .high) (or-left (inSome (r .high) rs) (is-in (r .high) r (p .1) (omega arith))) in
-    (p .0, p .1, ends-before (r .high + 1) b m rs (λ i e. f i (or-right (isIn i r) e)) (omega arith) (p .2))
-
-pub between-contains : (a b : ℕ) (rs : List Range) → Between a b rs → Contains rs (identifiers rs)
-between-contains a b rs p = record {
-  counted = refl;
-  once = λ m f.
-      let wide = between-widen 0 b a b rs (omega arith) (omega arith) p in
-      different-all 0 m rs (ends-before 0 b (0 + m) rs (λ i e. omega (arith, f i e)) (omega arith) wide);
-}
-
-ascends-from : (a : ℕ) (r : Range) (rs : List Range) → a ≤ r .low → Ascends (r ∷ rs) → (b : ℕ) × Between a b (r ∷ rs)
-ascends-from a r [] h p = (r .high + 1, (h, p, omega arith))
-ascends-from a r (s ∷ rs) h p = let e = ascends-from (r .high + 1) s rs (omega arith) (p .2) in (e .0, (h, p .0, e .1))
-
-pub ascends-between : (rs : List Range) → Ascends rs → (b : ℕ) × Between 0 b rs
-ascends-between [] p = (0, omega arith)
-ascends-between (r ∷ rs) p = ascends-from 0 r rs (omega arith) p
-
--- so of every list that ascends: what it contains, and what its outer list contains
-pub ascends-contains : (rs : List Range) → Ascends rs → Contains rs (identifiers rs)
-ascends-contains rs p = let e = ascends-between rs p in between-contains 0 (e .0) rs (e .1)
-
-pub outer-contains : (B : ℕ) → 1 ≤ B → (rs : List Range) → Ascends rs → Contains (outerOf B rs) (identifiers rs + swallowedOf B rs)
-outer-contains B one rs p =
-    let e = ascends-between rs p in
-    subst (Contains (outerOf B rs)) (identifiers-outer B one 0 (e .0) rs (e .1))
-    (between-contains 0 (e .0) (outerOf B rs) (between-outer B one 0 (e .0) rs (e .1)))
+-- so of every list in a stretch
+pub between-contains : (a n : ℕ) (rs : List Range) → Between a (a + n) rs → Contains (numbersFrom a n) rs (identifiers rs)
+between-contains a n rs p = record { counted = refl; once = different-all a n rs p }
 
 -- ---- pairs in a list, range by range
 

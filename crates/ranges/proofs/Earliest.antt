@@ -3,13 +3,14 @@
 use Prim.Native.Nat.{ℕ, zero, suc, _+_, _≤_, _<_, min}
 use mathlib.Core.Path.{_≡_, refl, sym, ap, _∙_}
 use mathlib.Core.Bool.{true, false, cond, true≢false}
-use mathlib.Core.List.{List, [], _∷_, _++_}
+use mathlib.Core.List.{List, [], _∷_, _++_, map}
 use native.Mathlib.Omega.{arith}
 use lib.Dec.{ltb, eqb}
 use lib.ListN.{length, getD, drop}
 use lib.Seq.{drop-at, drop-cons}
-use borrow.Author.Tests.{ltb-true, ltb-false, lt-ltb, eqb-true, eqb-false, eq-eqb, ne-eqb}
+use borrow.Author.Tests.{ltb-true, ltb-false, lt-ltb, le-ltb, eqb-true, eqb-false, eq-eqb, ne-eqb}
 use Rattle.algebra.proofs.Tests.{split, and-left, and-right}
+use Rattle.ranges.specs.Ranges.{Range}
 use Rattle.ranges.specs.Lists.{smallest, place, earliest, without}
 use Rattle.ranges.proofs.Pushing.{below}
 
@@ -135,6 +136,40 @@ earliest-later x y l h = at (smallest-cons x y l)
     at e =
         let q : smallest (x ∷ y ∷ l) ≡ smallest (y ∷ l) = omega arith in
         place-later (smallest (x ∷ y ∷ l)) x (y ∷ l) (λ z. omega arith) ∙ ap (λ m. suc (place m (y ∷ l))) q
+
+-- ---- every number one more: the place of the smallest is the same
+
+module _ (f g : Range → ℕ) (more : (a : Range) → g a ≡ f a + 1) where
+  smallest-more : (a : Range) (xs : List Range) → smallest (map g (a ∷ xs)) ≡ smallest (map f (a ∷ xs)) + 1
+  unfolding smallest
+  smallest-more a [] = more a
+  smallest-more a (b ∷ xs) = omega (arith, more a, smallest-more b xs)
+
+  place-more : (m : ℕ) (xs : List Range) → place (m + 1) (map g xs) ≡ place m (map f xs)
+  unfolding place
+  place-more m [] = refl
+  place-more m (a ∷ xs) =
+      let e = more a in
+      split (eqb m (f a))
+      (λ t. rw (t, eq-eqb (m + 1) (g a) (omega (arith, eqb-true m (f a) t))))
+      (λ t. rw (t, ne-eqb (m + 1) (g a) (λ q. eqb-false m (f a) t (omega arith))) (ap suc (place-more m xs)))
+
+  pub earliest-more : (xs : List Range) → earliest (map g xs) ≡ earliest (map f xs)
+  unfolding earliest
+  earliest-more [] = refl
+  earliest-more (a ∷ xs) = ap (λ m. place m (map g (a ∷ xs))) (smallest-more a xs) ∙ place-more (smallest (map f (a ∷ xs))) (a ∷ xs)
+
+  pub below-more : (r : Range) (xs : List Range) → below (g r) (map g xs) ≡ below (f r) (map f xs)
+  unfolding below
+  below-more r [] = refl
+  below-more r (a ∷ xs) =
+      let e = more a in
+      let d = more r in
+      split (ltb (f r) (f a))
+      (λ t. rw (t, lt-ltb (g r) (g a) (omega (arith, ltb-true (f r) (f a) t))) (below-more r xs))
+      (λ t. rw (t, le-ltb (g r) (g a) (omega (arith, ltb-false (f r) (f a) t))))
+
+-- ---- a search from the end
 
 -- of the numbers from place i on, the smallest is `least`, and the first such is at `best`
 pub record Least (l : List ℕ) (i best least : ℕ) : Type 0 where

@@ -1,11 +1,12 @@
 -- Worked examples of the two lists, by computing: document 01's 'with budget 4 the first two outer ranges become S00 S10', the last range kept,
--- the shortest dropped, and the earliest among equals; and what ranges contain and the outer list swallows. Assumes nothing.
+-- the shortest dropped, and the earliest among equals; what gaps and ranges have; and what ranges contain and the outer list swallows. Assumes
+-- nothing.
 use Prim.Native.Nat.{ℕ}
 use mathlib.Core.Path.{_≡_, refl}
 use mathlib.Core.List.{List, [], _∷_}
 use Rattle.algebra.specs.Lists.{some, tally, numbersFrom}
 use Rattle.ranges.specs.Ranges.{Range}
-use Rattle.ranges.specs.Lists.{joined, joinedFrom, smallest, place, earliest, whileMore, gaps, joinAt, joinSmallest, outerOf, without, dropShortest, innerOf}
+use Rattle.ranges.specs.Lists.{joined, joinedFrom, smallest, place, earliest, whileMore, gap, gaps, joinAt, joinSmallest, outerOf, size, without, dropShortest, innerOf}
 use Rattle.ranges.specs.Contents.{identifiers, different, swallowedFrom, swallowedOf}
 
 abbrev r : ℕ → ℕ → Range
@@ -25,6 +26,10 @@ pub inner-examples : (innerOf 2 (r 1 2 ∷ r 4 5 ∷ r 7 9 ∷ r 11 12 ∷ []) �
     × (innerOf 1 (r 1 4 ∷ r 5 6 ∷ r 8 9 ∷ []) ≡ r 1 6 ∷ [])
 unfolding joined joinedFrom smallest place earliest whileMore without dropShortest innerOf
 inner-examples = (refl, refl)
+
+-- 5 and 6 lie between 4 and 7; between ranges that touch lies nothing; a range has both its ends
+pub gap-size-examples : (gap (r 1 4) (r 7 9) ≡ 2) × (gap (r 1 4) (r 5 6) ≡ 0) × (size (r 7 9) ≡ 3) × (size (r 4 4) ≡ 1)
+gap-size-examples = (refl, refl, refl, refl)
 
 -- the gaps 33, 37, 41 and 45 have one identifier each; with budget 1 all are swallowed, and of 32 to 63 nothing else
 pub swallowed-examples : (swallowedOf 5 accepted ≡ 0) × (swallowedOf 4 accepted ≡ 1) × (swallowedOf 1 accepted ≡ 4)

@@ -3,7 +3,7 @@
 use Prim.Native.Nat.{ℕ, zero, suc, _≤_, _<_}
 use mathlib.Core.Path.{_≡_, refl, sym, ap, _∙_}
 use mathlib.Core.Bool.{Bool, true, false, cond}
-use mathlib.Core.List.{List, [], _∷_, _++_, map, foldl, append-assoc, append-nil}
+use mathlib.Core.List.{List, [], _∷_, _++_, map, map-append, foldl, append-assoc, append-nil}
 use native.Mathlib.Omega.{arith}
 use lib.ListN.{length, length-map}
 use Rattle.algebra.proofs.Tests.{split}
@@ -33,15 +33,11 @@ unfolding without
 without-last [] r = refl
 without-last (a ∷ xs) r = ap (λ l. a ∷ l) (without-last xs r)
 
-pub sizes-without : (i : ℕ) (xs : List Range) → map size (without i xs) ≡ without i (map size xs)
+pub map-without : (f : Range → ℕ) (i : ℕ) (xs : List Range) → map f (without i xs) ≡ without i (map f xs)
 unfolding without
-sizes-without i [] = refl
-sizes-without zero (a ∷ xs) = refl
-sizes-without (suc i) (a ∷ xs) = ap (λ l. size a ∷ l) (sizes-without i xs)
-
-pub sizes-snoc : (xs : List Range) (r : Range) → map size (xs ++ r ∷ []) ≡ map size xs ++ size r ∷ []
-sizes-snoc [] r = refl
-sizes-snoc (a ∷ xs) r = ap (λ l. size a ∷ l) (sizes-snoc xs r)
+map-without f i [] = refl
+map-without f zero (a ∷ xs) = refl
+map-without f (suc i) (a ∷ xs) = ap (λ l. f a ∷ l) (map-without f i xs)
 
 -- ---- drop the shortest
 
@@ -59,6 +55,11 @@ full-on : (xs : List Range) (r : Range) → Shortest xs r ≡ true → innerFull
 unfolding innerFull Shortest
 full-on xs r t = rw t
 
+-- the same without the word
+pub full-stays : (xs : List Range) (r : Range) → below (size r) (map size xs) ≡ true → innerFull xs r ≡ xs
+unfolding Shortest
+full-stays = full-on
+
 full-off : (xs : List Range) (r : Range) → Shortest xs r ≡ false → innerFull xs r ≡ dropShortest xs ++ r ∷ []
 unfolding innerFull Shortest
 full-off xs r t = rw t
@@ -71,17 +72,16 @@ dropShortest-snoc xs r h =
     (λ t. at (found ∙ rw t) ∙ without-snoc (earliest (map size xs)) xs r (inside xs h) ∙ sym (full-off xs r t))
   where
     found : earliest (map size (xs ++ r ∷ [])) ≡ cond (below (size r) (map size xs)) (length (map size xs)) (earliest (map size xs))
-    found = ap earliest (sizes-snoc xs r) ∙ earliest-snoc (map size xs) (size r)
+    found = ap earliest (map-append size xs (r ∷ [])) ∙ earliest-snoc (map size xs) (size r)
 
     at : {i : ℕ} → earliest (map size (xs ++ r ∷ [])) ≡ i → without (earliest (map size (xs ++ r ∷ []))) (xs ++ r ∷ []) ≡ without i (xs ++ r ∷ [])
     at e = ap (λ i. without i (xs ++ r ∷ [])) e
 
 -- the same by the place of the shortest, where it is not the new one
-pub full-drops : (xs : List Range) (r : Range) (i : ℕ) → i ≡ earliest (map size xs ++ size r ∷ []) → i < length xs → innerFull xs r ≡ without i xs ++ r ∷ []
+pub full-drops : (xs : List Range) (r : Range) (i : ℕ) → i ≡ earliest (map size (xs ++ r ∷ [])) → i < length xs → innerFull xs r ≡ without i xs ++ r ∷ []
 full-drops xs r i e k =
     sym (dropShortest-snoc xs r (omega arith))
-    ∙ unfold dropShortest in ap (λ l. without (earliest l) (xs ++ r ∷ [])) (sizes-snoc xs r)
-    ∙ ap (λ j. without j (xs ++ r ∷ [])) (sym e)
+    ∙ unfold dropShortest in ap (λ j. without j (xs ++ r ∷ [])) (sym e)
     ∙ without-snoc i xs r k
 
 pub length-innerFull : (xs : List Range) (r : Range) → 0 < length xs → length (innerFull xs r) ≡ length xs
@@ -94,7 +94,7 @@ length-innerFull xs r h =
 
 shortest-stays : (xs : List Range) (r : Range) → Shortest xs r ≡ true → Shortest (dropShortest xs) r ≡ true
 unfolding Shortest dropShortest
-shortest-stays xs r t = let i : ℕ = earliest (map size xs) in rw (sizes-without i xs) (below-without (size r) i (map size xs) t)
+shortest-stays xs r t = let i : ℕ = earliest (map size xs) in rw (map-without size i xs) (below-without (size r) i (map size xs) t)
 
 commutes : (xs : List Range) (r : Range) → 1 < length xs → dropShortest (dropShortest (xs ++ r ∷ [])) ≡ dropShortest (dropShortest xs ++ r ∷ [])
 commutes xs r h =

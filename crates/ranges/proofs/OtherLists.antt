@@ -17,7 +17,7 @@ use Rattle.algebra.proofs.Counting.{tally-pass, tally-fail, tally-length, tally
 use Rattle.algebra.proofs.Cheapest.{Costs, costs-taken, costs-left}
 use Rattle.ranges.specs.Ranges.{Range, isIn, inSome}
 use Rattle.ranges.specs.Lists.{gap, gaps}
-use Rattle.ranges.specs.Contents.{identifiers, inGap}
+use Rattle.ranges.specs.Contents.{identifiers}
 use Rattle.ranges.proofs.ListLaws.{is-in, in-low, in-high, Between, between-le}
 
 -- ---- how many ranges reach a number: they end there or beyond
@@ -77,7 +77,7 @@ module _ (other : List Range) where
       (λ t. g (omega (arith, reach-down (suc a) (a + suc n) other (omega arith), reach-ends a other e t)))
 
   -- the same of a gap, from a to b
-  cross : (a b : ℕ) {X : Type 0} → a + 1 ≤ b → contained a ≡ true → (count contained (a + 1) b ≡ inGap (b - a) → X) → (reach b other < reach a other → X) → X
+  cross : (a b : ℕ) {X : Type 0} → a + 1 ≤ b → contained a ≡ true → (count contained (a + 1) b ≡ b - a - 1 → X) → (reach b other < reach a other → X) → X
   cross a b h e f g =
       let s : suc a ≡ a + 1 = omega arith in
       let n : b - suc a ≡ b - a - 1 = omega arith in
@@ -104,7 +104,7 @@ module _ (other : List Range) where
 
   -- from a range a on
   contained-from : (a : Range) (rs : List Range) (b v j : ℕ) → a .low ≤ a .high → Between (a .high + 1) b rs → All (a ∷ rs)
-      → j ≤ length (a ∷ rs) - reach (a .high) other → Costs inGap v j (gaps (a ∷ rs)) → identifiers (a ∷ rs) + v ≤ count contained (a .low) b
+      → j ≤ length (a ∷ rs) - reach (a .high) other → Costs v j (gaps (a ∷ rs)) → identifiers (a ∷ rs) + v ≤ count contained (a .low) b
   unfolding identifiers gaps
   contained-from a [] b v zero o p c few s = omega (arith, first-counted a [] c b o p)
   contained-from a [] b v (suc j) o p c few s = absurd (omega (arith, reach-some (a .high) other (first-contained a [] c (a .high) o (omega arith))))
@@ -113,15 +113,15 @@ module _ (other : List Range) where
       let first = first-counted a (r ∷ rs) c b o (omega arith) in
       let parts = count-parts contained (a .high + 1) (r .low) b (p .0) (omega arith) in
       let down = reach-down (r .low) (r .high) other (p .1) in
-      let next : (u k : ℕ) → k ≤ length (r ∷ rs) - reach (r .high) other → Costs inGap u k (gaps (r ∷ rs))
+      let next : (u k : ℕ) → k ≤ length (r ∷ rs) - reach (r .high) other → Costs u k (gaps (r ∷ rs))
       → identifiers (r ∷ rs) + u ≤ count contained (r .low) b = λ u k. contained-from r rs b u k (p .1) (p .2) (later-contained a (r ∷ rs) c) in
       cross (a .high) (r .low) (p .0) (first-contained a (r ∷ rs) c (a .high) o (omega arith))
       (λ q.
       let near = reach-down (a .high) (r .low) other (omega arith) in
-      omega (arith, next (v - inGap (gap a r)) (j - 1) (omega arith) (costs-taken inGap v j (gap a r) (gaps (r ∷ rs)) s)))
-      (λ d. omega (arith, next v j (omega arith) (costs-left inGap v j (gap a r) (gaps (r ∷ rs)) s)))
+      omega (arith, next (v - gap a r) (j - 1) (omega arith) (costs-taken v j (gap a r) (gaps (r ∷ rs)) s)))
+      (λ d. omega (arith, next v j (omega arith) (costs-left v j (gap a r) (gaps (r ∷ rs)) s)))
 
-  pub contained-least : (a b v j : ℕ) (rs : List Range) → Between a b rs → All rs → j ≤ length rs - length other → Costs inGap v j (gaps rs)
+  pub contained-least : (a b v j : ℕ) (rs : List Range) → Between a b rs → All rs → j ≤ length rs - length other → Costs v j (gaps rs)
       → identifiers rs + v ≤ count contained a b
   unfolding identifiers gaps
   contained-least a b v zero [] p c few s = omega arith

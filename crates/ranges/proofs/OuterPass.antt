@@ -11,7 +11,7 @@ use Rattle.algebra.proofs.Tests.{split}
 use Rattle.ranges.specs.Ranges.{Range}
 use Rattle.ranges.specs.Lists.{over, touch, joined, joinedFrom, earliest, gaps, gap, joinAt, joinSmallest, outerOf, without, whileMore}
 use Rattle.ranges.proofs.Loop.{length-snoc, Reduced, Shrinks, reduced-few, reduced-keeps, reduced-along, reduced-new, length-reduced}
-use Rattle.ranges.proofs.Pushing.{below, lastHigh, extend, outerFull, outerNew, outerPush, outerPass}
+use Rattle.ranges.proofs.Pushing.{below, lastHigh, extend, newGap, outerFull, outerNew, outerPush, outerPass}
 use Rattle.ranges.proofs.Earliest.{below-without, earliest-inside, earliest-snoc}
 
 -- ---- gaps
@@ -21,7 +21,7 @@ unfolding gaps
 length-gaps a [] = refl
 length-gaps a (b ∷ xs) = ap suc (length-gaps b xs)
 
-pub gaps-snoc : (a : Range) (xs : List Range) (r : Range) → gaps (a ∷ xs ++ r ∷ []) ≡ gaps (a ∷ xs) ++ (r .low - lastHigh (a ∷ xs)) ∷ []
+pub gaps-snoc : (a : Range) (xs : List Range) (r : Range) → gaps (a ∷ xs ++ r ∷ []) ≡ gaps (a ∷ xs) ++ newGap (a ∷ xs) r ∷ []
 unfolding gaps lastHigh
 gaps-snoc a [] r = refl
 gaps-snoc a (b ∷ xs) r = ap (λ l. gap a b ∷ l) (gaps-snoc b xs r)
@@ -123,7 +123,7 @@ lastHigh-joinSmallest xs = lastHigh-joinAt (earliest (gaps xs)) xs
 
 -- the new gap is below the others
 Nearest : List Range → Range → Bool
-Nearest xs r = below (r .low - lastHigh xs) (gaps xs)
+Nearest xs r = below (newGap xs r) (gaps xs)
 
 full-on : (xs : List Range) (r : Range) → Nearest xs r ≡ true → outerFull xs r ≡ extend xs r
 unfolding outerFull Nearest
@@ -146,7 +146,7 @@ joinSmallest-snoc (a ∷ xs) r h =
     (λ t. at (there t) ∙ off t ∙ sym (full-off (a ∷ xs) r t))
   where
     g : ℕ
-    g = r .low - lastHigh (a ∷ xs)
+    g = newGap (a ∷ xs) r
 
     found : earliest (gaps (a ∷ xs ++ r ∷ [])) ≡ cond (below g (gaps (a ∷ xs))) (length (gaps (a ∷ xs))) (earliest (gaps (a ∷ xs)))
     found = ap earliest (gaps-snoc a xs r) ∙ earliest-snoc (gaps (a ∷ xs)) g
@@ -164,7 +164,7 @@ joinSmallest-snoc (a ∷ xs) r h =
     off t = unfold joinSmallest in joinAt-snoc (earliest (gaps (a ∷ xs))) a xs r (inside a xs (nearest-alone a xs r t))
 
 -- the same by the place of the smallest gap, where it is not the new one
-pub full-join : (xs : List Range) (r : Range) (i : ℕ) → i ≡ earliest (gaps xs ++ (r .low - lastHigh xs) ∷ []) → i + 1 < length xs → outerFull xs r ≡ joinAt i xs ++ r ∷ []
+pub full-join : (xs : List Range) (r : Range) (i : ℕ) → i ≡ earliest (gaps xs ++ newGap xs r ∷ []) → i + 1 < length xs → outerFull xs r ≡ joinAt i xs ++ r ∷ []
 full-join [] r i e h = absurd (omega arith)
 full-join (a ∷ xs) r i e h =
     sym (joinSmallest-snoc (a ∷ xs) r (omega arith))
@@ -184,7 +184,7 @@ length-full xs r h =
 nearest-stays : (xs : List Range) (r : Range) → 1 < length xs → Nearest xs r ≡ true → Nearest (joinSmallest xs) r ≡ true
 unfolding Nearest
 nearest-stays xs r h t =
-    rw (lastHigh-joinSmallest xs, gaps-joinSmallest xs h) (below-without (r .low - lastHigh xs) (earliest (gaps xs)) (gaps xs) t)
+    rw (lastHigh-joinSmallest xs, gaps-joinSmallest xs h) (below-without (newGap xs r) (earliest (gaps xs)) (gaps xs) t)
 
 commutes : (xs : List Range) (r : Range) → 1 < length xs → joinSmallest (joinSmallest (xs ++ r ∷ [])) ≡ joinSmallest (joinSmallest xs ++ r ∷ [])
 commutes xs r h =

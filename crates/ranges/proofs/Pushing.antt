@@ -27,9 +27,13 @@ extend [] r = []
 extend (a ∷ []) r = over a r ∷ []
 extend (a ∷ b ∷ rest) r = a ∷ extend (b ∷ rest) r
 
+-- the gap between the last range and r
+abbrev pub newGap : List Range → Range → ℕ
+newGap xs r = r .low - lastHigh xs - 1
+
 -- the list is full: the new range joins on, if its gap is the smallest, or else two others join
 unfoldable pub outerFull : List Range → Range → List Range
-outerFull xs r = cond (below (r .low - lastHigh xs) (gaps xs)) (extend xs r) (joinSmallest xs ++ r ∷ [])
+outerFull xs r = cond (below (newGap xs r) (gaps xs)) (extend xs r) (joinSmallest xs ++ r ∷ [])
 
 -- a range that does not touch the last
 unfoldable pub outerNew : ℕ → List Range → Range → List Range

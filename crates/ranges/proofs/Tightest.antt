@@ -15,7 +15,7 @@ use Rattle.algebra.proofs.Tests.{split, or-left}
 use Rattle.algebra.proofs.Cheapest.{Costs, NoneBelow, none-below-less, cheapest-first}
 use Rattle.ranges.specs.Ranges.{Range, inSome}
 use Rattle.ranges.specs.Lists.{joined, smallest, earliest, without, gaps, joinSmallest, whileMore, outerOf}
-use Rattle.ranges.specs.Contents.{different, Feasible, inGap, swallowedFrom, swallowedOf}
+use Rattle.ranges.specs.Contents.{different, Feasible, swallowedFrom, swallowedOf}
 use Rattle.ranges.proofs.Loop.{reduced-ind}
 use Rattle.ranges.proofs.Earliest.{smallest-one, smallest-cons, earliest-one, earliest-here, earliest-later}
 use Rattle.ranges.proofs.OuterPass.{gaps-joinSmallest, joinSmallest-shrinks}
@@ -56,26 +56,26 @@ parted (g ∷ k ∷ gs) h =
       others = rw (earliest-later g k gs lt) (ap (λ l. g ∷ l) (p .others));
     })
 
-none-smaller : (gs : List ℕ) → NoneBelow inGap (inGap (smallest gs)) gs
+none-smaller : (gs : List ℕ) → NoneBelow (smallest gs) gs
 none-smaller [] = tt
 none-smaller (g ∷ []) = (omega (arith, smallest-one g), tt)
 none-smaller (g ∷ k ∷ gs) =
     let s = smallest-cons g k gs in
-    (omega arith, none-below-less inGap (inGap (smallest (g ∷ k ∷ gs))) (inGap (smallest (k ∷ gs))) (k ∷ gs) (omega arith) (none-smaller (k ∷ gs)))
+    (omega arith, none-below-less (smallest (g ∷ k ∷ gs)) (smallest (k ∷ gs)) (k ∷ gs) (omega arith) (none-smaller (k ∷ gs)))
 
 -- any n + 1 of the gaps have at least what the smallest has and what any n of the others have
-with-smallest : (gs : List ℕ) (v n : ℕ) → 0 < length gs → Costs inGap v n (without (earliest gs) gs) → Costs inGap (inGap (smallest gs) + v) (suc n) gs
+with-smallest : (gs : List ℕ) (v n : ℕ) → 0 < length gs → Costs v n (without (earliest gs) gs) → Costs (smallest gs + v) (suc n) gs
 with-smallest gs v n h s =
     let p = parted gs h in
-    subst (Costs inGap (inGap (smallest gs) + v) (suc n)) (sym (p .whole))
-    (cheapest-first inGap (smallest gs) (p .front) (p .back) v n
-    (subst (NoneBelow inGap (inGap (smallest gs))) (p .whole) (none-smaller gs)) (subst (Costs inGap v n) (p .others) s))
+    subst (Costs (smallest gs + v) (suc n)) (sym (p .whole))
+    (cheapest-first (smallest gs) (p .front) (p .back) v n
+    (subst (NoneBelow (smallest gs)) (p .whole) (none-smaller gs)) (subst (Costs v n) (p .others) s))
 
 module _ (B : ℕ) (one : 1 ≤ B) where
   -- ---- any gaps, as many as there are ranges beyond the budget, have at least what the loop swallows
 
   abbrev Cheap : List Range → Type 0
-  Cheap xs = Costs inGap (swallowedFrom B (length xs) xs) (length xs - B) (gaps xs)
+  Cheap xs = Costs (swallowedFrom B (length xs) xs) (length xs - B) (gaps xs)
 
   cheap-few : (xs : List Range) → length xs ≤ B → Cheap xs
   cheap-few xs h =
@@ -86,7 +86,7 @@ module _ (B : ℕ) (one : 1 ≤ B) where
   cheap-more xs h c =
       let ys = joinSmallest xs in
       let n : length xs - B ≡ suc (length ys - B) = omega (arith, joinSmallest-shrinks xs (omega arith)) in
-      let rest = subst (Costs inGap (swallowedFrom B (length ys) ys) (length ys - B)) (gaps-joinSmallest xs (omega arith)) c in
+      let rest = subst (Costs (swallowedFrom B (length ys) ys) (length ys - B)) (gaps-joinSmallest xs (omega arith)) c in
       rw (more-swallowed B one xs h, n) (with-smallest (gaps xs) (swallowedFrom B (length ys) ys) (length ys - B) (some-gap xs (omega arith)) rest)
 
   cheap : (xs : List Range) → Cheap xs

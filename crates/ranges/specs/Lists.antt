@@ -2,9 +2,10 @@
 --   joined rs       touching ranges join
 --   earliest xs     the place of the smallest of some numbers, the earliest among equals
 --   whileMore       while there are more ranges than the budget, do a step
+--   gap a b         how many identifiers lie between two neighbours
 --   outerOf b rs    the outer list: while there are more than b, join over the smallest gap, the earliest among equals
+--   size a          how many identifiers a range has
 --   innerOf b rs    the inner list: while there are more than b, drop the shortest, the earliest among equals
--- Gaps and sizes are only compared with each other: a gap is taken from high to the next low, a size from low to high.
 use Prim.Native.Nat.{ℕ, zero, suc, _+_, _-_, min}
 use mathlib.Core.Bool.{Bool, cond}
 use mathlib.Core.List.{List, [], _∷_, map}
@@ -54,7 +55,7 @@ whileMore step budget (suc fuel) xs = cond (ltb budget (length xs)) (whileMore s
 -- ---- outer: join over the smallest gap, the earliest among equals
 
 abbrev pub gap : Range → Range → ℕ
-gap a b = b .low - a .high
+gap a b = b .low - a .high - 1
 
 unfoldable pub gaps : List Range → List ℕ
 gaps [] = []
@@ -77,7 +78,7 @@ outerOf budget ranges = whileMore joinSmallest budget (length (joined ranges)) (
 -- ---- inner: drop the shortest, the earliest among equals
 
 abbrev pub size : Range → ℕ
-size a = a .high - a .low
+size a = a .high - a .low + 1
 
 -- the list without number i
 unfoldable pub without {ℓ} : {A : Type ℓ} → ℕ → List A → List A

@@ -3,16 +3,16 @@
 use Prim.Native.Nat.{ℕ, suc, _+_, _*_, _-_, _≤_, _<_}
 use mathlib.Core.Path.{_≡_, refl, sym, ap, ap₂, subst, _∙_}
 use mathlib.Core.Bool.{true, false}
-use mathlib.Core.List.{List, [], _∷_, _++_, map}
+use mathlib.Core.List.{List, [], _∷_, _++_}
 use native.Mathlib.Omega.{arith}
 use lib.ListN.{length, set}
 use borrow.Author.Tests.{lt-ltb, le-ltb}
 use Rattle.ranges_stored.specs.declared.MinHint.{MinHint}
 use Rattle.ranges_stored.specs.declared.Pending.{Pending}
 use Rattle.ranges.specs.Ranges.{Range, pairs, range, rangesIn}
-use Rattle.ranges.specs.Lists.{touch, size, without}
+use Rattle.ranges.specs.Lists.{touch, without}
 use Rattle.ranges.proofs.Pushing.{empty, growing, innerFull, innerClose, innerPush, innerEnd}
-use Rattle.ranges_stored.specs.Stored.{written, Writes, Hinted, PointsAt, stateOf, Stores, shifted}
+use Rattle.ranges_stored.specs.Stored.{differences, written, Writes, Hinted, PointsAt, stateOf, Stores, shifted}
 use Rattle.ranges.proofs.Loop.{length-snoc}
 use Rattle.ranges.proofs.InnerPass.{length-without, length-innerFull}
 use Rattle.ranges_stored.proofs.StoredLaws.{length-in, written-in, in-written, write-append}
@@ -22,33 +22,33 @@ use Rattle.ranges_lists.proofs.OuterStored.{writes}
 
 -- ---- the list is full
 
-module _ (n : ℕ) (l : List ℕ) (low high s : ℕ) (fits : 2 * n ≤ length l) (long : s ≡ high - low) (h : MinHint) where
+module _ (n : ℕ) (l : List ℕ) (low high s : ℕ) (fits : 2 * n ≤ length l) (long : s ≡ high - low - 0) (h : MinHint) where
   abbrev xs : List Range
   xs = rangesIn n l
 
   abbrev Full : List ℕ → Type 0
-  Full m = (m ≡ written (innerFull xs (range low high)) l) × Hinted h (map size (innerFull xs (range low high)))
+  Full m = (m ≡ written (innerFull xs (range low high)) l) × Hinted h (differences 0 (innerFull xs (range low high)))
 
   many : length xs ≡ n
   many = length-in n l
 
   -- the new range is below all
-  pub full-stays : PointsAt h (map size xs) → s < h .floor → Full l
+  pub full-stays : PointsAt h (differences 0 xs) → s < h .floor → Full l
   full-stays p k =
       let e : innerFull xs (range low high) ≡ xs = inner-below xs (range low high) (λ i c. omega (arith, long, p .hinted .atLeast i c)) in
-      (sym (ap (λ ys. written ys l) e ∙ written-in n l fits), subst (λ ys. Hinted h (map size ys)) (sym e) (p .hinted))
+      (sym (ap (λ ys. written ys l) e ∙ written-in n l fits), subst (λ ys. Hinted h (differences 0 ys)) (sym e) (p .hinted))
 
   -- another one is the shortest
-  pub full-shifts : PointsAt h (map size xs) → h .floor ≤ s → (m : List ℕ) (k : ℕ) → k + 2 ≡ 2 * n → m ≡ shifted (2 * h .from) l (k - 2 * h .from) → Full (set (set m k low) (k + 1) high)
+  pub full-shifts : PointsAt h (differences 0 xs) → h .floor ≤ s → (m : List ℕ) (k : ℕ) → k + 2 ≡ 2 * n → m ≡ shifted (2 * h .from) l (k - 2 * h .from) → Full (set (set m k low) (k + 1) high)
   full-shifts p d m k last e =
       let i = h .from in
-      let c : i < n = points-inside 0 n l p in
+      let c : i < n = points-inside 0 0 n l p in
       let j : suc (length (without i xs)) ≡ length xs = length-without i xs (omega (arith, many)) in
       let f : innerFull xs (range low high) ≡ without i xs ++ range low high ∷ [] = inner-points h xs (range low high) p (omega (arith, long)) in (
         ap (λ x. set (set x k low) (k + 1) high) (e ∙ shifted-removes n i (k - 2 * i) l c fits (omega arith))
             ∙ write-append (without i xs) l low high k (k + 1) (omega (arith, many)) (omega (arith, many)) (omega (arith, many))
             ∙ ap (λ ys. written ys l) (sym f),
-        subst (λ ys. Hinted h (map size ys)) (sym f) (hinted-drop h xs (range low high) p (omega (arith, long))),
+        subst (λ ys. Hinted h (differences 0 ys)) (sym f) (hinted-drop h xs (range low high) p (omega (arith, long))),
       )
 
 -- ---- a range grows no more
@@ -78,8 +78,8 @@ module _ (B n : ℕ) (l : List ℕ) (low high : ℕ) (fits : 2 * n ≤ length l)
       (sym (length-innerFull (rangesIn n l) (range low high) (omega (arith, stored)) ∙ stored))
       e
 
-  pub close-hint : (h : MinHint) → B ≤ n → Hinted h (map size (innerFull (rangesIn n l) (range low high))) → Hinted h (map size (innerClose B (rangesIn n l) (range low high)))
-  close-hint h k p = subst (λ ys. Hinted h (map size ys)) (sym (close-none B (rangesIn n l) (range low high) (omega (arith, stored)))) p
+  pub close-hint : (h : MinHint) → B ≤ n → Hinted h (differences 0 (innerFull (rangesIn n l) (range low high))) → Hinted h (differences 0 (innerClose B (rangesIn n l) (range low high)))
+  close-hint h k p = subst (λ ys. Hinted h (differences 0 ys)) (sym (close-none B (rangesIn n l) (range low high) (omega (arith, stored)))) p
 
 -- ---- one range more
 

@@ -10,7 +10,7 @@ use borrow.Author.Tests.{le-ltb, lt-ltb}
 use Rattle.ranges_stored.specs.declared.MinHint.{MinHint}
 use Rattle.ranges.specs.Ranges.{Range, pairs, range, rangesIn}
 use Rattle.ranges.specs.Lists.{gaps, joinAt}
-use Rattle.ranges.proofs.Pushing.{lastHigh, extend, outerFull, outerNew, outerPush}
+use Rattle.ranges.proofs.Pushing.{lastHigh, extend, newGap, outerFull, outerNew, outerPush}
 use Rattle.ranges_stored.specs.Stored.{written, Writes, Hinted, PointsAt, shifted}
 use Rattle.ranges.proofs.Loop.{length-snoc}
 use Rattle.ranges.proofs.OuterPass.{length-extend, length-joinAt, length-full, push-some}
@@ -36,15 +36,15 @@ joins n i end l low high h fits last m e =
     fewer [] e = absurd (omega arith)
     fewer (a ∷ xs) e = omega (arith, length-joinAt i a xs (omega arith))
 
-module _ (n : ℕ) (l : List ℕ) (low high g end : ℕ) (fits : 2 * n ≤ length l) (last : end + 1 ≡ 2 * n) (far : g ≡ low - getD l end 0) (h : MinHint) where
+module _ (n : ℕ) (l : List ℕ) (low high g end : ℕ) (fits : 2 * n ≤ length l) (last : end + 1 ≡ 2 * n) (far : g ≡ low - getD l end 0 - 1) (h : MinHint) where
   abbrev xs : List Range
   xs = rangesIn n l
 
   abbrev Full : List ℕ → Type 0
   Full m = (m ≡ written (outerFull xs (range low high)) l) × Hinted h (gaps (outerFull xs (range low high)))
 
-  gap-is : g ≡ low - lastHigh xs
-  gap-is = far ∙ ap (λ m. low - m) (sym (last-in n l end last fits))
+  gap-is : g ≡ newGap xs (range low high)
+  gap-is = far ∙ ap (λ m. low - m - 1) (sym (last-in n l end last fits))
 
   -- the new gap is below all
   pub full-extends : Hinted h (gaps xs) → ((i : ℕ) → i < length (gaps xs) → g < getD (gaps xs) i 0) → Full (set l end high)
@@ -59,7 +59,7 @@ module _ (n : ℕ) (l : List ℕ) (low high g end : ℕ) (fits : 2 * n ≤ lengt
   -- another one is the smallest
   pub full-joins : PointsAt h (gaps xs) → h .floor ≤ g → (m : List ℕ) → m ≡ written (joinAt (h .from) xs ++ range low high ∷ []) l → Full m
   full-joins p k m w =
-      let d : h .floor ≤ low - lastHigh xs = omega (arith, gap-is) in
+      let d : h .floor ≤ newGap xs (range low high) = omega (arith, gap-is) in
       let e : outerFull xs (range low high) ≡ joinAt (h .from) xs ++ range low high ∷ [] = outer-points h xs (range low high) p d in
       (w ∙ ap (λ ys. written ys l) (sym e), subst (λ ys. Hinted h (gaps ys)) (sym e) (hinted-join h xs (range low high) p d))
 

@@ -2,15 +2,15 @@
 use ranges_stored::MinHint;
 use ranges_stored::Pending;
 ghost use mathlib.Core.Path.{_≡_};
-ghost use mathlib.Core.List.{[], _∷_, _++_, map};
+ghost use mathlib.Core.List.{[], _∷_, _++_};
 ghost use Prim.Native.Nat.{_+_, _*_, _-_, _≤_, _<_};
 ghost use lib.ListN.{length};
-ghost use Rattle.ranges.specs.Lists.{gaps, joinAt, size};
+ghost use Rattle.ranges.specs.Lists.{gaps, joinAt};
 ghost use Rattle.ranges.proofs.Pushing.{outerPush, outerFull, innerFull, innerClose, innerPush, innerEnd};
 ghost use Rattle.ranges.specs.Ranges.{range, rangesIn};
-ghost use Rattle.ranges_stored.specs.Stored.{sizesIn, written, Writes, Hinted, stateOf, Stores};
+ghost use Rattle.ranges_stored.specs.Stored.{differences, differencesIn, written, Writes, Hinted, stateOf, Stores};
 
-// How many ranges stand in a list, and what is known of their gaps or sizes.
+// How many ranges stand in a list, and what is known of their gaps, or of their sizes less one.
 pub struct Pushed {
     pub n: usize,
     pub hint: MinHint,
@@ -41,8 +41,8 @@ fn outer_full(list: &mut [u64], n: usize, low: u64, high: u64, hint: MinHint) ->
         return hint;
     }
     let end = 2 * n - 1;
-    let gap = ranges_stored::above(list[end], low);
-    let next = ranges_stored::at_smallest(list, 1, n - 1, hint);
+    let gap = ranges_stored::difference(list[end], low, 1);
+    let next = ranges_stored::at_smallest(list, 1, 1, n - 1, hint);
     let i = next.from;
     let floor = next.floor;
     if gap < floor {
@@ -95,18 +95,18 @@ pub fn outer_push(
 }
 
 // One range more, which grows no more, where the list is full, n being the budget: the shortest is dropped, the new one or another. The answer is
-// what is known of the sizes then.
+// what is known of the sizes less one then.
 fn inner_full(list: &mut [u64], n: usize, low: u64, high: u64, hint: MinHint) -> MinHint
     requires { ⌜ (1 ≤ n) × (2 * n ≤ length (now list)) ⌝ }
-    requires { ⌜ Hinted hint (sizesIn 0 n (now list)) ⌝ }
+    requires { ⌜ Hinted hint (differencesIn 0 0 n (now list)) ⌝ }
     ensures { λ _. ⌜ now (list .exit) ≡ written (innerFull (rangesIn n (now (list .entry))) (range low high)) (now (list .entry)) ⌝ }
-    ensures { λ r. ⌜ Hinted r (map size (innerFull (rangesIn n (now (list .entry))) (range low high))) ⌝ }
+    ensures { λ r. ⌜ Hinted r (differences 0 (innerFull (rangesIn n (now (list .entry))) (range low high))) ⌝ }
 {
-    let size = ranges_stored::above(low, high);
-    let next = ranges_stored::at_smallest(list, 0, n, hint);
+    let size_less_one = ranges_stored::difference(low, high, 0);
+    let next = ranges_stored::at_smallest(list, 0, 0, n, hint);
     let i = next.from;
     let floor = next.floor;
-    if size < floor {
+    if size_less_one < floor {
         return next;
     }
     let from = 2 * i;
@@ -127,10 +127,10 @@ fn inner_close(
     hint: MinHint,
 ) -> Pushed
     requires { ⌜ (1 ≤ budget) × (n ≤ budget) × (2 * budget ≤ length (now list)) ⌝ }
-    requires { ⌜ Hinted hint (sizesIn 0 n (now list)) ⌝ }
+    requires { ⌜ Hinted hint (differencesIn 0 0 n (now list)) ⌝ }
     ensures { λ r. ⌜ Writes (innerClose budget (rangesIn n (now (list .entry))) (range low high)) (now (list .entry)) (now (list .exit)) (r .n) ⌝ }
     ensures { λ r. ⌜ r .n ≤ budget ⌝ }
-    ensures { λ r. ⌜ Hinted (r .hint) (sizesIn 0 (r .n) (now (list .exit))) ⌝ }
+    ensures { λ r. ⌜ Hinted (r .hint) (differencesIn 0 0 (r .n) (now (list .exit))) ⌝ }
 {
     if n == budget {
         let next = inner_full(list, n, low, high, hint);
@@ -146,10 +146,10 @@ fn inner_close(
 // One range more for the inner list: the last one grows, or is closed and the new one is the last.
 pub fn inner_push(list: &mut [u64], p: Pending, budget: usize, low: u64, high: u64) -> Pending
     requires { ⌜ (1 ≤ budget) × (p .n ≤ budget) × (2 * budget ≤ length (now list)) ⌝ }
-    requires { ⌜ Hinted (p .hint) (sizesIn 0 (p .n) (now list)) ⌝ }
+    requires { ⌜ Hinted (p .hint) (differencesIn 0 0 (p .n) (now list)) ⌝ }
     ensures { λ r. ⌜ Stores (innerPush budget (stateOf p (now (list .entry))) (range low high)) (now (list .entry)) (now (list .exit)) r ⌝ }
     ensures { λ r. ⌜ r .n ≤ budget ⌝ }
-    ensures { λ r. ⌜ Hinted (r .hint) (sizesIn 0 (r .n) (now (list .exit))) ⌝ }
+    ensures { λ r. ⌜ Hinted (r .hint) (differencesIn 0 0 (r .n) (now (list .exit))) ⌝ }
 {
     let n = p.n;
     let some = p.some;
@@ -188,7 +188,7 @@ pub fn inner_push(list: &mut [u64], p: Pending, budget: usize, low: u64, high: u
 // No more ranges come: the last one is closed. The answer is how many are stored then, at most the budget.
 pub fn inner_end(list: &mut [u64], p: Pending, budget: usize) -> usize
     requires { ⌜ (1 ≤ budget) × (p .n ≤ budget) × (2 * budget ≤ length (now list)) ⌝ }
-    requires { ⌜ Hinted (p .hint) (sizesIn 0 (p .n) (now list)) ⌝ }
+    requires { ⌜ Hinted (p .hint) (differencesIn 0 0 (p .n) (now list)) ⌝ }
     ensures { λ r. ⌜ Writes (innerEnd budget (stateOf p (now (list .entry)))) (now (list .entry)) (now (list .exit)) r ⌝ }
     ensures { λ r. ⌜ r ≤ budget ⌝ }
 {

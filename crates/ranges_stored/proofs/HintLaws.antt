@@ -1,10 +1,10 @@
--- What is known of the gaps or sizes of a list, a `MinHint`: the one that it points at is the earliest of the smallest ones, and it stays true when that
--- one goes and another comes behind. So it does in the outer list when the last range goes on and when two ranges join at that place, and in the inner
--- list when the range there is dropped. Assumes nothing.
+-- What is known of the gaps of a list, or of its sizes less one, a `MinHint`: the one that it points at is the earliest of the smallest ones, and it
+-- stays true when that one goes and another comes behind. So it does in the outer list when the last range goes on and when two ranges join at that
+-- place, and in the inner list when the range there is dropped. Assumes nothing.
 use Prim.Native.Nat.{ℕ, zero, suc, _+_, _*_, _-_, _≤_, _<_}
 use mathlib.Core.Path.{_≡_, refl, sym, ap, ap₂, subst, _∙_}
 use mathlib.Core.Bool.{true}
-use mathlib.Core.List.{List, [], _∷_, _++_, map}
+use mathlib.Core.List.{List, [], _∷_, _++_, map-append}
 use native.Mathlib.Omega.{arith}
 use lib.Dec.{eqb, ltb}
 use lib.ListN.{length, getD, length-map}
@@ -12,14 +12,14 @@ use borrow.Author.Tests.{ltb-true, ltb-false, eqb-true, eqb-false}
 use Rattle.algebra.proofs.Tests.{split}
 use Rattle.ranges_stored.specs.declared.MinHint.{MinHint}
 use Rattle.ranges.specs.Ranges.{Range, rangesIn}
-use Rattle.ranges.specs.Lists.{smallest, place, earliest, size, gaps, joinAt, without}
-use Rattle.ranges.proofs.Pushing.{below, lastHigh, extend, outerFull, innerFull}
-use Rattle.ranges_stored.specs.Stored.{sizesIn, Writes, hintOf, noHint, Hinted, FirstAt, PointsAt}
-use Rattle.ranges.proofs.Earliest.{below-cons, cons-below, place-here, place-later, earliest-inside, earliest-snoc}
+use Rattle.ranges.specs.Lists.{smallest, place, earliest, gaps, joinAt, size, without}
+use Rattle.ranges.proofs.Pushing.{below, extend, newGap, outerFull, innerFull}
+use Rattle.ranges_stored.specs.Stored.{difference, differences, differencesIn, Writes, hintOf, noHint, Hinted, FirstAt, PointsAt}
+use Rattle.ranges.proofs.Earliest.{below-cons, cons-below, place-here, place-later, earliest-inside, earliest-snoc, earliest-more, below-more}
 use Rattle.ranges.proofs.OuterPass.{length-gaps, length-joinAt, gaps-snoc, gaps-extend, gaps-joinAt, lastHigh-joinAt, full-join}
-use Rattle.ranges.proofs.InnerPass.{sizes-without, sizes-snoc, full-drops}
+use Rattle.ranges.proofs.InnerPass.{map-without, full-stays, full-drops}
 use Rattle.ranges_stored.proofs.StoredLaws.{in-written}
-use Rattle.ranges_stored.proofs.SearchLaws.{size-at, length-sizes}
+use Rattle.ranges_stored.proofs.SearchLaws.{difference-at, length-differences}
 
 -- ---- the smallest of some numbers, by their places
 
@@ -155,66 +155,80 @@ hinted-next h l g p k = record {
 pub hinted-extend : (h : MinHint) (xs : List Range) (r : Range) → Hinted h (gaps xs) → Hinted h (gaps (extend xs r))
 hinted-extend h xs r p = subst (Hinted h) (sym (gaps-extend xs r)) p
 
-some-gaps : (xs : List Range) (r : Range) → 0 < length xs → gaps (xs ++ r ∷ []) ≡ gaps xs ++ (r .low - lastHigh xs) ∷ []
+some-gaps : (xs : List Range) (r : Range) → 0 < length xs → gaps (xs ++ r ∷ []) ≡ gaps xs ++ newGap xs r ∷ []
 some-gaps [] r h = absurd (omega arith)
 some-gaps (a ∷ xs) r h = gaps-snoc a xs r
 
-pub outer-below : (xs : List Range) (r : Range) → ((i : ℕ) → i < length (gaps xs) → r .low - lastHigh xs < getD (gaps xs) i 0) → outerFull xs r ≡ extend xs r
+pub outer-below : (xs : List Range) (r : Range) → ((i : ℕ) → i < length (gaps xs) → newGap xs r < getD (gaps xs) i 0) → outerFull xs r ≡ extend xs r
 unfolding outerFull
-outer-below xs r f = rw (at-below (r .low - lastHigh xs) (gaps xs) f)
+outer-below xs r f = rw (at-below (newGap xs r) (gaps xs) f)
 
-module _ (h : MinHint) (xs : List Range) (r : Range) (p : PointsAt h (gaps xs)) (far : h .floor ≤ r .low - lastHigh xs) where
+module _ (h : MinHint) (xs : List Range) (r : Range) (p : PointsAt h (gaps xs)) (far : h .floor ≤ newGap xs r) where
   inner : (ys : List Range) → h .from < length (gaps ys) → h .from + 1 < length ys
   unfolding gaps
   inner [] k = absurd (omega arith)
   inner (a ∷ ys) k = omega (arith, length-gaps a ys)
 
   pub outer-points : outerFull xs r ≡ joinAt (h .from) xs ++ r ∷ []
-  outer-points = full-join xs r (h .from) (points-snoc h (gaps xs) (r .low - lastHigh xs) p far) (inner xs (p .inside))
+  outer-points = full-join xs r (h .from) (points-snoc h (gaps xs) (newGap xs r) p far) (inner xs (p .inside))
 
-  joined-gaps : (ys : List Range) → h .from + 1 < length ys → gaps (joinAt (h .from) ys ++ r ∷ []) ≡ without (h .from) (gaps ys) ++ (r .low - lastHigh ys) ∷ []
+  joined-gaps : (ys : List Range) → h .from + 1 < length ys → gaps (joinAt (h .from) ys ++ r ∷ []) ≡ without (h .from) (gaps ys) ++ newGap ys r ∷ []
   joined-gaps [] k = absurd (omega arith)
   joined-gaps (a ∷ ys) k =
       some-gaps (joinAt (h .from) (a ∷ ys)) r (omega (arith, length-joinAt (h .from) a ys (omega arith)))
-      ∙ ap₂ (λ gs u. gs ++ (r .low - u) ∷ []) (gaps-joinAt (h .from) a ys (omega arith)) (lastHigh-joinAt (h .from) (a ∷ ys))
+      ∙ ap₂ (λ gs u. gs ++ (r .low - u - 1) ∷ []) (gaps-joinAt (h .from) a ys (omega arith)) (lastHigh-joinAt (h .from) (a ∷ ys))
 
   pub hinted-join : Hinted h (gaps (joinAt (h .from) xs ++ r ∷ []))
-  hinted-join = subst (Hinted h) (sym (joined-gaps xs (inner xs (p .inside)))) (hinted-next h (gaps xs) (r .low - lastHigh xs) p far)
+  hinted-join = subst (Hinted h) (sym (joined-gaps xs (inner xs (p .inside)))) (hinted-next h (gaps xs) (newGap xs r) p far)
 
--- ---- the inner list
+-- ---- the inner list, whose sizes are one more than what is searched
 
-pub inner-below : (xs : List Range) (r : Range) → ((i : ℕ) → i < length (map size xs) → size r < getD (map size xs) i 0) → innerFull xs r ≡ xs
-unfolding innerFull
-inner-below xs r f = rw (at-below (size r) (map size xs) f)
+abbrev span : Range → ℕ
+span r = difference 0 r
 
-module _ (h : MinHint) (xs : List Range) (r : Range) (p : PointsAt h (map size xs)) (long : h .floor ≤ size r) where
+abbrev spans : List Range → List ℕ
+spans xs = differences 0 xs
+
+one-more : (r : Range) → size r ≡ span r + 1
+one-more r = omega arith
+
+pub inner-below : (xs : List Range) (r : Range) → ((i : ℕ) → i < length (spans xs) → span r < getD (spans xs) i 0) → innerFull xs r ≡ xs
+inner-below xs r f = full-stays xs r (below-more span size one-more r xs ∙ at-below (span r) (spans xs) f)
+
+module _ (h : MinHint) (xs : List Range) (r : Range) (p : PointsAt h (spans xs)) (long : h .floor ≤ span r) where
   pub inner-points : innerFull xs r ≡ without (h .from) xs ++ r ∷ []
-  inner-points = full-drops xs r (h .from) (points-snoc h (map size xs) (size r) p long) (omega (arith, length-map xs size, p .inside))
+  inner-points =
+      full-drops xs r (h .from) (points-snoc h (spans xs) (span r) p long ∙ sym (earliest-more span size one-more (xs ++ r ∷ []) ∙ ap earliest (map-append span xs (r ∷ []))))
+      (omega (arith, length-map xs span, p .inside))
 
-  pub hinted-drop : Hinted h (map size (without (h .from) xs ++ r ∷ []))
+  pub hinted-drop : Hinted h (spans (without (h .from) xs ++ r ∷ []))
   hinted-drop =
-      subst (Hinted h) (sym (sizes-snoc (without (h .from) xs) r ∙ ap (λ ss. ss ++ size r ∷ []) (sizes-without (h .from) xs)))
-      (hinted-next h (map size xs) (size r) p long)
+      subst (Hinted h) (sym (map-append span (without (h .from) xs) (r ∷ []) ∙ ap (λ ss. ss ++ span r ∷ []) (map-without span (h .from) xs)))
+      (hinted-next h (spans xs) (span r) p long)
 
 -- ---- in lent memory
 
 pub hinted-stored : (h : MinHint) (f : List Range → List ℕ) (xs : List Range) (l m : List ℕ) (n : ℕ) → Writes xs l m n → Hinted h (f xs) → Hinted h (f (rangesIn n m))
 hinted-stored h f xs l m n w p = subst (λ ys. Hinted h (f ys)) (sym (ap₂ rangesIn (w .count) (w .list) ∙ in-written xs l)) p
 
-pub points-inside : (start n : ℕ) (l : List ℕ) {h : MinHint} → PointsAt h (sizesIn start n l) → h .from < n
-points-inside start n l p = omega (arith, length-sizes start n l, p .inside)
+pub points-inside : (start less n : ℕ) (l : List ℕ) {h : MinHint} → PointsAt h (differencesIn start less n l) → h .from < n
+points-inside start less n l p = omega (arith, length-differences start less n l, p .inside)
 
-module _ (start n : ℕ) (l : List ℕ) (fits : start + 2 * n ≤ length l) where
+module _ (start less n : ℕ) (l : List ℕ) (fits : start + 2 * n ≤ length l) where
   abbrev gs : List ℕ
-  gs = sizesIn start n l
+  gs = differencesIn start less n l
 
   many : length gs ≡ n
-  many = length-sizes start n l
+  many = length-differences start less n l
 
-  -- the search for the floor, one range further
-  module _ (floor i here : ℕ) (p : Hinted (hintOf i floor) gs) (k : i < n) (is : here ≡ getD l (start + 2 * i + 1) 0 - getD l (start + 2 * i) 0) where
+  -- what is read of pair number i
+  abbrev pub read : ℕ → ℕ
+  read i = getD l (start + 2 * i + 1) 0 - getD l (start + 2 * i) 0 - less
+
+  -- the search for the floor, one difference further
+  module _ (floor i here : ℕ) (p : Hinted (hintOf i floor) gs) (k : i < n) (is : here ≡ read i) where
     pub first-here : here ≡ floor → FirstAt floor i gs
-    first-here t = record { hinted = p; is = λ _. sym (size-at start n l i k fits) ∙ sym is ∙ t }
+    first-here t = record { hinted = p; is = λ _. sym (difference-at start less n l i k fits) ∙ sym is ∙ t }
 
     pub first-later : (here ≡ floor → ⊥) → Hinted (hintOf (i + 1) floor) gs
     first-later t = record {
@@ -223,7 +237,7 @@ module _ (start n : ℕ) (l : List ℕ) (fits : start + 2 * n ≤ length l) wher
           (λ u. p .before j (ltb-true j i u) c)
           (λ u.
           let s : j ≡ i = omega (arith, ltb-false j i u) in
-          let r : here ≡ getD gs j 0 = is ∙ size-at start n l i k fits ∙ ap (λ x. getD gs x 0) (sym s) in
+          let r : here ≡ getD gs j 0 = is ∙ difference-at start less n l i k fits ∙ ap (λ x. getD gs x 0) (sym s) in
           let m : floor ≤ getD gs j 0 = p .atLeast j c in
           apart (λ q. t (r ∙ q)) m);
     }
@@ -241,15 +255,14 @@ module _ (start n : ℕ) (l : List ℕ) (fits : start + 2 * n ≤ length l) wher
   first-points floor i f h = let k : i < length gs = omega (arith, many) in record { hinted = f .hinted; inside = k; is = f .is k }
 
   -- the search through all of them
-  module _ (first i : ℕ) (some : 1 ≤ n) (is : first ≡ getD l (start + 1) 0 - getD l start 0) (least : i ≡ earliest (gs ++ first ∷ [])) where
+  module _ (first i : ℕ) (some : 1 ≤ n) (is : first ≡ read 0) (least : i ≡ earliest (gs ++ first ∷ [])) where
     all : i ≡ earliest gs
     all =
-        let z : start + 2 * 0 ≡ start = omega arith in
-        let e : first ≡ getD gs 0 0 = is ∙ ap (λ k. getD l (k + 1) 0 - getD l k 0) (sym z) ∙ size-at start n l 0 some fits in
+        let e : first ≡ getD gs 0 0 = is ∙ difference-at start less n l 0 some fits in
         least ∙ earliest-keeps gs first 0 (omega (arith, many)) (omega (arith, e))
 
     pub all-inside : i < n
     all-inside = omega (arith, all, earliest-inside gs (omega (arith, many)), many)
 
-    pub all-points : (floor : ℕ) → floor ≡ getD l (start + 2 * i + 1) 0 - getD l (start + 2 * i) 0 → PointsAt (hintOf i floor) gs
-    all-points floor e = earliest-points gs i floor (omega (arith, many)) all (e ∙ size-at start n l i all-inside fits)
+    pub all-points : (floor : ℕ) → floor ≡ read i → PointsAt (hintOf i floor) gs
+    all-points floor e = earliest-points gs i floor (omega (arith, many)) all (e ∙ difference-at start less n l i all-inside fits)

@@ -1,36 +1,43 @@
 -- The two lists as one pass stores them, in lent memory. Document 01, 'The two lists': pairs low, high, one range after the other.
---   sizesIn ..       the sizes of n ranges, from element `start` of the list l on. A gap is the size of the range from one high to the next low, so
---                    from element 1 on they are the gaps
+--   difference less r   high − low − less, and 0 where that is below 0
+--   differences less rs   those of some ranges. Less 0 they are the sizes less one, and the place of the smallest is the same
+--   differencesIn start less n l   those of n pairs low, high, from element `start` of the list l on. From element 1 on a pair is a high and the
+--                    next low, and less 1 they are the gaps
 --   written xs l     the list l with the ranges xs at its front, as pairs; the other elements stay
 --   Writes ..        `after` is `before` with the ranges xs, n of them, at its front
 -- Where the smallest gap of the outer list is, or the shortest range of the inner list, as far as it is known: a `MinHint`.
 --   hintOf           a hint, by its two numbers; noHint is true of every list
---   Hinted h gs      of the gaps or sizes gs, every one is at least the floor of h, and those before number `from` are above it
+--   Hinted h gs      of the differences gs, every one is at least the floor of h, and those before number `from` are above it
 --   FirstAt ..       number i is the first one that is the floor, or there is none and i is behind the last
 --   PointsAt h gs    the one of number `from` is the floor, and so the smallest, the earliest among equals
--- The inner list's last range may still grow, so it stands beside the lent list, with the count of those in it and what is known of their sizes: a
--- `Pending`.
+-- The inner list's last range may still grow, so it stands beside the lent list, with the count of those in it and what is known of their sizes
+-- less one: a `Pending`.
 --   nothingYet       where there is no range yet
 --   closed s         the ranges of the inner list s that grow no more
 --   stateOf p l      the inner list that p and the lent list l say
 --   Stores ..        p and `after` say s, and `after` is `before` with the closed ranges of s, as many as p counts, at its front
 -- And for one step of the code:
 --   shifted at l k   the list l, where k elements, from number `at` on, are those two places further on
-use Prim.Native.Nat.{ℕ, _+_, _≤_, _<_}
+use Prim.Native.Nat.{ℕ, _+_, _-_, _≤_, _<_}
 use mathlib.Core.Path.{_≡_}
 use mathlib.Core.Bool.{false, cond}
-use mathlib.Core.List.{List, [], _∷_, map}
+use mathlib.Core.List.{List, [], map}
 use lib.ListN.{length, getD, drop}
 use lib.Seq.{paste}
 use Rattle.ranges_stored.specs.declared.MinHint.{MinHint}
 use Rattle.ranges_stored.specs.declared.Pending.{Pending}
 use Rattle.answer.specs.Lent.{put}
 use Rattle.ranges.specs.Ranges.{Range, pairs, range, rangesIn}
-use Rattle.ranges.specs.Lists.{size}
 use Rattle.ranges.proofs.Pushing.{Inner, empty, growing}
 
-abbrev pub sizesIn : ℕ → ℕ → List ℕ → List ℕ
-sizesIn start n l = map size (rangesIn n (drop start l))
+abbrev pub difference : ℕ → Range → ℕ
+difference less r = r .high - r .low - less
+
+abbrev pub differences : ℕ → List Range → List ℕ
+differences less rs = map (difference less) rs
+
+abbrev pub differencesIn : ℕ → ℕ → ℕ → List ℕ → List ℕ
+differencesIn start less n l = differences less (rangesIn n (drop start l))
 
 abbrev pub written : List Range → List ℕ → List ℕ
 written xs l = put 0 (pairs xs) l

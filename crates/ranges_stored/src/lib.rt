@@ -1,21 +1,22 @@
-// Ranges in lent memory: the smallest of their gaps or sizes, what is known of it, and the removing of a range. specs/Stored says how they stand there.
+// Ranges in lent memory: the smallest gap or the shortest range, what is known of it, and the removing of a range. specs/Stored says how they
+// stand there.
 ghost use mathlib.Core.Path.{_≡_};
 ghost use mathlib.Core.List.{[], _∷_, _++_};
 ghost use Prim.Native.Nat.{_+_, _*_, _-_, _≤_, _<_};
 ghost use lib.Dec.{eqb};
-ghost use lib.ListN.{length};
-ghost use Rattle.ranges.specs.Lists.{earliest, gaps, size};
-ghost use Rattle.ranges.specs.Ranges.{range};
-ghost use Rattle.ranges_stored.specs.Stored.{sizesIn, hintOf, noHint, Hinted, FirstAt, PointsAt, shifted};
+ghost use lib.ListN.{length, getD};
+ghost use Rattle.ranges.specs.Lists.{earliest};
+ghost use Rattle.ranges_stored.specs.Stored.{differencesIn, hintOf, noHint, Hinted, FirstAt, PointsAt, shifted};
 
-// What is known of the sizes of some ranges, or of the gaps between them: every one is at least floor, and those before number `from` are above it.
+// What is known of some numbers, the gaps between ranges or their sizes less one: every one is at least floor, and those before number `from`
+// are above it.
 pub struct MinHint {
     pub from: usize,
     pub floor: u64,
 }
 
 // What stands beside the lent list: how many ranges are stored in it, the last range, if there is one, which may still grow, and what is known of the
-// sizes of those stored.
+// sizes, less one, of those stored.
 pub struct Pending {
     pub n: usize,
     pub some: bool,
@@ -24,11 +25,18 @@ pub struct Pending {
     pub hint: MinHint,
 }
 
-// How far high lies above low.
+// high − low, or 0 where high lies below.
 pub fn above(low: u64, high: u64) -> u64
     ensures { λ r. ⌜ r ≡ high - low ⌝ }
 {
     if low < high { high - low } else { 0 }
+}
+
+// high − low − less, or 0 where that is below 0.
+pub fn difference(low: u64, high: u64, less: u64) -> u64
+    ensures { λ r. ⌜ r ≡ high - low - less ⌝ }
+{
+    above(less, above(low, high))
 }
 
 // The range that begins at low follows at once on the one that ends at high.
@@ -38,11 +46,19 @@ pub fn touches(high: u64, low: u64) -> bool
     high < low && low - high == 1
 }
 
-// The place of the shortest of count ranges, the first of which begins at element start, and of one more, whose size is last; the earliest among
-// equals. A gap is the size of the range from one high to the next low, so both lists search by this.
-fn smallest(list: &[u64], start: usize, count: usize, last: u64) -> usize
+// Both lists search the differences of pairs in the lent list: the gaps are those from element 1 on, less 1, and the sizes, less one, those from
+// element 0 on, less 0. Here the difference of pair number i, from element start on.
+fn difference_at(list: &[u64], start: usize, less: u64, i: usize) -> u64
+    requires { ⌜ start + 2 * i + 2 ≤ length (now list) ⌝ }
+    ensures { λ r. ⌜ r ≡ getD (now (list .entry)) (start + 2 * i + 1) 0 - getD (now (list .entry)) (start + 2 * i) 0 - less ⌝ }
+{
+    difference(list[start + 2 * i], list[start + 2 * i + 1], less)
+}
+
+// The place of the smallest of count differences and of one number more, last; the earliest among equals.
+fn smallest(list: &[u64], start: usize, less: u64, count: usize, last: u64) -> usize
     requires { ⌜ start + 2 * count ≤ length (now list) ⌝ }
-    ensures { λ r. ⌜ r ≡ earliest (sizesIn start count (now (list .entry)) ++ last ∷ []) ⌝ }
+    ensures { λ r. ⌜ r ≡ earliest (differencesIn start less count (now (list .entry)) ++ last ∷ []) ⌝ }
     ensures { λ r. ⌜ r ≤ count ⌝ }
 {
     let mut best: usize = count;
@@ -50,7 +66,7 @@ fn smallest(list: &[u64], start: usize, count: usize, last: u64) -> usize
     let mut i: usize = count;
     while 0 < i {
         i -= 1;
-        let here = above(list[start + 2 * i], list[start + 2 * i + 1]);
+        let here = difference_at(list, start, less, i);
         if here <= least {
             best = i;
             least = here;
@@ -78,16 +94,16 @@ pub fn no_hint() -> MinHint
     MinHint { from: 0, floor: 0 }
 }
 
-// The number of the first of count ranges, from number `from` on, whose size is floor; count, where there is none. The first begins at element start.
-fn first_at(list: &[u64], start: usize, count: usize, from: usize, floor: u64) -> usize
+// The number of the first of count differences, from number `from` on, that is floor; count, where there is none.
+fn first_at(list: &[u64], start: usize, less: u64, count: usize, from: usize, floor: u64) -> usize
     requires { ⌜ start + 2 * count ≤ length (now list) ⌝ }
-    requires { ⌜ Hinted (hintOf from floor) (sizesIn start count (now list)) ⌝ }
-    ensures { λ r. ⌜ FirstAt floor r (sizesIn start count (now (list .entry))) ⌝ }
+    requires { ⌜ Hinted (hintOf from floor) (differencesIn start less count (now list)) ⌝ }
+    ensures { λ r. ⌜ FirstAt floor r (differencesIn start less count (now (list .entry))) ⌝ }
     ensures { λ r. ⌜ r ≤ count ⌝ }
 {
     let mut i: usize = from;
     while i < count {
-        let here = above(list[start + 2 * i], list[start + 2 * i + 1]);
+        let here = difference_at(list, start, less, i);
         if here == floor {
             return i;
         }
@@ -96,31 +112,31 @@ fn first_at(list: &[u64], start: usize, count: usize, from: usize, floor: u64) -
     count
 }
 
-// The shortest of count ranges, the earliest among equals. The first size, once more behind them all, is never the one.
-fn shortest(list: &[u64], start: usize, count: usize) -> MinHint
+// The smallest of count differences, the earliest among equals. The first, once more behind them all, is never the one.
+fn search_all(list: &[u64], start: usize, less: u64, count: usize) -> MinHint
     requires { ⌜ (1 ≤ count) × (start + 2 * count ≤ length (now list)) ⌝ }
-    ensures { λ r. ⌜ PointsAt r (sizesIn start count (now (list .entry))) ⌝ }
+    ensures { λ r. ⌜ PointsAt r (differencesIn start less count (now (list .entry))) ⌝ }
 {
-    let first = above(list[start], list[start + 1]);
-    let i = smallest(list, start, count, first);
-    let least = above(list[start + 2 * i], list[start + 2 * i + 1]);
+    let first = difference_at(list, start, less, 0);
+    let i = smallest(list, start, less, count, first);
+    let least = difference_at(list, start, less, i);
     MinHint {
         from: i,
         floor: least,
     }
 }
 
-// The same, by what is known: on from where the hint is, and through the whole list only where no size is its floor any more.
-pub fn at_smallest(list: &[u64], start: usize, count: usize, hint: MinHint) -> MinHint
+// The same, by what is known: on from where the hint is, and through the whole list only where no difference is its floor any more.
+pub fn at_smallest(list: &[u64], start: usize, less: u64, count: usize, hint: MinHint) -> MinHint
     requires { ⌜ (1 ≤ count) × (start + 2 * count ≤ length (now list)) ⌝ }
-    requires { ⌜ Hinted hint (sizesIn start count (now list)) ⌝ }
-    ensures { λ r. ⌜ PointsAt r (sizesIn start count (now (list .entry))) ⌝ }
+    requires { ⌜ Hinted hint (differencesIn start less count (now list)) ⌝ }
+    ensures { λ r. ⌜ PointsAt r (differencesIn start less count (now (list .entry))) ⌝ }
 {
     let from = hint.from;
     let floor = hint.floor;
-    let next = first_at(list, start, count, from, floor);
+    let next = first_at(list, start, less, count, from, floor);
     if next == count {
-        return shortest(list, start, count);
+        return search_all(list, start, less, count);
     }
     MinHint {
         from: next,

@@ -7,7 +7,7 @@ use lib.ListN.{length, drop, length-drop}
 use borrow.Rule.Slice.PartMut.{putMid}
 use denote.Ref.{now}
 use Rattle.ranges.proofs.Pushing.{innerEnd}
-use Rattle.ranges_stored.specs.Stored.{sizesIn, Writes, Hinted, stateOf}
+use Rattle.ranges_stored.specs.Stored.{differencesIn, Writes, Hinted, stateOf}
 use Rattle.covering_tally.specs.Tally.{tallyIn, InnerEnded}
 use Rattle.covering_tally.proofs.LentTail.{tail-lent, tail-back}
 use Rattle.covering_calls.proofs.end_inner.Statement.{statement}
@@ -23,7 +23,7 @@ wants c κs =
     let q = c .pending .ensures in
     let e = tail-lent (2 * b) out (omega (arith, r .list, u)) in (
       (omega (arith, r .budget, u), subst₂ (λ p b. p .n ≤ b) (sym q) (sym u) (r .inner), omega (arith, u, r .list, ap length e, length-drop (2 * b) out)),
-      subst₂ (λ p l. Hinted (p .hint) (sizesIn 0 (p .n) l)) (sym q) (sym e) (subst (λ b. Hinted (tallyIn (now (s .args .s)) .inner .hint) (sizesIn (2 * b) (tallyIn (now (s .args .s)) .inner .n) out)) (sym u) (r .innerHinted)),
+      subst₂ (λ p l. Hinted (p .hint) (differencesIn 0 0 (p .n) l)) (sym q) (sym e) (subst (λ b. Hinted (tallyIn (now (s .args .s)) .inner .hint) (differencesIn (2 * b) 0 (tallyIn (now (s .args .s)) .inner .n) out)) (sym u) (r .innerHinted)),
     )
 
 returns : tie.Need-returns

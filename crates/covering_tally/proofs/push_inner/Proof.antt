@@ -7,7 +7,7 @@ use lib.ListN.{length, length-drop}
 use denote.Ref.{now}
 use Rattle.ranges.proofs.Pushing.{innerPush}
 use Rattle.ranges.specs.Ranges.{range}
-use Rattle.ranges_stored.specs.Stored.{sizesIn, Hinted, stateOf, Stores}
+use Rattle.ranges_stored.specs.Stored.{differencesIn, Hinted, stateOf, Stores}
 use Rattle.covering_tally.proofs.LentTail.{tail-lent, tail-back, tail-after}
 use Rattle.covering_tally.proofs.push_inner.Statement.{statement}
 use Rattle.covering_tally.proofs.push_inner.Tie as tie
@@ -18,7 +18,7 @@ wants c κs =
     let b = s .args .budget in
     let out = now (s .args .out) in
     let e = tail-lent (2 * b) out (omega (arith, s .pre .list)) in
-    ((s .pre .budget, s .pre .few, omega (arith, s .pre .list, ap length e, length-drop (2 * b) out)), subst (λ l. Hinted (s .args .p .hint) (sizesIn 0 (s .args .p .n) l)) (sym e) (s .pre .hinted))
+    ((s .pre .budget, s .pre .few, omega (arith, s .pre .list, ap length e, length-drop (2 * b) out)), subst (λ l. Hinted (s .args .p .hint) (differencesIn 0 0 (s .args .p .n) l)) (sym e) (s .pre .hinted))
 
 returns : tie.Need-returns
 returns c =
@@ -34,7 +34,7 @@ returns c =
         stores = subst (λ l. Stores (innerPush b (stateOf (s .args .p) l) (range (s .args .low) (s .args .high))) l (p .last .0) (p .result)) (tail-lent (2 * b) out h) (p .ensures .0);
       };
       few = p .ensures .1 .0;
-      hinted = subst (λ l. Hinted (p .result .hint) (sizesIn 0 (p .result .n) l)) (sym (tail-after (2 * b) out h _)) (p .ensures .1 .1);
+      hinted = subst (λ l. Hinted (p .result .hint) (differencesIn 0 0 (p .result .n) l)) (sym (tail-after (2 * b) out h _)) (p .ensures .1 .1);
     }
 
 pub push-inner-spec : {M : Type 1} → statement M

@@ -1,8 +1,7 @@
 -- `ranges_lists::inner_close` is the two cases of `innerClose`: room for one more, and a full list. Assumes nothing.
-use mathlib.Core.List.{map}
 use native.Mathlib.Omega.{arith}
 use lib.ListN.{length-set}
-use Rattle.ranges.specs.Lists.{size}
+use Rattle.ranges_stored.specs.Stored.{differences}
 use Rattle.ranges_stored.proofs.HintLaws.{hinted-any, hinted-stored}
 use Rattle.ranges_lists.proofs.InnerStored.{close-appends, close-full, close-hint}
 use Rattle.ranges_lists.proofs.inner_close.Statement.{statement}
@@ -14,7 +13,7 @@ full c =
     let s = a .before .before .before .before in
     let w = close-full (s .args .budget) (s .args .n) (s .args .list .now) (s .args .low) (s .args .high) (omega arith) _ (omega arith) (omega arith) (a .inner-full .ensures .0) in
     let h = close-hint (s .args .budget) (s .args .n) (s .args .list .now) (s .args .low) (s .args .high) (omega arith) (a .inner-full .result) (omega arith) (a .inner-full .ensures .1) in
-    (w, (omega arith, hinted-stored (a .inner-full .result) (map size) _ _ _ _ w h))
+    (w, (omega arith, hinted-stored (a .inner-full .result) (differences 0) _ _ _ _ w h))
 
 more : tie.Need-returns-2
 more c =

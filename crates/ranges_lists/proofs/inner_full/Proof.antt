@@ -12,7 +12,7 @@ stays : tie.Need-returns
 stays c =
     let a = c .before in
     let s = a .before .before .before .before in
-    full-stays (s .args .n) (s .args .list .now) (s .args .low) (s .args .high) (a .before .before .above .result) (omega arith) (a .before .before .above .ensures)
+    full-stays (s .args .n) (s .args .list .now) (s .args .low) (s .args .high) (a .before .before .difference .result) (omega arith) (a .before .before .difference .ensures)
     (a .at-smallest .result) (a .at-smallest .ensures) (omega arith)
 
 -- another one is
@@ -21,7 +21,7 @@ shifts c =
     let b = c .before .before in
     let a = b .before .before .before in
     let s = a .before .before .before .before in
-    full-shifts (s .args .n) (s .args .list .now) (s .args .low) (s .args .high) (a .before .before .above .result) (omega arith) (a .before .before .above .ensures)
+    full-shifts (s .args .n) (s .args .list .now) (s .args .low) (s .args .high) (a .before .before .difference .result) (omega arith) (a .before .before .difference .ensures)
     (a .at-smallest .result) (a .at-smallest .ensures) (omega arith) _ (2 * s .args .n - 2) (omega arith) (b .shift-down .ensures)
 
 pub inner-full-spec : {M : Type 1} → statement M
@@ -32,11 +32,11 @@ inner-full-spec =
     (λ c κs. ((omega arith, omega arith), c .before .before .before .pre .1))
     (λ c. omega arith)
     stays
-    (λ c. omega (arith, points-inside 0 _ _ (c .before .at-smallest .ensures)))
+    (λ c. omega (arith, points-inside 0 0 _ _ (c .before .at-smallest .ensures)))
     (λ c. omega arith)
     (λ c. omega arith)
-    (λ c. omega (arith, points-inside 0 _ _ (c .before .before .at-smallest .ensures)))
-    (λ c κs. omega (arith, points-inside 0 _ _ (c .before .before .at-smallest .ensures)))
+    (λ c. omega (arith, points-inside 0 0 _ _ (c .before .before .at-smallest .ensures)))
+    (λ c κs. omega (arith, points-inside 0 0 _ _ (c .before .before .at-smallest .ensures)))
     (λ c. omega arith)
     (λ c. omega arith)
     (λ c. omega arith)
