@@ -5,7 +5,7 @@
 --   walkBy o l g s     the walk over the entries of the owner o in the list l beside that cover (frames/specs/Walk)
 --   triedBy o l g s    what the setting s comes to: the three counts of the walk, and how many ranges both lists have
 --   skyOf s g          the share of the sky that the outer list spans, in identifiers of depth 12
---   choiceOf m n       1 where m is the smaller share or they are equal, else 2
+--   choiceOf m n       the first where m is the smaller share or they are equal, else the second
 --   trialOf o l g s t  what both settings come to, and the choice
 use Prim.Native.Nat.{ℕ, _-_, _*_, _^_}
 use mathlib.Core.Bool.{Bool, cond, _&&_}
@@ -22,6 +22,8 @@ use Rattle.covering.specs.Cover.{Cover, coverOf}
 use Rattle.frames.specs.Walk.{entriesOf, Met, walk, isUnchecked, isHeld, isDiscarded}
 use Rattle.trial.specs.declared.Setting.{Setting}
 use Rattle.trial.specs.declared.SettingResult.{SettingResult}
+use Rattle.trial.specs.declared.Choice.{Choice}
+use Rattle.trial.specs.declared.Choice.the-variants.{First, Second}
 use Rattle.trial.specs.declared.Trial.{Trial}
 
 abbrev pub isSetting : Setting → Bool
@@ -45,8 +47,8 @@ triedBy o l g s = record {
 abbrev pub skyOf : Setting → Region → ℕ
 skyOf s g = identifiers (coverBy s g .outer) * 4 ^ (12 - s .depth)
 
-abbrev pub choiceOf : ℕ → ℕ → ℕ
-choiceOf m n = cond (leb m n) 1 2
+abbrev pub choiceOf : ℕ → ℕ → Choice
+choiceOf m n = cond (leb m n) First Second
 
 unfoldable pub trialOf : ℕ → List ℤ → Region → Setting → Setting → Trial
 trialOf o l g s t = record { first = triedBy o l g s; second = triedBy o l g t; choice = choiceOf (skyOf s g) (skyOf t g) }

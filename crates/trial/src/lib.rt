@@ -18,11 +18,17 @@ pub struct SettingResult {
     pub inner: u64,
 }
 
-// What both come to, and the choice: 1 for the first, 2 for the second.
+// The setting chosen.
+pub enum Choice {
+    First,
+    Second,
+}
+
+// What both come to, and the choice.
 pub struct Trial {
     pub first: SettingResult,
     pub second: SettingResult,
-    pub choice: u32,
+    pub choice: Choice,
 }
 
 // The same, or the number of the first check that failed.
