@@ -3,8 +3,10 @@
 --   isSetting s        a depth from 1 to 12, and a budget of at most 2048
 --   coverBy s g        the cover of the region g under the setting s
 --   walkBy o l g s     the walk over the entries of the owner o in the list l beside that cover (frames/specs/Walk)
---   triedBy o l g s    what the setting s comes to: the three counts of the walk, and how many ranges both lists have
---   skyOf s g          the share of the sky that the outer list spans, in identifiers of depth 12
+--   resultOf c ms      what the walk ms beside the cover c comes to: its three counts, and how many ranges both lists have
+--   triedBy o l g s    what the setting s comes to
+--   spanned d rs       the share of the sky that ranges of depth d span, in identifiers of depth 12
+--   skyOf s g          the share that the outer list spans
 --   choiceOf m n       the first where m is the smaller share or they are equal, else the second
 --   trialOf o l g s t  what both settings come to, and the choice
 use Prim.Native.Nat.{ℕ, _-_, _*_, _^_}
@@ -17,6 +19,7 @@ use Rattle.algebra.specs.Lists.{tally}
 use Rattle.vector.specs.Numbers.{isDepth}
 use Rattle.region.specs.Regions.{Region, holds}
 use Rattle.region.specs.Budgets.{isBudget}
+use Rattle.ranges.specs.Ranges.{Range}
 use Rattle.ranges.specs.Contents.{identifiers}
 use Rattle.covering.specs.Cover.{Cover, coverOf}
 use Rattle.frames.specs.Walk.{entriesOf, Met, walk, isUnchecked, isHeld, isDiscarded}
@@ -35,17 +38,23 @@ coverBy s g = coverOf (s .depth) (s .budget) g
 unfoldable pub walkBy : ℕ → List ℤ → Region → Setting → List Met
 walkBy o l g s = walk (s .depth) (holds g) (coverBy s g .outer) (coverBy s g .inner) (entriesOf o l)
 
-abbrev pub triedBy : ℕ → List ℤ → Region → Setting → SettingResult
-triedBy o l g s = record {
-  unchecked = tally (λ m. isUnchecked (m .fate)) (walkBy o l g s);
-  held = tally (λ m. isHeld (m .fate)) (walkBy o l g s);
-  discarded = tally (λ m. isDiscarded (m .fate)) (walkBy o l g s);
-  outer = length (coverBy s g .outer);
-  inner = length (coverBy s g .inner);
+abbrev pub resultOf : Cover → List Met → SettingResult
+resultOf c ms = record {
+  unchecked = tally (λ m. isUnchecked (m .fate)) ms;
+  held = tally (λ m. isHeld (m .fate)) ms;
+  discarded = tally (λ m. isDiscarded (m .fate)) ms;
+  outer = length (c .outer);
+  inner = length (c .inner);
 }
 
+abbrev pub triedBy : ℕ → List ℤ → Region → Setting → SettingResult
+triedBy o l g s = resultOf (coverBy s g) (walkBy o l g s)
+
+abbrev pub spanned : ℕ → List Range → ℕ
+spanned d rs = identifiers rs * 4 ^ (12 - d)
+
 abbrev pub skyOf : Setting → Region → ℕ
-skyOf s g = identifiers (coverBy s g .outer) * 4 ^ (12 - s .depth)
+skyOf s g = spanned (s .depth) (coverBy s g .outer)
 
 abbrev pub choiceOf : ℕ → ℕ → Choice
 choiceOf m n = cond (leb m n) First Second
