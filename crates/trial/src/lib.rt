@@ -1,4 +1,4 @@
-// A trial of two settings: the rules in specs/, and the types that they name. Document 02, F-13.
+// A trial of two settings: the rules in specs/, worked examples in proofs/, and the types that they name. Document 02, F-13.
 
 // How many numbers a trial gives.
 pub const TRIAL_COUNTS: usize = 11;
