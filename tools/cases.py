@@ -446,7 +446,7 @@ def group_files():
 def cases():
     groups = (document_01, document_000, depths, borders, corners_and_middles, ties, lengths, octants, anywhere, no_vectors, identifiers, names,
               trixel_corners, regions.damaged, regions.two_faults, regions.limits, regions.edges, regions.writer_rows, points, regions.planes, regions.region_shapes,
-              odd_numbers, other_shapes, long_lines, covers, mounts, lines, group_files, covers_beside_edges)
+              odd_numbers, other_shapes, long_lines, covers, mounts, lines, group_files, covers_beside_edges, regions.check_orders)
     for group in groups:
         yield from group()
     yield b'id N00000000000'                        # the last line, which ends without a line feed

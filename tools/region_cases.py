@@ -162,6 +162,17 @@ def writer_rows():
     yield from (file_line(9, 64, [0, K, 0, 0, 0] * n) for n in (99, 100, 101))
 
 
+def check_orders():
+    """Two faults in one record or row list, where the earlier check decides: the 65th convex after an empty 64th (4 and not 7), and row lists not in whole
+    fives with a bad row (4 and not 7, 8 or 9); each beside the one with the later fault alone."""
+    for convex in ([], [(BASE[0], 0)]):
+        file = file_of(spread(63, 63) + [convex, [(BASE[1], 0)]]).hex().encode()
+        yield from (command + b' ' + file for command in (b'rows', b'cover', b'togrouped'))
+    for rows in ([0, 0, 0, 0, 0], [0, K, 0, 0, K + 1], [0, K, 0, 0, 0] * 101):
+        for more in range(5):
+            yield from (b' '.join([command, *file_line(9, 64, rows + [0] * more).split(b' ')[1:]]) for command in (b'file', b'grouped'))
+
+
 def points(draws, direction):
     """Points inside, outside and on the plane, against one and several convexes."""
     yield from (holds_line(file_of([[((0, 0, K), d)]]), p) for d in (-K, 1 - K, 0, K - 1, K) for p in ((0, 0, -K), (0, 0, K), (K, 0, 0), (K, 0, 1), (K, 0, -1)))

@@ -1,6 +1,7 @@
 /* The C calls on an index, on the stored cases of program archive: each command line of crates/archive/stdin goes through htm.h, is
  * printed as archive prints it, and compared with its line of crates/archive/stdout. Every call is made with a list that is longer than needed,
- * one that is shorter by one element and one that is exactly long enough. Then the calls on lists of noise, which no history leaves.
+ * one that is shorter by one element and one that is exactly long enough. Then adds and removals on short lists, in the order of their checks, and the calls
+ * on lists of noise, which no history leaves.
  * What htm_frames leaves in its range list is compared with htm_cover, and so is each buffer of htm_trial, with the setting in the file's
  * header; the part that htm_chosen tells is printed from the buffer itself.
  *
@@ -73,6 +74,28 @@ static void change(struct call c)
         made++;
     else
         refused++;
+}
+
+/* What is asked of a call itself comes before its list, 18 and then 8; a list that is too short is 10 before what it holds, here the count 1 and that entry. */
+static void short_lists(void)
+{
+    static const int64_t one[] = {1, 67108863, 5, 0, 605396, 605396, 605396};
+    static const size_t lengths[] = {0, 1, 7, HTM_INDEX_LENGTH - 1};
+    static const struct {
+        struct call call;
+        int64_t answer;
+    } calls[] = {
+        {{true, 2, 5, 0, 0, 0}, -18}, {{true, 0, 5, 0, 0, 0}, -8}, {{true, 1, 5, 0, 0, 1048573}, -8}, {{true, 0, 5, 605396, 605396, 605396}, -10},
+        {{true, 0, 6, 0, 0, 1048576}, -10}, {{false, 2, 5, 0, 0, 0}, -18}, {{false, 0, 5, 0, 0, 0}, -10}, {{false, 0, 6, 0, 0, 0}, -10},
+    };
+    memset(kept, 0, sizeof kept);
+    memcpy(kept, one, sizeof one);
+    for (size_t i = 0; i < sizeof calls / sizeof calls[0]; i++)
+        for (size_t k = 0; k < sizeof lengths / sizeof lengths[0]; k++) {
+            memcpy(other, kept, sizeof other);
+            must(call(calls[i].call, other, lengths[k]) == calls[i].answer, "owner comes before vector, and both before a list that is too short");
+            must(memcmp(other, kept, sizeof other) == 0, "a list that is too short stays");
+        }
 }
 
 /* ---- the entries, one by one */
@@ -557,6 +580,8 @@ int main(int argc, char **argv)
     printf("htm_add, htm_remove %ld made, %ld refused; htm_index_entry %ld lists; %ld differences\n", made, refused, listed, differ);
     printf("htm_frames %ld with %ld tests, %ld refused\n", found, tests, not_found);
     printf("htm_trial %ld, the first chosen in %ld and the second in %ld, %ld refused\n", tried, chosen[1], chosen[2], not_tried);
+    strcpy(line, "short lists");
+    short_lists();
     strcpy(line, "noise");
     make_regions(some);
     for (line_number = 0; line_number < NOISE; line_number++)

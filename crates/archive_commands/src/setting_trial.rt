@@ -3,6 +3,7 @@ use command_words::NaturalAt;
 use command_words::WORD_CAPACITY;
 use limits::MAX_BUDGET;
 use print::Buffer;
+use trial::Choice;
 use trial::Setting;
 use trial::SettingResult;
 use trial::Trial;
@@ -74,9 +75,17 @@ fn try_both(
 fn compared(out: &mut Buffer, at: usize, both: Trial, part: &[u64]) -> usize {
     let end = setting_result(out, at, both.first);
     let end = setting_result(out, end, both.second);
-    let end = print::digits(out, end, both.choice as u64);
+    let choice = both.choice;
+    let end = print::byte(out, end, choice_digit(choice));
     let end = ranges(out, end, part);
     print::byte(out, end, b'\n')
+}
+
+fn choice_digit(choice: Choice) -> u8 {
+    match choice {
+        Choice::First => b'1',
+        Choice::Second => b'2',
+    }
 }
 
 // The result of one setting, each number with a blank behind it.

@@ -5,7 +5,7 @@ use native.Mathlib.Omega.{arith}
 use mathlib.Core.Path.{_≡_, refl, sym, ap, subst, subst₂, _∙_}
 use mathlib.Core.Bool.{Bool, true, false, cond, _&&_, _||_}
 use mathlib.Core.List.{List, [], _∷_}
-use lib.Dec.{leb, eqb}
+use lib.Dec.{leb}
 use lib.ListN.{length, take}
 use lib.IntN.{ℤ}
 use borrow.Author.Tests.{leb-true, leb-false, le-leb}
@@ -30,10 +30,11 @@ use Rattle.frames.specs.declared.Disposition.{Disposition}
 use Rattle.frames.specs.declared.Disposition.the-variants.{Skipped, Unchecked, Held, Discarded}
 use Rattle.frames.specs.Walk.{Met, isUnchecked, isHeld, isDelivered}
 use Rattle.trial.specs.declared.Setting.{Setting}
+use Rattle.trial.specs.declared.Choice.the-variants.{First, Second}
 use Rattle.trial.specs.declared.Trial.{Trial}
 use Rattle.trial.specs.declared.TrialOf.{TrialOf}
 use Rattle.trial.specs.Trials.{isSetting, coverBy, walkBy, skyOf, choiceOf, trialOf}
-use Rattle.trial.specs.Answers.{trialInto, trialAnswer, listsBy, firstAfter, secondAfter, fitting, partBy, partOf, checkSetting, roomFor}
+use Rattle.trial.specs.Answers.{trialInto, trialAnswer, listsBy, firstAfter, secondAfter, fitting, ofChoice, partBy, partOf, checkSetting, roomFor}
 use Rattle.htm.specs.Frames.{entriesBy}
 use Rattle.htm.specs.Trials.{heldBy, SameHeld, Trials, chosenOf, Smaller, Tries, TrialsOfAnswers, TrialsOfCalls}
 use Rattle.htm.proofs.PromiseKept.{outer-proper}
@@ -82,12 +83,12 @@ smaller : (s t : Setting) (g : Region) → Smaller (choiceOf (skyOf s g) (skyOf 
 smaller s t g = split (leb (skyOf s g) (skyOf t g)) first second
   where
     first : leb (skyOf s g) (skyOf t g) ≡ true → Smaller (choiceOf (skyOf s g) (skyOf t g)) s t g
-    first e = subst (λ b. Smaller (cond b 1 2) s t g) (sym e) (record { no-first = omega arith; no-second = leb-true (skyOf s g) (skyOf t g) e; equal = λ q. refl })
+    first e = subst (λ b. Smaller (cond b First Second) s t g) (sym e) (record { no-first = omega arith; no-second = leb-true (skyOf s g) (skyOf t g) e; equal = λ q. refl })
 
     second : leb (skyOf s g) (skyOf t g) ≡ false → Smaller (choiceOf (skyOf s g) (skyOf t g)) s t g
     second e =
         let h : skyOf t g < skyOf s g = omega (arith, leb-false (skyOf s g) (skyOf t g) e) in
-        subst (λ b. Smaller (cond b 1 2) s t g) (sym e) (record { no-first = omega arith; no-second = omega arith; equal = λ q. absurd (omega arith) })
+        subst (λ b. Smaller (cond b First Second) s t g) (sym e) (record { no-first = omega arith; no-second = omega arith; equal = λ q. absurd (omega arith) })
 
 -- ---- of the answers and of the calls
 
@@ -136,9 +137,9 @@ front s x before h =
 
 -- the part by the choice: b says whether the first is chosen
 chosen-part : (s t : Setting) (x : File) (first second : List ℕ) → 4 * budgetOf (s .budget) ≤ length first → 4 * budgetOf (t .budget) ≤ length second → (b : Bool)
-    → cond (eqb (cond b 1 2) 1) (fitting (2 * length (coverBy s (x .region) .outer)) (listsBy s x first))
-    (cond (eqb (cond b 1 2) 2) (fitting (2 * length (coverBy t (x .region) .outer)) (listsBy t x second)) [])
-    ≡ pairs (coverBy (chosenOf (cond b 1 2) s t) (x .region) .outer)
+    → ofChoice (cond b First Second) (fitting (2 * length (coverBy s (x .region) .outer)) (listsBy s x first))
+    (fitting (2 * length (coverBy t (x .region) .outer)) (listsBy t x second))
+    ≡ pairs (coverBy (chosenOf (cond b First Second) s t) (x .region) .outer)
 chosen-part s t x first second h k true = front s x first h
 chosen-part s t x first second h k false = front t x second k
 

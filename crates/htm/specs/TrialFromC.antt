@@ -19,7 +19,7 @@ use Rattle.region.specs.Reader.{File}
 use Rattle.index.specs.Exposures.{isOwner}
 use Rattle.trial.specs.declared.Trial.{Trial}
 use Rattle.trial.specs.Trials.{trialOf}
-use Rattle.trial.specs.Answers.{trialInto, listsBy, trialList, trialCounts, partBy}
+use Rattle.trial.specs.Answers.{trialInto, listsBy, trialList, trialCounts, ofChoice, partBy}
 use Rattle.htm_abi.specs.TrialValues.{settingAt, trialIn}
 use Rattle.htm_abi.specs.Values.{refusalOf}
 use Rattle.htm.specs.CalledFromC.{inBoth}
@@ -47,7 +47,7 @@ trialAfterC o l f ss first second numbers = stored (λ r before. put 0 (trialLis
 -- ---- the part that is handed back
 
 abbrev pub partList : Trial → List ℕ → List ℕ → List ℕ
-partList t first second = t .choice ∷ length (partBy t first second) ∷ []
+partList t first second = ofChoice (t .choice) 1 2 ∷ length (partBy t first second) ∷ []
 
 unfoldable pub chosenForC : List ℕ → List ℕ → List ℕ → List ℕ → Answer (List ℕ)
 chosenForC ns first second part = check Space (leb trialCounts (length ns)) (check Space (leb 2 (length part)) (gives (partList (trialIn ns) first second)))

@@ -3,16 +3,15 @@
 --   heldBy o l g       how many entries of the owner o in the index l the region g holds
 --   SameHeld n r       under both settings of the trial r, what is delivered unchecked plus what is tested and held is n
 --   Trials             of the rules: of every index, owner, accepted file and pair of good settings
---   chosenOf n s t     the setting that the choice n names; Smaller n s t g: its outer list spans no more than either, and the first is chosen if they
+--   chosenOf c s t     the setting of the choice c; Smaller c s t g: its outer list spans no more than either, and the first is chosen if they
 --                      are equal
 --   Tries ..           of a trial's answer and the part that the second call hands back: the same, and the part has the chosen setting's outer list
 --   TrialsOfAnswers    of what the calls answer; TrialsOfCalls: of values that meet their contracts
 -- All are proved: proofs/TrialsKept.
 use Prim.Native.Nat.{ℕ, _+_, _≤_, _<_}
 use mathlib.Core.Path.{_≡_}
-use mathlib.Core.Bool.{true, cond}
+use mathlib.Core.Bool.{true}
 use mathlib.Core.List.{List}
-use lib.Dec.{eqb}
 use lib.IntN.{ℤ}
 use Rattle.algebra.specs.Lists.{tally}
 use Rattle.answer.specs.Answer.{gives}
@@ -21,10 +20,12 @@ use Rattle.region.specs.Reader.{File, Accepted}
 use Rattle.ranges.specs.Ranges.{pairs}
 use Rattle.index.specs.HistoryCorrect.{IsIndex}
 use Rattle.trial.specs.declared.Setting.{Setting}
+use Rattle.trial.specs.declared.Choice.{Choice}
+use Rattle.trial.specs.declared.Choice.the-variants.{First}
 use Rattle.trial.specs.declared.Trial.{Trial}
 use Rattle.trial.specs.declared.TrialOf.{TrialOf}
 use Rattle.trial.specs.Trials.{isSetting, coverBy, skyOf, trialOf}
-use Rattle.trial.specs.Answers.{trialAnswer, firstAfter, secondAfter, trialGiven, partOf}
+use Rattle.trial.specs.Answers.{trialAnswer, firstAfter, secondAfter, trialGiven, ofChoice, partOf}
 use Rattle.htm.specs.Frames.{entriesBy}
 
 abbrev pub heldBy : ℕ → List ℤ → Region → ℕ
@@ -40,13 +41,13 @@ Trials = (o : ℕ) (l : List ℤ) (f : List ℕ) (x : File) (s t : Setting) → 
 
 -- ---- the choice
 
-abbrev pub chosenOf : ℕ → Setting → Setting → Setting
-chosenOf n s t = cond (eqb n 1) s t
+abbrev pub chosenOf : Choice → Setting → Setting → Setting
+chosenOf c s t = ofChoice c s t
 
-pub record Smaller (n : ℕ) (s t : Setting) (g : Region) : Type 0 where
-  pub no-first : skyOf (chosenOf n s t) g ≤ skyOf s g
-  pub no-second : skyOf (chosenOf n s t) g ≤ skyOf t g
-  pub equal : skyOf s g ≡ skyOf t g → n ≡ 1
+pub record Smaller (c : Choice) (s t : Setting) (g : Region) : Type 0 where
+  pub no-first : skyOf (chosenOf c s t) g ≤ skyOf s g
+  pub no-second : skyOf (chosenOf c s t) g ≤ skyOf t g
+  pub equal : skyOf s g ≡ skyOf t g → c ≡ First
 
 -- ---- of the answers and of the calls
 

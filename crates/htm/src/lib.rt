@@ -18,7 +18,6 @@ use trial::Setting;
 use trial::TrialOf;
 use vector::VectorOf;
 ghost use mathlib.Core.Path.{_≡_};
-ghost use denote.Ref.{ptr};
 ghost use Rattle.answer.specs.Calls.{numberOf};
 ghost use Rattle.vector.specs.Vectors.{vec};
 ghost use Rattle.vector.specs.Answers.{vectorGiven};
@@ -33,7 +32,7 @@ ghost use Rattle.index.specs.Exposures.{key, exposure};
 ghost use Rattle.index.specs.Answers.{beginAnswer, beginAfter, addAnswer, addAfter, removeAnswer, removeAfter, countAnswer, entryAnswer};
 ghost use Rattle.index.specs.Answers.{changeGiven, entryGiven};
 ghost use Rattle.frames.specs.Answers.{framesGiven, framesAnswer, rangesAfter, numbersAfter};
-ghost use Rattle.trial.specs.Answers.{trialGiven, trialAnswer, firstAfter, secondAfter, partOf, bufferOf};
+ghost use Rattle.trial.specs.Answers.{trialGiven, trialAnswer, firstAfter, secondAfter, IsPart};
 ghost use Rattle.htm.specs.Answers as answers;
 ghost use Rattle.htm.specs.Answers.{lookupReport, locateLine, coverGiven, coverAnswer, coverAfter};
 
@@ -246,10 +245,10 @@ pub fn trial(
     trial_calls::trial(index, owner, file, s, t, first, second)
 }
 
-// The outer list that a trial chose, in its buffer: a part of one of the two, itself and not a copy. The empty part after a refused trial, where the chosen
-// buffer is shorter than the result's outer list, or where the result names no choice. Any result may be handed in.
+// The outer list that a trial chose, in its buffer: a part of one of the two, itself and not a copy. The empty part after a refused trial, or where the chosen
+// buffer is shorter than the result's outer list. Any result may be handed in.
 pub fn chosen<'a>(result: TrialOf, first: &'a [u64], second: &'a [u64]) -> &'a [u64]
-    ensures { λ r. ⌜ (now r ≡ partOf result (now (first .entry)) (now (second .entry))) × (ptr r ≡ bufferOf result (ptr (first .entry)) (ptr (second .entry))) ⌝ }
+    ensures { λ r. ⌜ IsPart result (first .entry) (second .entry) r ⌝ }
 {
     trial_calls::chosen(result, first, second)
 }

@@ -67,6 +67,7 @@ pub extern "C" fn htm_chosen<'a>(
     }
     let t = htm_abi::trials::trial_at(numbers);
     let n = htm_abi::trials::part_length(t, first, second);
-    htm_abi::trials::put_part(part, t.choice, n);
+    let choice = t.choice;
+    htm_abi::trials::put_part(part, htm_abi::trials::choice_number(choice), n);
     0
 }

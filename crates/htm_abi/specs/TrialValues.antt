@@ -1,6 +1,6 @@
 -- Settings and results of a trial as numbers, for a host in C. Document 02, F-13.
 --   settingAt ss k    the setting whose two numbers, depth and budget, stand at element k of the list ss
---   whichOf n         1 for the first buffer, 2 for the second, 0 for any other number
+--   choiceIn n        the choice that the number n stands for: 1 is the first, any other the second
 --   trialIn ns        the result whose numbers stand at the beginning of ns, in the order of `trialList` (trial/specs/Answers)
 --   anywayRefused ..  the refusal of a trial for which a list is too short in any case: 18, the file's, 5 and 6 of each setting, or 10
 use Prim.Native.Nat.{ℕ, _+_}
@@ -13,14 +13,16 @@ use Rattle.region.specs.Reader.{File, read}
 use Rattle.index.specs.Exposures.{isOwner}
 use Rattle.trial.specs.declared.Setting.{Setting}
 use Rattle.trial.specs.declared.SettingResult.{SettingResult}
+use Rattle.trial.specs.declared.Choice.{Choice}
+use Rattle.trial.specs.declared.Choice.the-variants.{First, Second}
 use Rattle.trial.specs.declared.Trial.{Trial}
 use Rattle.trial.specs.Answers.{checkSetting}
 
 abbrev pub settingAt : List ℕ → ℕ → Setting
 settingAt ss k = record { depth = getD ss k 0; budget = getD ss (k + 1) 0 }
 
-abbrev pub whichOf : ℕ → ℕ
-whichOf n = cond (eqb n 1) 1 (cond (eqb n 2) 2 0)
+abbrev pub choiceIn : ℕ → Choice
+choiceIn n = cond (eqb n 1) First Second
 
 abbrev pub resultIn : List ℕ → ℕ → SettingResult
 resultIn ns k = record {
@@ -32,7 +34,7 @@ resultIn ns k = record {
 }
 
 abbrev pub trialIn : List ℕ → Trial
-trialIn ns = record { first = resultIn ns 0; second = resultIn ns 5; choice = whichOf (getD ns 10 0) }
+trialIn ns = record { first = resultIn ns 0; second = resultIn ns 5; choice = choiceIn (getD ns 10 0) }
 
 -- behind the file's checks
 abbrev pub settingRefusalOr : Setting → Setting → Answer File

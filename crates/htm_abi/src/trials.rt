@@ -4,6 +4,7 @@ use answer::SPACE;
 use index::OWNERS;
 use limits::HALFSPACES;
 use region::HeaderOf;
+use trial::Choice;
 use trial::Setting;
 use trial::SettingResult;
 use trial::Trial;
@@ -14,8 +15,8 @@ ghost use lib.ListN.{length};
 ghost use Rattle.answer.specs.Answer.{refused};
 ghost use mathlib.Core.List.{[], _∷_};
 ghost use Rattle.answer.specs.Lent.{put};
-ghost use Rattle.trial.specs.Answers.{trialCounts, partBy};
-ghost use Rattle.htm_abi.specs.TrialValues.{settingAt, whichOf, resultIn, trialIn, settingRefusalOr, anywayRefused};
+ghost use Rattle.trial.specs.Answers.{trialCounts, ofChoice, partBy};
+ghost use Rattle.htm_abi.specs.TrialValues.{settingAt, choiceIn, resultIn, trialIn, settingRefusalOr, anywayRefused};
 ghost use Rattle.trial.specs.Answers.{trialList};
 
 // The setting whose depth and budget stand at element k.
@@ -29,14 +30,25 @@ pub fn setting_at(settings: &[u32], k: usize) -> Setting
     }
 }
 
-// The first buffer, the second, or neither.
-fn which_of(n: u64) -> u32
-    ensures { λ r. ⌜ r ≡ whichOf n ⌝ }
+// The choice that a number stands for.
+fn choice_in(n: u64) -> Choice
+    ensures { λ r. ⌜ r ≡ choiceIn n ⌝ }
 {
     if n == 1 {
-        return 1;
+        Choice::First
+    } else {
+        Choice::Second
     }
-    if n == 2 { 2 } else { 0 }
+}
+
+// The number that a choice is in a list.
+pub fn choice_number(c: Choice) -> u64
+    ensures { λ r. ⌜ r ≡ ofChoice c 1 2 ⌝ }
+{
+    match c {
+        Choice::First => 1,
+        Choice::Second => 2,
+    }
 }
 
 // The result of one setting, from element k on.
@@ -63,7 +75,7 @@ pub fn trial_at(numbers: &[u64]) -> Trial
     Trial {
         first: first,
         second: second,
-        choice: which_of(numbers[10]),
+        choice: choice_in(numbers[10]),
     }
 }
 
@@ -103,11 +115,11 @@ pub fn part_length<'a>(t: Trial, first: &'a [u64], second: &'a [u64]) -> usize
 }
 
 // Which buffer, and how many elements of it, at the beginning of a list.
-pub fn put_part(list: &mut [u64], which: u32, n: usize)
+pub fn put_part(list: &mut [u64], which: u64, n: usize)
     requires { ⌜ 2 ≤ length (now list) ⌝ }
     ensures { λ _. ⌜ now (list .exit) ≡ put 0 (which ∷ n ∷ []) (now (list .entry)) ⌝ }
 {
-    list[0] = which as u64;
+    list[0] = which;
     list[1] = n as u64;
 }
 
@@ -116,6 +128,7 @@ pub fn put_trial(numbers: &mut [u64], r: Trial)
     requires { ⌜ trialCounts ≤ length (now numbers) ⌝ }
     ensures { λ _. ⌜ now (numbers .exit) ≡ put 0 (trialList r) (now (numbers .entry)) ⌝ }
 {
+    let choice = r.choice;
     numbers[0] = r.first.unchecked;
     numbers[1] = r.first.held;
     numbers[2] = r.first.discarded;
@@ -126,5 +139,5 @@ pub fn put_trial(numbers: &mut [u64], r: Trial)
     numbers[7] = r.second.discarded;
     numbers[8] = r.second.outer;
     numbers[9] = r.second.inner;
-    numbers[10] = r.choice as u64;
+    numbers[10] = choice_number(choice);
 }

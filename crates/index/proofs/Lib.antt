@@ -5,3 +5,4 @@ pub mod HistoryKept
 pub mod OneList
 pub mod OwnersApart
 pub mod Examples
+pub mod CheckOrder

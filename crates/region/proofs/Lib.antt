@@ -1,6 +1,7 @@
 pub mod AddLaws
 pub mod BudgetLaws
 pub mod CallsBack
+pub mod CheckOrder
 pub mod ConvertLaws
 pub mod FileAnswers
 pub mod FileBack

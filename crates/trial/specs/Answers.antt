@@ -5,17 +5,21 @@
 --   trialAnswer ..     both results, and the choice
 --   firstAfter ..      the first buffer afterwards, and secondAfter the second: the two lists of each setting, as a cover leaves them
 --   trialGiven r       what the call gave
---   trialList t        both results and the choice, as numbers, `trialCounts` of them: the five of the first, those of the second, and the choice
+--   trialList t        both results and the choice, as numbers, `trialCounts` of them: the five of the first, those of the second, and the choice, 1 or 2
 --   fitting n l        the first n elements of l, where it has so many; else none
---   partBy t ..        of the two buffers the chosen one's first 2 × outer count elements; none where it is shorter, or where the choice is neither
+--   ofChoice c a b     a where the choice c is the first, b where it is the second
+--   partBy t ..        of the two buffers the chosen one's first 2 × outer count elements; none where it is shorter
 --   partOf r ..        the same of what a trial answered; none after a refusal
 --   bufferOf r ..      of two things, one for each buffer, that of the buffer which the part is of: of the first unless the second is chosen
+--   IsPart r first second part   a reference to that part, itself and not a copy: its elements, and where it points
 use Prim.Native.Nat.{ℕ, _*_}
+use mathlib.Core.Path.{_≡_}
 use mathlib.Core.Bool.{cond}
 use mathlib.Core.List.{List, [], _∷_}
-use lib.Dec.{eqb, leb}
+use lib.Dec.{leb}
 use lib.ListN.{length, take}
 use lib.IntN.{ℤ}
+use denote.Ref.{RefT}
 use Rattle.answer.specs.Answer.{Answer, refused, gives, check, then, with-value, Depth, Budget, Space, Owner}
 use Rattle.answer.specs.Lent.{stored}
 use Rattle.vector.specs.Numbers.{isDepth}
@@ -25,6 +29,8 @@ use Rattle.covering.specs.Cover.{bothListed}
 use Rattle.index.specs.Exposures.{isOwner}
 use Rattle.index.specs.Answers.{inList}
 use Rattle.trial.specs.declared.Setting.{Setting}
+use Rattle.trial.specs.declared.Choice.{Choice}
+use Rattle.trial.specs.declared.Choice.the-variants.{First, Second}
 use Rattle.trial.specs.declared.Trial.{Trial}
 use Rattle.trial.specs.declared.TrialOf.{TrialOf}
 use Rattle.trial.specs.Trials.{coverBy, trialOf}
@@ -59,11 +65,16 @@ abbrev pub trialGiven : TrialOf → Answer Trial
 trialGiven (TrialOf.Gives t) = gives t
 trialGiven (TrialOf.Refused n) = refused n
 
+-- a choice by its two cases
+abbrev pub ofChoice : {A : Type 0} → Choice → A → A → A
+ofChoice First first second = first
+ofChoice Second first second = second
+
 -- as numbers, and how many they are
 abbrev pub trialList : Trial → List ℕ
 trialList t =
     t .first .unchecked ∷ t .first .held ∷ t .first .discarded ∷ t .first .outer ∷ t .first .inner
-    ∷ t .second .unchecked ∷ t .second .held ∷ t .second .discarded ∷ t .second .outer ∷ t .second .inner ∷ t .choice ∷ []
+    ∷ t .second .unchecked ∷ t .second .held ∷ t .second .discarded ∷ t .second .outer ∷ t .second .inner ∷ ofChoice (t .choice) 1 2 ∷ []
 
 abbrev pub trialCounts : ℕ
 trialCounts = 11
@@ -74,17 +85,19 @@ abbrev pub fitting : ℕ → List ℕ → List ℕ
 fitting n l = cond (leb n (length l)) (take n l) []
 
 abbrev pub partBy : Trial → List ℕ → List ℕ → List ℕ
-partBy t first second =
-    cond (eqb (t .choice) 1) (fitting (2 * t .first .outer) first)
-    (cond (eqb (t .choice) 2) (fitting (2 * t .second .outer) second) [])
+partBy t first second = ofChoice (t .choice) (fitting (2 * t .first .outer) first) (fitting (2 * t .second .outer) second)
 
 abbrev pub partOf : TrialOf → List ℕ → List ℕ → List ℕ
 partOf (TrialOf.Gives t) first second = partBy t first second
 partOf (TrialOf.Refused n) first second = []
 
 abbrev pub bufferBy : {A : Type 0} → Trial → A → A → A
-bufferBy t first second = cond (eqb (t .choice) 1) first (cond (eqb (t .choice) 2) second first)
+bufferBy t first second = ofChoice (t .choice) first second
 
 abbrev pub bufferOf : {A : Type 0} → TrialOf → A → A → A
 bufferOf (TrialOf.Gives t) first second = bufferBy t first second
 bufferOf (TrialOf.Refused n) first second = first
+
+pub record IsPart (r : TrialOf) (first second part : RefT (List ℕ)) : Type 0 where
+  pub elements : part .now ≡ partOf r (first .now) (second .now)
+  pub address : part .ptr ≡ bufferOf r (first .ptr) (second .ptr)

@@ -1,4 +1,4 @@
-// A trial of two settings: the rules in specs/, and the types that they name. Document 02, F-13.
+// A trial of two settings: the rules in specs/, worked examples in proofs/, and the types that they name. Document 02, F-13.
 
 // How many numbers a trial gives.
 pub const TRIAL_COUNTS: usize = 11;
@@ -18,11 +18,17 @@ pub struct SettingResult {
     pub inner: u64,
 }
 
-// Both results, and the choice: 1 for the first, 2 for the second.
+// The setting chosen.
+pub enum Choice {
+    First,
+    Second,
+}
+
+// What both come to, and the choice.
 pub struct Trial {
     pub first: SettingResult,
     pub second: SettingResult,
-    pub choice: u32,
+    pub choice: Choice,
 }
 
 // The same, or the number of the first check that failed.

@@ -12,6 +12,7 @@ use limits::HALFSPACES;
 use limits::MAX_DEPTH;
 use region::Header;
 use region::HeaderOf;
+use trial::Choice;
 use trial::Setting;
 use trial::SettingResult;
 use trial::Trial;
@@ -29,8 +30,9 @@ ghost use Rattle.index.specs.Entries.{IndexLength};
 ghost use Rattle.covering_walk.specs.Walk.{SomeRows};
 ghost use Rattle.covering_calls.specs.Decoded.{Decoded};
 ghost use Rattle.frames_calls.specs.Searches.{FileIs};
+ghost use Rattle.trial.specs.declared.TrialOf.the-variants.{Gives};
 ghost use Rattle.trial.specs.Trials.{choiceOf};
-ghost use Rattle.trial.specs.Answers.{trialAnswer, firstAfter, secondAfter, trialGiven, fitting, partBy, partOf, bufferBy, bufferOf};
+ghost use Rattle.trial.specs.Answers.{trialAnswer, firstAfter, secondAfter, trialGiven, fitting, IsPart};
 ghost use Rattle.trial_calls.specs.Tries.{SettingRefusal, Checks, scoreOf, trialBy, TriesRows, Answers};
 
 // The result of one setting, and the share of the sky that its outer list spans, in identifiers of depth 12.
@@ -130,11 +132,15 @@ fn try_setting(
     score_of(s.depth, made)
 }
 
-// 1 where the first share is the smaller one or they are equal, else 2.
-fn choice(first: u64, second: u64) -> u32
+// The first where its share is the smaller one or they are equal, else the second.
+fn choice(first: u64, second: u64) -> Choice
     ensures { λ r. ⌜ r ≡ choiceOf first second ⌝ }
 {
-    if first <= second { 1 } else { 2 }
+    if first <= second {
+        Choice::First
+    } else {
+        Choice::Second
+    }
 }
 
 // Both results, and the choice.
@@ -211,20 +217,18 @@ fn front<'a>(n: u64, list: &'a [u64]) -> &'a [u64]
 
 // The outer list of the setting chosen, in its buffer.
 fn part_by<'a>(t: Trial, first: &'a [u64], second: &'a [u64]) -> &'a [u64]
-    ensures { λ r. ⌜ (now r ≡ partBy t (now (first .entry)) (now (second .entry))) × (ptr r ≡ bufferBy t (ptr (first .entry)) (ptr (second .entry))) ⌝ }
+    ensures { λ r. ⌜ IsPart (Gives t) (first .entry) (second .entry) r ⌝ }
 {
-    if t.choice == 1 {
-        return front(t.first.outer, first);
+    let k = t.choice;
+    match k {
+        Choice::First => front(t.first.outer, first),
+        Choice::Second => front(t.second.outer, second),
     }
-    if t.choice == 2 {
-        return front(t.second.outer, second);
-    }
-    &first[..0]
 }
 
 // Of the two buffers of a trial the chosen one's outer list, itself and not a copy; the empty part after a refusal, or where the buffer is shorter.
 pub fn chosen<'a>(result: TrialOf, first: &'a [u64], second: &'a [u64]) -> &'a [u64]
-    ensures { λ r. ⌜ (now r ≡ partOf result (now (first .entry)) (now (second .entry))) × (ptr r ≡ bufferOf result (ptr (first .entry)) (ptr (second .entry))) ⌝ }
+    ensures { λ r. ⌜ IsPart result (first .entry) (second .entry) r ⌝ }
 {
     match result {
         TrialOf::Gives(t) => part_by(t, first, second),

@@ -1,8 +1,7 @@
 -- `trial_calls::chosen` takes the part by what the trial gave, and none after a refusal. Assumes nothing.
-use mathlib.Core.Path.{sym, ap, _∙_}
-use denote.Ref.{now, ptr}
+use mathlib.Core.Path.{sym, subst}
 use borrow.Author.Needs.{needs}
-use Rattle.trial.specs.Answers.{partOf, bufferOf}
+use Rattle.trial.specs.Answers.{IsPart}
 use Rattle.trial_calls.proofs.chosen.Statement.{statement}
 use Rattle.trial_calls.proofs.chosen.Tie as tie
 
@@ -11,7 +10,7 @@ given c =
     let r = c .before .before in
     let a = r .before .before .before .before .args in
     let e = sym (r .result .given .1) in
-    (c .part-by .ensures .0 ∙ ap (λ x. partOf x (now (a .first)) (now (a .second))) e, c .part-by .ensures .1 ∙ ap (λ x. bufferOf x (ptr (a .first)) (ptr (a .second))) e)
+    subst (λ x. IsPart x (a .first) (a .second) (c .part-by .result)) e (c .part-by .ensures)
 
 pub chosen-spec : {M : Type 1} → statement M
 chosen-spec =

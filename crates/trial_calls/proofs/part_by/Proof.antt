@@ -1,31 +1,41 @@
 -- `trial_calls::part_by` takes the front of the buffer chosen. Assumes nothing.
+use Prim.Native.Nat.{_*_}
+use mathlib.Core.Path.{sym, ap, _∙_}
+use denote.Ref.{now, ptr}
 use borrow.Author.Needs.{needs}
-use borrow.Author.Tests.{eq-eqb, ne-eqb}
+use Rattle.trial.specs.Answers.{fitting, ofChoice}
 use Rattle.trial_calls.proofs.part_by.Statement.{statement}
 use Rattle.trial_calls.proofs.part_by.Tie as tie
 
 first-chosen : tie.Need-returns
-first-chosen c = simp (eq-eqb (c .before .before .before .before .before .args .t .choice) 1 (c .before .if1 .taken)) (c .front .ensures)
+first-chosen c =
+    let k = c .before .enum-told .given .1 in
+    let a = c .before .before .before .before .before .args in
+    record {
+      elements =
+          c .front .ensures .0
+          ∙ sym (ap (λ k. ofChoice k (fitting (2 * a .t .first .outer) (now (a .first))) (fitting (2 * a .t .second .outer) (now (a .second)))) k);
+      address = c .front .ensures .1 ∙ sym (ap (λ k. ofChoice k (ptr (a .first)) (ptr (a .second))) k);
+    }
 
 second-chosen : tie.Need-returns-2
 second-chosen c =
-    let e = c .before .before .before in
-    let t = e .before .before .before .before .args .t in
-    simp (ne-eqb (t .choice) 1 (e .if1 .left), eq-eqb (t .choice) 2 (c .before .if2 .taken)) (c .front2 .ensures)
-
-neither : tie.Need-returns-3
-neither c =
-    let e = c .before .before .before in
-    let t = e .before .before .before .before .args .t in
-    simp (ne-eqb (t .choice) 1 (e .if1 .left), ne-eqb (t .choice) 2 (c .before .if2 .left)) (search needs)
+    let k = c .before .enum-told2 .given .1 in
+    let a = c .before .before .before .before .before .args in
+    record {
+      elements =
+          c .front2 .ensures .0
+          ∙ sym (ap (λ k. ofChoice k (fitting (2 * a .t .first .outer) (now (a .first))) (fitting (2 * a .t .second .outer) (now (a .second)))) k);
+      address = c .front2 .ensures .1 ∙ sym (ap (λ k. ofChoice k (ptr (a .first)) (ptr (a .second))) k);
+    }
 
 pub part-by-spec : {M : Type 1} → statement M
 part-by-spec =
     tie.close
     (tie.spec
-    (λ c κs. tt)
-    first-chosen
-    (λ c κs. tt)
-    second-chosen
     (λ c. search needs)
-    neither)
+    (λ c κs. search needs)
+    (λ c. search needs)
+    (λ c κs. search needs)
+    first-chosen
+    second-chosen)

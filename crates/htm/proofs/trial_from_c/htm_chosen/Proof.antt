@@ -33,7 +33,8 @@ short c =
 handed-back : tie.Need-returns-3
 handed-back c =
     let p = c .before .before in
-    let n = p .before .before in
+    let w = p .before in
+    let n = w .before .before in
     let t = n .before in
     let j = t .before in
     let i = j .before in
@@ -44,7 +45,7 @@ handed-back c =
     let e = t .trial-at .ensures in (
       k .0,
       p .put-part .ensures
-          ∙ ap (λ m. put 0 (t .trial-at .result .choice ∷ m ∷ []) (now (a .part))) (n .part-length .ensures) ∙ ap (λ r. put 0 (partList r xs ys) (now (a .part))) e ∙ k .1,
+          ∙ (λ i. put 0 (w .choice-number .ensures i ∷ n .part-length .ensures i ∷ []) (now (a .part))) ∙ ap (λ r. put 0 (partList r xs ys) (now (a .part))) e ∙ k .1,
     )
 
 pub htm-chosen-spec : {M : Type 1} → statement M
@@ -55,6 +56,7 @@ htm-chosen-spec =
     few
     (λ c κs. search needs)
     short
+    (λ c κs. search needs)
     (λ c κs. search needs)
     (λ c κs. search needs)
     (λ c κs. search needs)

@@ -6,4 +6,4 @@ use Rattle.htm_abi.proofs.trials.part_length.Statement.{statement}
 use Rattle.htm_abi.proofs.trials.part_length.Tie as tie
 
 pub part-length-spec : {M : Type 1} → statement M
-part-length-spec = tie.close (tie.spec (λ c κs. search needs) (λ c. ap length (c .chosen .ensures .0)))
+part-length-spec = tie.close (tie.spec (λ c κs. search needs) (λ c. ap length (c .chosen .ensures .elements)))

@@ -11,4 +11,4 @@ trial-at-spec =
     (λ c κs. search needs)
     (λ c. search needs)
     (λ c κs. search needs)
-    (λ c i. record { first = c .before .before .before .result-at .ensures i; second = c .before .before .result-at2 .ensures i; choice = c .which-of .ensures i }))
+    (λ c i. record { first = c .before .before .before .result-at .ensures i; second = c .before .before .result-at2 .ensures i; choice = c .choice-in .ensures i }))
