@@ -8,7 +8,7 @@ use Rattle.ranges.proofs.Sound.{outer-few}
 use Rattle.covering.specs.Cover.{cutting, cover, coverOf, countsOf}
 use Rattle.covering.proofs.ContentsLaws.{full-contains, accepted-contains, outer-contains}
 use Rattle.htm.specs.Answers.{bothLists, outerIn}
-use Rattle.htm.specs.Counted.{Contents, Counted, CountedOfAnswers}
+use Rattle.htm.specs.Counted.{Contents, Counted, CountedOfAnswers, CountedOfCalls}
 use Rattle.covering.proofs.ListedLaws.{outer-back}
 use Rattle.htm.proofs.AnswersKept.{covered}
 
@@ -34,3 +34,8 @@ answers-counted f before c e =
     let lists : Contents found (outerIn (countsOf (cover x)) (bothLists x before)) (countsOf (cover x)) =
     subst (λ o. Contents found o (countsOf (cover x))) (sym (outer-back (budgetOf (x .budget)) (cover x) before (v .space) few)) (contents (x .depth) (x .budget) (x .region)) in
     (x, v .accepted, subst₂ (λ y l. Contents found (outerIn y l) y) (v .counts) (v .lists) lists)
+
+pub calls-counted : CountedOfCalls
+calls-counted f before after c e left =
+    let k = answers-counted f before c (sym e) in
+    (k .0, k .1, subst (λ l. Contents (cutting (k .0 .depth) (k .0 .region)) (outerIn c l) c) (sym left) (k .2))
