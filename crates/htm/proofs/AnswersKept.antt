@@ -7,11 +7,9 @@ use mathlib.Core.List.{List}
 use lib.Dec.{leb}
 use lib.ListN.{length}
 use borrow.Author.Tests.{leb-true}
-use Rattle.answer.specs.declared.Number.{Number}
-use Rattle.answer.specs.Calls.{numberOf}
 use Rattle.answer.specs.Answer.{gives, check, Vector, Space}
 use Rattle.answer.specs.Lent.{room, stored}
-use Rattle.answer.proofs.AnswerLaws.{check-passed, check-gives, refused-gives, same-value, then-gives, value-gives}
+use Rattle.answer.proofs.AnswerLaws.{check-passed, check-gives, refused-gives, same-value, then-gives, value-gives, number-is}
 use Rattle.vector.specs.declared.Vec3.{Vec3}
 use Rattle.vector.specs.Vectors.{isVector}
 use Rattle.region.specs.Regions.{holds}
@@ -89,16 +87,11 @@ answers-kept p f before c h cov tst =
 
 -- ---- of the calls
 
--- a lookup that gives i
-found-is : (found : Number) (i : ℕ) → numberOf found ≡ gives i → found ≡ Number.Gives i
-found-is (Number.Gives n) i e = ap Number.Gives (same-value n i e)
-found-is (Number.Refused n) i e = refused-gives n i e
-
 pub calls-kept : PromiseOfCalls
 calls-kept p f before after c h cov left tst =
     let k = answers-kept p f before c h (sym cov) (sym tst) in
     let B = budgetOf (k .0 .budget) in
-    (k .0, k .1, k .2, λ found e. found-is found (k .2) (e ∙ k .3), subst (λ l. CoverSound (k .2) (outerIn c l) (innerIn B c l) B h) (sym left) (k .4))
+    (k .0, k .1, k .2, λ found e. number-is found (k .2) (e ∙ k .3), subst (λ l. CoverSound (k .2) (outerIn c l) (innerIn B c l) B h) (sym left) (k .4))
 
 -- ---- undivided
 
@@ -133,7 +126,7 @@ demand-three p f before x v r l =
         rules = k .2;
         answers = subst (λ s. CoverSound (k .0) (outerIn (countsOf (cover x)) s) (innerIn B (countsOf (cover x)) s) B (holds (x .region) p)) left
             (subst₂ (λ o n. CoverSound (k .0) o n B (holds (x .region) p)) (sym (outer-back B (cover x) before l few)) (sym (inner-back B (cover x) before l few)) (k .2));
-        locates = λ found e. found-is found (k .0) (e ∙ k .1);
+        locates = λ found e. number-is found (k .0) (e ∙ k .1);
         tests = λ q e. held-is q (holds (x .region) p) (e ∙ tst);
         covers = λ q e. covered-is q (countsOf (cover x)) (e ∙ cov);
       },
