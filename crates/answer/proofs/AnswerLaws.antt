@@ -1,9 +1,12 @@
--- Where an answer gives, every check before it passed; where a changed value is refused, it was refused before. Assumes nothing.
+-- Where an answer gives, every check before it passed; where a changed value is refused, it was refused before; a call whose number is known gave it. Assumes
+-- nothing.
 use Prim.Native.Nat.{ℕ}
-use mathlib.Core.Path.{_≡_, refl, sym}
+use mathlib.Core.Path.{_≡_, refl, sym, ap}
 use mathlib.Core.Bool.{Bool, true, false}
 use native.Mathlib.Omega.{arith}
+use Rattle.answer.specs.declared.Number.{Number}
 use Rattle.answer.specs.Answer.{Answer, refused, gives, check, then, with-value}
+use Rattle.answer.specs.Calls.{numberOf}
 
 module _ {A : Type 0} where
   pub refused-gives {ℓ} : {X : Type ℓ} (n : ℕ) (x : A) → _≡_ {A = Answer A} (refused n) (gives x) → X
@@ -33,3 +36,8 @@ module _ {A B : Type 0} where
   pub value-refused : (f : A → B) (a : Answer A) (n : ℕ) → with-value f a ≡ refused n → a ≡ refused n
   value-refused f (refused m) n e = cc
   value-refused f (gives x) n e = refused-gives n (f x) (sym e)
+
+-- a call that answers a number, by the number
+pub number-is : (r : Number) (i : ℕ) → numberOf r ≡ gives i → r ≡ Number.Gives i
+number-is (Number.Gives n) i e = ap Number.Gives (same-value n i e)
+number-is (Number.Refused n) i e = refused-gives n i e

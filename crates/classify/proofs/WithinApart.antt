@@ -5,9 +5,10 @@
 use Prim.Native.Nat.{ℕ, _+_, _*_, _/_}
 use native.Mathlib.Omega.{arith}
 use mathlib.Core.Path.{_≡_, refl, sym, subst}
-use mathlib.Core.Bool.{true, _&&_}
+use mathlib.Core.Bool.{Bool, true, _&&_}
 use mathlib.Core.List.{[], _∷_}
 use lib.Dec.{le→leb, lt→ltb}
+use borrow.Author.Tests.{le-leb}
 use lib.IntN.{ℤ, pos, natAbs, _-ℤ_, _*ℤ_, zero-*ℤ}
 use lib.Signed.{ltZ, _≤ℤ_, _<ℤ_, leZ-yes, ltZ-yes, <ℤ-≤ℤ-trans}
 use Rattle.algebra.proofs.Ring.{_:*_}
@@ -19,14 +20,14 @@ use Rattle.algebra.proofs.Cone.{Far, cone}
 use Rattle.algebra.proofs.Separation.{separation}
 use Rattle.algebra.proofs.Plane.{beyond-plane}
 use Rattle.vector.specs.declared.Vec3.{Vec3}
-use Rattle.vector.specs.Numbers.{K, Kℕ}
+use Rattle.vector.specs.Numbers.{K, Kℕ, greatest}
 use Rattle.vector.specs.Vectors.{dot}
 use Rattle.vector.proofs.VectorLaws.{v3, Long}
-use Rattle.vector.proofs.GreatestLaws.{greatest-passes}
+use Rattle.vector.proofs.GreatestLaws.{greatest-passes, greatest-most, greatest-above}
 use Rattle.mesh.specs.declared.Trixel.{Trixel}
 use Rattle.mesh.proofs.Path.{Inside}
 use Rattle.region.specs.declared.Halfspace.{Halfspace}
-use Rattle.classify.specs.Shape.{square, positive, ray0, ray1, ray2, volume, eOf, fOf, DOf, GOf, ahead, reachesRay, reaches, bOf, EOf, within, far, byCap, beyondEdge, beyond, apart, apartBy}
+use Rattle.classify.specs.Shape.{square, positive, ray0, ray1, ray2, volume, eOf, fOf, DOf, GOf, ahead, reachesRay, reaches, bOf, EOf, IsGreatestE, EGreatest, within, far, byCap, beyondEdge, beyond, apart, apartBy}
 
 -- ---- the cone lemma, from the tests
 
@@ -87,6 +88,16 @@ no-reach f r = yes-le (subst (λ z. z ≤ℤ square (dot f r)) (sym (zero-*ℤ (
 pub E-reaches : (t : Trixel) → reaches (bOf t) (EOf t) t ≡ true
 unfolding EOf
 E-reaches t = greatest-passes (λ n. reaches (bOf t) (pos n) t) Kℕ (and-both (no-reach (bOf t) (ray0 t)) (and-both (no-reach (bOf t) (ray1 t)) (no-reach (bOf t) (ray2 t))))
+
+pub E-greatest : EGreatest
+unfolding EOf
+E-greatest t =
+    let test : ℕ → Bool = λ n. reaches (bOf t) (pos n) t in
+    record {
+      passes = E-reaches t;
+      most = le-leb (greatest test Kℕ) Kℕ (greatest-most test Kℕ);
+      above = λ n h e. le-leb n (greatest test Kℕ) (greatest-above test Kℕ n h e);
+    }
 
 -- ---- a direction inside the trixel is not within reach of what is apart
 

@@ -7,11 +7,9 @@ use mathlib.Core.List.{List}
 use lib.Dec.{leb}
 use lib.ListN.{length}
 use borrow.Author.Tests.{leb-true, le-leb}
-use Rattle.answer.specs.declared.Number.{Number}
-use Rattle.answer.specs.Calls.{numberOf}
 use Rattle.answer.specs.Answer.{gives, check, Vector, Space}
 use Rattle.answer.specs.Lent.{room, stored}
-use Rattle.answer.proofs.AnswerLaws.{check-passed, check-gives, refused-gives, same-value, then-gives, value-gives}
+use Rattle.answer.proofs.AnswerLaws.{check-passed, check-gives, refused-gives, same-value, then-gives, value-gives, number-is}
 use Rattle.vector.specs.declared.Vec3.{Vec3}
 use Rattle.vector.specs.Vectors.{isVector}
 use Rattle.region.specs.Regions.{holds}
@@ -88,11 +86,6 @@ answers-kept p f before c h cov tst =
 
 -- ---- of the calls
 
--- a lookup that gives i
-found-is : (found : Number) (i : ℕ) → numberOf found ≡ gives i → found ≡ Number.Gives i
-found-is (Number.Gives n) i e = ap Number.Gives (same-value n i e)
-found-is (Number.Refused n) i e = refused-gives n i e
-
 -- The same of values that meet the contracts, `after` in the lent list: there is an identifier that the lookup gives, and the promise holds of all of them.
 pub calls-kept : (p : Vec3) (f before after : List ℕ) (c : Counts) (held : Bool)
     → coverGiven (CoverOf.Gives c) ≡ coverAnswer f before → after ≡ coverAfter f before → heldGiven (HeldOf.Gives held) ≡ pointTest f p
@@ -101,7 +94,7 @@ pub calls-kept : (p : Vec3) (f before after : List ℕ) (c : Counts) (held : Boo
 calls-kept p f before after c h cov left tst =
     let k = answers-kept p f before c h (sym cov) (sym tst) in
     let B = budgetOf (k .0 .budget) in
-    (k .0, k .1, k .2, λ found e. found-is found (k .2) (e ∙ k .3), subst (λ l. CoverSound (k .2) (outerIn c l) (innerIn B c l) B h) (sym left) (k .4))
+    (k .0, k .1, k .2, λ found e. number-is found (k .2) (e ∙ k .3), subst (λ l. CoverSound (k .2) (outerIn c l) (innerIn B c l) B h) (sym left) (k .4))
 
 -- ---- undivided
 
@@ -148,7 +141,7 @@ demand-three p f before x v r l =
         i = k .0;
         h = h;
         c = c;
-        locates = found-is found (k .0) (e ∙ k .1);
+        locates = number-is found (k .0) (e ∙ k .1);
         tests = held-is held h (d ∙ tst);
         covers = covered-is got c (b ∙ cov);
         lists = subst (λ s. ListsSound (k .0) c s B h) (sym a) lists;

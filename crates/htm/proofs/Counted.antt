@@ -10,7 +10,7 @@ use Rattle.ranges.proofs.Sound.{outer-few}
 use Rattle.covering.specs.Cover.{cutting, cover, coverOf, countsOf}
 use Rattle.covering.proofs.ContentsLaws.{full-contains, accepted-contains, outer-contains}
 use Rattle.htm.specs.Answers.{bothLists, outerIn}
-use Rattle.htm.specs.Counted.{Contents, ContentsOf, Counted, CountedOfAnswers}
+use Rattle.htm.specs.Counted.{Contents, ContentsOf, Counted, CountedOfAnswers, CountedOfCalls}
 use Rattle.covering.proofs.ListedLaws.{outer-back}
 use Rattle.htm.proofs.AnswersKept.{covered}
 
@@ -35,3 +35,8 @@ answers-counted f before c e =
     let lists : ContentsOf x (outerIn (countsOf (cover x)) (bothLists x before)) (countsOf (cover x)) =
     subst (λ o. ContentsOf x o (countsOf (cover x))) (sym (outer-back (budgetOf (x .budget)) (cover x) before (v .space) few)) (all-counted f x (v .accepted)) in
     (x, v .accepted, subst₂ (λ y l. ContentsOf x (outerIn y l) y) (v .counts) (v .lists) lists)
+
+pub calls-counted : CountedOfCalls
+calls-counted f before after c e left =
+    let k = answers-counted f before c (sym e) in
+    (k .0, k .1, subst (λ l. Contents (cutting (k .0 .depth) (k .0 .region)) (outerIn c l) c) (sym left) (k .2))

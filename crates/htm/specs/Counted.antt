@@ -3,7 +3,7 @@
 --   in-accepted   the accepted trixels, full ones and partial ones at the depth, have full + partial
 --   in-outer      the outer ranges contain full + partial + swallowed
 -- of the identifiers at the depth, each counted once (`Contains`, ranges/specs/Contents). `Counted` says so of the rules, `CountedOfAnswers` of what
--- the cover answers and of the outer list that stands in the lent list afterwards. Both are proved: proofs/Counted.
+-- the cover answers and of the outer list that stands in the lent list afterwards, `CountedOfCalls` of values that meet the contract of the call. All are proved: proofs/Counted.
 use Prim.Native.Nat.{ℕ, _+_}
 use mathlib.Core.Path.{_≡_}
 use mathlib.Core.List.{List}
@@ -14,7 +14,8 @@ use Rattle.ranges.specs.Ranges.{Range}
 use Rattle.ranges.specs.Contents.{Contains}
 use Rattle.covering.specs.declared.Counts.{Counts}
 use Rattle.covering.specs.Cover.{Found, cutting, cover, countsOf}
-use Rattle.htm.specs.Answers.{coverAnswer, coverAfter, outerIn}
+use Rattle.htm.specs.declared.CoverOf.{CoverOf}
+use Rattle.htm.specs.Answers.{coverAnswer, coverAfter, coverGiven, outerIn}
 
 -- of a depth, what a cutting found there, a list of ranges and the counts
 pub record Contents (d : ℕ) (found : Found) (outer : List Range) (c : Counts) : Type 0 where
@@ -32,3 +33,9 @@ abbrev pub CountedOfAnswers : Type 0
 CountedOfAnswers =
     (f before : List ℕ) (c : Counts) → coverAnswer f before ≡ gives c
     → (x : File) × Accepted f x × ContentsOf x (outerIn c (coverAfter f before)) c
+
+-- The same by the contract of the call `htm::cover` (src/lib.rt), where it gave c and left `after` in the lent list.
+abbrev pub CountedOfCalls : Type 0
+CountedOfCalls =
+    (f before after : List ℕ) (c : Counts) → coverGiven (CoverOf.Gives c) ≡ coverAnswer f before → after ≡ coverAfter f before
+    → (x : File) × Accepted f x × Contents (cutting (x .depth) (x .region)) (outerIn c after) c

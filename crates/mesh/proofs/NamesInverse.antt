@@ -1,5 +1,6 @@
 -- Names and identifiers are inverse to each other. The identifier of a name with d digits, divided by 4 to the power of d, is the 2 or 3 of
--- its letter: so its depth is d, and its letter and its digits, from the first to the last, come back. Assumes nothing.
+-- its letter: so its depth is d, and its letter and its digits, from the first to the last, come back. So it is of the calls: what is written is at the
+-- front of the lent list. Assumes nothing.
 use Prim.Native.Nat.{ℕ, zero, suc, _+_, _-_, _*_, _/_, _%_, _^_, _≤_, _<_}
 use native.Mathlib.Nat.{pow-suc, pow-succ', div-div-eq-div-mul, le-div-iff-mul-le, div-lt-iff-lt-mul, one-le-pow}
 use native.Mathlib.Omega.{arith}
@@ -7,13 +8,16 @@ use mathlib.Core.Path.{_≡_, refl, sym, ap, _∙_, subst}
 use mathlib.Core.Bool.{true, cond, _&&_}
 use mathlib.Core.List.{List, [], _∷_, _++_}
 use lib.Dec.{leb, eqb, lit<}
-use lib.ListN.{length}
+use lib.ListN.{length, take}
 use borrow.Author.Tests.{leb-true, lt-ltb, le-leb, eqb-true}
 use Rattle.algebra.proofs.Tests.{split, or-cases, and-left, and-right, and-both}
-use Rattle.answer.specs.Answer.{gives, check, Name}
-use Rattle.answer.proofs.AnswerLaws.{refused-gives, check-passed, check-gives, same-value}
+use Rattle.answer.specs.Answer.{gives, check, with-value, Name}
+use Rattle.answer.specs.Lent.{put, stored}
+use Rattle.answer.proofs.AnswerLaws.{refused-gives, check-passed, check-gives, same-value, value-gives, number-is}
+use Rattle.answer.proofs.LentLaws.{room-gives, has-room, front}
 use Rattle.mesh.specs.Identifiers.{identifierAt, depthOf, isIdentifier}
 use Rattle.mesh.specs.Names.{letterS, letterN, digit0, digits, letter, nameAt, nameOf, isDigit, areDigits, isLetter, isName, withDigits, valueOf, identifierOf, NamesInverse}
+use Rattle.mesh.specs.Answers.{nameInto, nameAnswer, nameAfter, NamesOfCalls}
 use Rattle.mesh.proofs.NameLaws.{depth-is, is-identifier, depth-low, depth-high, depth-found, next-power, last-power, name-back}
 
 -- ---- from an identifier to its name, and back
@@ -137,3 +141,17 @@ identifier-then-name (c ∷ cs) i e =
 
 pub names-inverse : NamesInverse
 names-inverse i s = (name-then-identifier i s, identifier-then-name s i)
+
+-- ---- of the calls
+
+pub names-of-calls : NamesOfCalls
+unfolding nameAnswer nameAfter
+names-of-calls = record {
+  read-back = λ i n before after e left r k.
+      let w = value-gives length (nameInto i before) n (sym e) in
+      let s : take n after ≡ w .0 = ap (take n) (left ∙ ap (λ a. stored (put 0) a before) (w .1)) ∙ front before (w .0) n (w .2) in
+      number-is r i (k ∙ ap identifierOf s ∙ names-inverse i (w .0) .0 (room-gives before length (nameOf i) (w .0) (w .1)));
+  written-back = λ i s before after e l r k left.
+      let w : nameInto i before ≡ gives s = has-room before length (nameOf i) s (names-inverse i s .1 (sym e)) l in
+      (number-is r (length s) (k ∙ ap (with-value length) w), left ∙ ap (λ a. stored (put 0) a before) w);
+}

@@ -4,12 +4,17 @@
 --   nameAnswer i before   the name's length, or the refusal
 --   nameAfter i before    the list afterwards: the name at its beginning
 --   cornersGiven r   what the call that gives corners answered
-use Prim.Native.Nat.{ℕ}
+--   NamesOfCalls     what `htm::name` wrote `htm::identifier` reads back, and the other way round, of values that meet their contracts (htm/src/lib.rt);
+--                    proofs/NamesInverse
+use Prim.Native.Nat.{ℕ, _≤_}
+use mathlib.Core.Path.{_≡_}
 use mathlib.Core.List.{List}
-use lib.ListN.{length}
+use lib.ListN.{length, take}
+use Rattle.answer.specs.declared.Number.{Number}
 use Rattle.answer.specs.Answer.{Answer, then, with-value, refused, gives}
+use Rattle.answer.specs.Calls.{numberOf}
 use Rattle.answer.specs.Lent.{put, stored, room}
-use Rattle.mesh.specs.Names.{nameOf}
+use Rattle.mesh.specs.Names.{nameOf, identifierOf}
 use Rattle.mesh.specs.declared.Corners.{Corners}
 use Rattle.mesh.specs.declared.CornersOf.{CornersOf}
 use Rattle.mesh.specs.declared.CornersOf.the-variants.{Gives, Refused}
@@ -26,3 +31,11 @@ nameAfter i before = stored (put 0) (nameInto i before) before
 abbrev pub cornersGiven : CornersOf → Answer Corners
 cornersGiven (Gives c) = gives c
 cornersGiven (Refused n) = refused n
+
+pub record NamesOfCalls : Type 0 where
+  -- `name` gave n of the identifier i and left `after` in the lent list: `identifier`, on its first n elements, gives i
+  pub read-back : (i n : ℕ) (before after : List ℕ) → numberOf (Number.Gives n) ≡ nameAnswer i before → after ≡ nameAfter i before
+      → (r : Number) → numberOf r ≡ identifierOf (take n after) → r ≡ Number.Gives i
+  -- `identifier` gave i of the name s: `name`, on a list that is long enough, gives the length of s and leaves s at its front, the rest as it was
+  pub written-back : (i : ℕ) (s before after : List ℕ) → numberOf (Number.Gives i) ≡ identifierOf s → length s ≤ length before
+      → (r : Number) → numberOf r ≡ nameAnswer i before → after ≡ nameAfter i before → (r ≡ Number.Gives (length s)) × (after ≡ put 0 s before)

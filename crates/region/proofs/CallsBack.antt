@@ -1,16 +1,14 @@
 -- Writer and reader, and the conversions, one after the other on the same bytes and rows, from the theorems over the definitions. Assumes nothing.
-use Prim.Native.Nat.{ℕ, _+_, _*_, _≤_, _/_}
+use Prim.Native.Nat.{ℕ, _*_, _≤_, _/_}
 use native.Mathlib.Omega.{arith}
 use mathlib.Core.Path.{_≡_, refl, sym, ap, subst, _∙_}
 use mathlib.Core.List.{List}
-use lib.Dec.{leb}
-use lib.ListN.{length, take, drop}
-use lib.Seq.{take-at}
+use lib.ListN.{length, take}
 use lib.IntN.{ℤ}
-use borrow.Author.Tests.{le-leb}
-use Rattle.answer.specs.Answer.{Answer, gives, check, then, with-value, Space}
-use Rattle.answer.specs.Lent.{put, stored, room}
-use Rattle.answer.proofs.AnswerLaws.{check-gives, then-gives, value-gives}
+use Rattle.answer.specs.Answer.{Answer, gives, then, with-value}
+use Rattle.answer.specs.Lent.{put, stored}
+use Rattle.answer.proofs.AnswerLaws.{value-gives}
+use Rattle.answer.proofs.LentLaws.{room-gives, has-room, front}
 use Rattle.region.specs.declared.Header.{Header}
 use Rattle.region.specs.Building.{total}
 use Rattle.region.specs.Rows.{rows}
@@ -25,21 +23,6 @@ use Rattle.region.proofs.FileBack.{file-back}
 use Rattle.region.proofs.ConvertLaws.{converted-back}
 use Rattle.region.proofs.FileAnswers.{file-written}
 use Rattle.region.proofs.RegionLaws.{rows-length}
-
-module _ {X A : Type 0} (before : List X) where
-  -- what is given was given before the room was looked at
-  room-gives : (n : A → ℕ) (a : Answer A) (y : A) → then a (λ x. room (n x) before x) ≡ gives y → a ≡ gives y
-  room-gives n a y e =
-      let w = then-gives a (λ x. room (n x) before x) y e in
-      w .1 ∙ check-gives Space (leb (n (w .0)) (length before)) (gives (w .0)) y (w .2)
-
-  has-room : (n : A → ℕ) (a : Answer A) (y : A) → a ≡ gives y → n y ≤ length before → then a (λ x. room (n x) before x) ≡ gives y
-  has-room n a y e h = ap (λ a. then a (λ x. room (n x) before x)) e ∙ ap (λ t. check Space t (gives y)) (le-leb (n y) (length before) h)
-
-module _ {X : Type 0} (before : List X) where
-  -- what was put at a list's beginning
-  front : (xs : List X) (n : ℕ) → length xs ≡ n → take n (put 0 xs before) ≡ xs
-  front xs n e = take-at xs (drop (0 + length xs) before) n e
 
 -- ---- the answers by what is written
 

@@ -1,8 +1,8 @@
 -- What `greatest` finds: a number that passes its test, and the only one above which none passes. Assumes nothing.
 use Prim.Native.Nat.{ℕ, zero, suc, _≤_, _<_}
 use native.Mathlib.Omega.{arith}
-use mathlib.Core.Path.{_≡_, sym, subst}
-use mathlib.Core.Bool.{Bool, true, false}
+use mathlib.Core.Path.{_≡_, sym, subst, _∙_}
+use mathlib.Core.Bool.{Bool, true, false, true≢false}
 use lib.Dec.{leb}
 use borrow.Author.Tests.{leb-true, leb-false}
 use Rattle.algebra.proofs.Tests.{split}
@@ -19,6 +19,16 @@ pub greatest-most : (f : ℕ → Bool) (n : ℕ) → greatest f n ≤ n
 unfolding greatest
 greatest-most f zero = omega arith
 greatest-most f (suc n) = split (f (suc n)) (λ t. rw (t, greatest) (omega arith)) (λ t. rw (t, greatest) (omega (arith, greatest-most f n)))
+
+-- what passes is at most the greatest
+pub greatest-above : (f : ℕ → Bool) (n k : ℕ) → k ≤ n → f k ≡ true → k ≤ greatest f n
+unfolding greatest
+greatest-above f zero k h e = h
+greatest-above f (suc n) k h e = split (f (suc n)) (λ t. rw (t, greatest) h)
+    (λ t. rw (t, greatest) (split (leb k n) (λ l. greatest-above f n k (leb-true k n l) e)
+    (λ l.
+    let s : k ≡ suc n = omega (arith, leb-false k n l) in
+    absurd (true≢false (sym (subst (λ x. f x ≡ true) s e) ∙ t)))))
 
 pub greatest-found : (f : ℕ → Bool) (n : ℕ) → 0 < greatest f n → f (greatest f n) ≡ true
 unfolding greatest

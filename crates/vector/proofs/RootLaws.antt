@@ -13,7 +13,7 @@ use Rattle.algebra.proofs.Ring.{con, _:+_, _:*_}
 use Rattle.algebra.proofs.Claim.{_:≡_, ring}
 use Rattle.algebra.proofs.Tests.{and-left, and-right, split}
 use Rattle.algebra.proofs.Inequalities.{`1}
-use Rattle.vector.specs.Numbers.{root, rootIn, orNext}
+use Rattle.vector.specs.Numbers.{root, rootIn, orNext, RootGreatest}
 
 pub record IsRoot (s r : ℕ) : Type 0 where
   pub low : r * r ≤ s
@@ -65,6 +65,9 @@ root-greatest s n h = by (leb n (root s)) refl
     by : (b : Bool) → leb n (root s) ≡ b → n ≤ root s
     by true e = leb-true n (root s) e
     by false e = let l : root s + 1 ≤ n = omega (arith, leb-false n (root s) e) in omega (arith, mul-le-mul l l, (root-is s) .high)
+
+pub greatest-root : RootGreatest
+greatest-root s = (root-is s .low, root-greatest s)
 
 pub root-unique : {s r : ℕ} → IsRoot s r → r ≡ root s
 root-unique {s} {r} h = by (leb (root s) r) refl

@@ -7,7 +7,8 @@
 --   isDepth d      a depth that is looked up and covered: 1 to 12 ('What is sent back', 5)
 --   greatest f n   the greatest whole number up to n that passes the test f; 0 where none from 1 on does
 --   root s         the greatest whole number whose square is at most s
-use Prim.Native.Nat.{ℕ, zero, suc, _+_, _*_, _/_}
+--   RootGreatest   the statement that it is that number (proofs/RootLaws)
+use Prim.Native.Nat.{ℕ, zero, suc, _+_, _*_, _/_, _≤_}
 use mathlib.Core.Bool.{Bool, true, false, cond, _&&_}
 use lib.Dec.{leb, eqb}
 use lib.IntN.{ℤ, pos, negsuc, negℤ}
@@ -53,3 +54,6 @@ rootIn (suc n) s = elim (eqb s 0) [ true ↦ 0 | false ↦ orNext s (2 * rootIn 
 
 unfoldable pub root : ℕ → ℕ
 root s = rootIn s s
+
+abbrev pub RootGreatest : Type 0
+RootGreatest = (s : ℕ) → (root s * root s ≤ s) × ((n : ℕ) → n * n ≤ s → n ≤ root s)
