@@ -5,7 +5,7 @@
 --   behind-example     entries out of order: a range that was passed is left behind, and an entry in it is skipped
 --   depth-examples     identifiers shortened to the depth; second-example: a walk at depth 2
 --   number-examples    what is delivered of a number, also of one that no index has
---   owner-example      the entries of one owner; share-example: the first 1024 of them
+--   owner-example      the entries of one owner; capacity-example: the first 1024 of them
 --   check-examples     18, then the file, then 10 for the range list, for 1023 numbers and for a list that is no index
 use Prim.Native.Nat.{ℕ, _+_, _*_}
 use mathlib.Core.Path.{_≡_, refl}
@@ -26,7 +26,7 @@ use Rattle.region.specs.Writer.{fileIn, fileOf, convexesBytes, halfspacesBytes}
 use Rattle.ranges.specs.Ranges.{Range, range}
 use Rattle.index.specs.declared.Entry.{Entry}
 use Rattle.index.specs.Exposures.{only}
-use Rattle.index.specs.Entries.{entry, entriesFrom, entriesIn, written, keeping}
+use Rattle.index.specs.Entries.{entry, entriesFrom, entriesIn, written, withEntries}
 use Rattle.frames.specs.declared.Disposition.{Disposition}
 use Rattle.frames.specs.declared.Disposition.the-variants.{Skipped, Unchecked, Held, Discarded}
 use Rattle.frames.specs.Walk.{shortened, numberOf, entriesOf, ahead, Met, met, walk, deliveredBy, testsOf}
@@ -123,13 +123,13 @@ number-examples = (refl, refl, refl)
 abbrev by : ℕ → ℕ → Entry
 by owner number = entry (pos 40) (pos number) (pos owner) north
 
-pub owner-example : entriesOf 1 (keeping (by 0 1 ∷ by 1 1 ∷ by 0 2 ∷ by 1 3 ∷ by 2 4 ∷ []) []) ≡ by 1 1 ∷ by 1 3 ∷ []
-unfolding only entriesIn entriesFrom keeping written
+pub owner-example : entriesOf 1 (withEntries (by 0 1 ∷ by 1 1 ∷ by 0 2 ∷ by 1 3 ∷ by 2 4 ∷ []) []) ≡ by 1 1 ∷ by 1 3 ∷ []
+unfolding only entriesIn entriesFrom withEntries written
 owner-example = refl
 
-pub share-example : map numberOf (entriesOf 1 (keeping (by 0 9 ∷ map (by 1) (numbersFrom 0 1025)) [])) ≡ numbersFrom 0 1024
-unfolding only entriesIn entriesFrom keeping written numbersFrom
-share-example = refl
+pub capacity-example : map numberOf (entriesOf 1 (withEntries (by 0 9 ∷ map (by 1) (numbersFrom 0 1025)) [])) ≡ numbersFrom 0 1024
+unfolding only entriesIn entriesFrom withEntries written numbersFrom
+capacity-example = refl
 
 -- ---- the checks
 
