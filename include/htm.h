@@ -23,7 +23,7 @@
  *    6 budget  over 2048                        13 line    a catalogue line of another shape
  *    7 crowd   over 64 convexes, 100 halfspaces 14 mixed   a record of the other style
  *              in one, 512 in all                15 twice   the number is its owner's
- *   16 full    1024 exposures are the owner's    17 absent  no such number of its owner's, or no such place
+ *   16 full    1024 exposures are the owner's    17 absent  no such number of its owner's
  *   18 owner   not 0 or 1
  * In the calls on an index 18 comes before all else. There 10 says that the list is too short to be one, and comes before 15, 16 and 17;
  * of htm_frames and htm_trial it says that any of its lists is too short, and comes last. Only a list of settings that is too short is
@@ -143,7 +143,8 @@ int64_t htm_remove(int64_t *index, size_t elements, uint32_t owner, uint32_t num
 int64_t htm_index_count(const int64_t *index, size_t elements);
 
 /* The entry at a place, from 0 on: out[0] to out[5] are its identifier, number, owner, x, y and z.
- * 0, or -N for refusal N: 10, then 17 where the place is not below the count, then 10 where out has fewer than 6 elements. */
+ * 1; 0 where the place is not below the count, so that there is none, and then out keeps its values and may have any length; or -10,
+ * also where there is an entry and out has fewer than 6 elements. */
 int64_t htm_index_entry(const int64_t *index, size_t elements, uint32_t place, int64_t *out, size_t n);
 
 /* The owner's exposures that the region of a region file of so many bytes holds: their numbers from numbers[0] on, in the order of the

@@ -123,15 +123,15 @@ static void list(const char *owner)
     for (uint32_t i = 0; i < count; i++) {
         paint(out);
         must(htm_index_entry(kept, ALL, i, out, 5) == -10 && stays(out, 0), "an entry in a list that is short by one is refused");
-        must(htm_index_entry(kept, HTM_INDEX_LENGTH, i, out, 6) == 0 && stays(out, 6), "an entry is six numbers");
+        must(htm_index_entry(kept, HTM_INDEX_LENGTH, i, out, 6) == 1 && stays(out, 6), "an entry is six numbers");
         if (*owner && strtoll(owner, NULL, 10) != out[2])
             continue;
         n += (size_t)sprintf(printed + n, "%s%" PRId64 " %" PRId64 " %" PRId64 " %" PRId64 " %" PRId64 " %" PRId64, n ? "|" : "", out[0], out[1], out[2],
                              out[3], out[4], out[5]);
     }
     paint(out);
-    must(htm_index_entry(kept, ALL, (uint32_t)count, out, SIX) == -17 && stays(out, 0), "there is no entry at the count");
-    must(htm_index_entry(kept, ALL, UINT32_MAX, out, 0) == -17, "there is no entry at the last place");
+    must(htm_index_entry(kept, ALL, (uint32_t)count, out, SIX) == 0 && stays(out, 0), "there is no entry at the count");
+    must(htm_index_entry(kept, ALL, UINT32_MAX, out, 0) == 0, "where there is no entry no room is asked");
     must(htm_index_entry(kept, HTM_INDEX_LENGTH - 1, 0, out, SIX) == -10 && stays(out, 0), "a list that is short by one has no entry");
     must(htm_index_count(kept, HTM_INDEX_LENGTH - 1) == -10, "a list that is short by one has no count");
     listed++;

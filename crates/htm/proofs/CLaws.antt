@@ -6,7 +6,7 @@ use mathlib.Core.Bool.{Bool, true, false}
 use mathlib.Core.List.{List}
 use lib.Dec.{leb}
 use lib.ListN.{length}
-use lib.IntN.{ℤ}
+use lib.IntN.{ℤ, pos}
 use borrow.Author.Tests.{le-leb, lt-leb}
 use Rattle.answer.specs.Answer.{Answer, refused, gives, check, then, with-value, Space, Name}
 use Rattle.answer.specs.Lent.{put, stored, room}
@@ -33,10 +33,10 @@ use Rattle.covering.specs.declared.Counts.{Counts}
 use Rattle.covering.specs.Cover.{cover, countsOf, coverCounts, countsList}
 use Rattle.htm.specs.Answers.{coverInto, coverAnswer, bothLists, coverAfter}
 use Rattle.index.specs.declared.Entry.{Entry}
-use Rattle.index.specs.Entries.{Width, numbers}
+use Rattle.index.specs.Entries.{Width, numbers, Placed}
 use Rattle.index.specs.Answers.{entryAnswer}
-use Rattle.htm_abi.specs.Values.{statusOf, cornersList, headerList, refusalOf}
-use Rattle.htm.specs.CalledFromC.{entryForC, entryAfterC, cornersForC, cornersAfterC, inBoth, readForC, rowsAfterC, headerAfterC, coverForC, coverAfterC, countsAfterC}
+use Rattle.htm_abi.specs.Values.{foundForC, statusOf, cornersList, headerList, refusalOf}
+use Rattle.htm.specs.CalledFromC.{entryRoom, entryInto, entryForC, entryAfterC, cornersForC, cornersAfterC, inBoth, readForC, rowsAfterC, headerAfterC, coverForC, coverAfterC, countsAfterC}
 
 -- ---- lengths are small: 32 bytes a name, 10508 a file
 
@@ -72,22 +72,29 @@ converted-short s f before n e =
 -- ---- an entry of an index
 
 module _ (i : ℕ) (l out : List ℤ) where
-  entered : (a : Answer Entry) → entryForC i l out ≡ a → (statusOf a ≡ statusOf (entryForC i l out)) × (stored (λ e before. put 0 (numbers e) before) a out ≡ entryAfterC i l out)
+  abbrev Enters : ℤ → List ℤ → Type 0
+  Enters number after = (number ≡ foundForC (entryForC i l out)) × (after ≡ entryAfterC i l out)
+
+  entered : (a : Answer Placed) → entryForC i l out ≡ a → Enters (foundForC a) (stored entryInto a out)
   unfolding entryAfterC
-  entered a e = (ap statusOf (sym e), ap (λ b. stored (λ x before. put 0 (numbers x) before) b out) (sym e))
+  entered a e = (ap foundForC (sym e), ap (λ b. stored entryInto b out) (sym e))
 
-  entry-into : (a : Answer Entry) → a ≡ entryAnswer i l → entryForC i l out ≡ then a (λ e. room Width out e)
+  entry-into : (a : Answer Placed) → a ≡ entryAnswer i l → entryForC i l out ≡ then a (entryRoom out)
   unfolding entryForC
-  entry-into a e = ap (λ b. then b (λ x. room Width out x)) (sym e)
+  entry-into a e = ap (λ b. then b (entryRoom out)) (sym e)
 
-  pub no-entry : (n : ℕ) → refused n ≡ entryAnswer i l → (statusOf {A = Entry} (refused n) ≡ statusOf (entryForC i l out)) × (out ≡ entryAfterC i l out)
-  no-entry n e = entered (refused n) (entry-into (refused n) e)
+  pub entry-refused : (n : ℕ) → refused n ≡ entryAnswer i l → Enters (foundForC (refused n)) out
+  entry-refused n e = entered (refused n) (entry-into (refused n) e)
 
-  pub no-entry-room : (x : Entry) → gives x ≡ entryAnswer i l → length out < Width → (statusOf {A = Entry} (refused Space) ≡ statusOf (entryForC i l out)) × (out ≡ entryAfterC i l out)
-  no-entry-room x e h = entered (refused Space) (entry-into (gives x) e ∙ ap (λ t. check Space t (gives x)) (lt-leb Width (length out) h))
+  pub no-entry : gives Placed.nothing ≡ entryAnswer i l → Enters (pos 0) out
+  no-entry e = entered (gives Placed.nothing) (entry-into (gives Placed.nothing) e)
 
-  pub entry-put : (x : Entry) → gives x ≡ entryAnswer i l → Width ≤ length out → (statusOf (gives x) ≡ statusOf (entryForC i l out)) × (put 0 (numbers x) out ≡ entryAfterC i l out)
-  entry-put x e h = entered (gives x) (entry-into (gives x) e ∙ ap (λ t. check Space t (gives x)) (le-leb Width (length out) h))
+  module _ (x : Entry) (e : gives (Placed.found x) ≡ entryAnswer i l) where
+    pub no-entry-room : length out < Width → Enters (foundForC (refused Space)) out
+    no-entry-room h = entered (refused Space) (entry-into (gives (Placed.found x)) e ∙ ap (λ t. check Space t (gives (Placed.found x))) (lt-leb Width (length out) h))
+
+    pub entry-put : Width ≤ length out → Enters (pos 1) (put 0 (numbers x) out)
+    entry-put h = entered (gives (Placed.found x)) (entry-into (gives (Placed.found x)) e ∙ ap (λ t. check Space t (gives (Placed.found x))) (le-leb Width (length out) h))
 
 -- ---- corners
 

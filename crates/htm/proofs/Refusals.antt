@@ -19,7 +19,7 @@ use Rattle.region.specs.Converting.{convert}
 use Rattle.region.specs.Answers.{headerOf, rowsInto, readInto, readAnswer, readAfter, fileInto, fileAnswer, fileAfter}
 use Rattle.region.proofs.ConvertLaws.{refusal-stays}
 use Rattle.covering.specs.Cover.{cover, countsOf, coverCounts, countsList}
-use Rattle.index.specs.Entries.{numbers, withEntries}
+use Rattle.index.specs.Entries.{withEntries}
 use Rattle.index.specs.Exposures.{OwnerCapacity, isOwner}
 use Rattle.index.specs.Answers.{inList, beginning, adding, removing, beginAnswer, beginAfter, addAnswer, addAfter, removeAnswer, removeAfter}
 use Rattle.frames.specs.declared.Frames.{Frames}
@@ -27,7 +27,7 @@ use Rattle.frames.specs.Walk.{deliveredBy}
 use Rattle.frames.specs.Answers.{framesInto, walkOf, framesBy, framesList, framesAnswer, rangesAfter, numbersAfter}
 use Rattle.htm.specs.Answers.{coverInto, coverAnswer, bothLists, coverAfter}
 use Rattle.htm_abi.specs.Values.{cornersList, headerList, refusalOf}
-use Rattle.htm.specs.CalledFromC.{entryAfterC, cornersForC, cornersAfterC, inBoth, readForC, rowsAfterC, headerAfterC, coverForC, coverAfterC, countsAfterC, framesIntoC, framesForC, rangesAfterC, numbersAfterC, framesAfterC}
+use Rattle.htm.specs.CalledFromC.{entryInto, entryAfterC, cornersForC, cornersAfterC, inBoth, readForC, rowsAfterC, headerAfterC, coverForC, coverAfterC, countsAfterC, framesIntoC, framesForC, rangesAfterC, numbersAfterC, framesAfterC}
 use Rattle.trial.specs.declared.Setting.{Setting}
 use Rattle.trial.specs.declared.Trial.{Trial}
 use Rattle.trial.specs.Trials.{trialOf}
@@ -109,7 +109,8 @@ lent-lists-stay = (
   λ n l. not-stored (λ _. tt) withEntries (beginning l) l n,
   λ x n l. not-stored (λ _. tt) withEntries (adding x l) l n,
   λ k n l. not-stored (λ _. tt) withEntries (removing k l) l n,
-  λ i n l out. ap (λ a. stored (λ e before. put 0 (numbers e) before) a out),
+  λ i n l out. ap (λ a. stored entryInto a out),
+  λ i l out. ap (λ a. stored entryInto a out),
   λ o n l f ranges numbers e.
       let a = framesInto o l f ranges numbers in
       let v : File → Frames = λ x. framesBy (walkOf o l x) in

@@ -7,14 +7,16 @@
 --   inBoth n a list      what a call has to write, or its refusal; then 10 where the second lent list has fewer than n elements
 --   readForC, rowsAfterC, headerAfterC     the reader's header; the lent list and the header's afterwards (`headerList`)
 --   coverForC, coverAfterC, countsAfterC   the cover's counts; the lent list and the list of counts afterwards (`countsList`)
---   entryForC i l out, entryAfterC         the entry at place i of the index l, or the refusal, then 10; the lent list afterwards (`numbers`)
+--   entryRoom out p, entryInto p before    the room that an entry needs; the list with its numbers at the beginning (`numbers`). Nothing needs no room, and
+--                        leaves the list
+--   entryForC i l out, entryAfterC         the entry at place i of the index l, that there is none, or the refusal, then 10; the lent list afterwards
 --   framesForC .., rangesAfterC, numbersAfterC, framesAfterC   the counts of the frames delivered and of the tests; the range list, the list of numbers
 --                        and the list of counts afterwards
--- The other calls on an index answer `statusOf` and `numberForC` of what its calls answer (index/specs/Answers).
+-- The entry goes by `foundForC`. The other calls on an index answer `statusOf` and `numberForC` of what its calls answer (index/specs/Answers).
 use Prim.Native.Nat.{ℕ}
 use mathlib.Core.List.{List}
 use lib.IntN.{ℤ}
-use Rattle.answer.specs.Answer.{Answer, then, with-value}
+use Rattle.answer.specs.Answer.{Answer, gives, then, with-value}
 use Rattle.answer.specs.Lent.{put, stored, room}
 use Rattle.mesh.specs.declared.Corners.{Corners}
 use Rattle.mesh.specs.Identifiers.{corners}
@@ -23,8 +25,7 @@ use Rattle.region.specs.Reader.{File}
 use Rattle.region.specs.Answers.{headerOf, readInto, rowsInto}
 use Rattle.covering.specs.declared.Counts.{Counts}
 use Rattle.covering.specs.Cover.{cover, countsOf, coverCounts, countsList}
-use Rattle.index.specs.declared.Entry.{Entry}
-use Rattle.index.specs.Entries.{Width, numbers}
+use Rattle.index.specs.Entries.{Width, numbers, Placed, found, nothing}
 use Rattle.index.specs.Answers.{entryAnswer}
 use Rattle.frames.specs.declared.Frames.{Frames}
 use Rattle.frames.specs.Walk.{deliveredBy}
@@ -43,11 +44,19 @@ cornersAfterC i out = stored (λ c before. put 0 (cornersList c) before) (corner
 
 -- ---- an entry of an index
 
-unfoldable pub entryForC : ℕ → List ℤ → List ℤ → Answer Entry
-entryForC i l out = then (entryAnswer i l) (λ e. room Width out e)
+abbrev pub entryRoom : List ℤ → Placed → Answer Placed
+entryRoom out (found e) = room Width out (found e)
+entryRoom out nothing = gives nothing
+
+abbrev pub entryInto : Placed → List ℤ → List ℤ
+entryInto (found e) before = put 0 (numbers e) before
+entryInto nothing before = before
+
+unfoldable pub entryForC : ℕ → List ℤ → List ℤ → Answer Placed
+entryForC i l out = then (entryAnswer i l) (entryRoom out)
 
 unfoldable pub entryAfterC : ℕ → List ℤ → List ℤ → List ℤ
-entryAfterC i l out = stored (λ e before. put 0 (numbers e) before) (entryForC i l out) out
+entryAfterC i l out = stored entryInto (entryForC i l out) out
 
 -- ---- a file, with two lent lists
 

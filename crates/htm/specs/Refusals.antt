@@ -6,7 +6,7 @@
 -- region write into two lists, for C into three; there 10 comes after the owner and the file. A trial writes into two buffers, for C also into a list of
 -- numbers; there 10 comes after the settings too.
 --   SpaceLast     what is refused for another reason keeps its number, whatever list is lent
---   LentListsStay where a call refuses, every lent list is as it was
+--   LentListsStay where a call refuses, every lent list is as it was; so is that of the entry for C where there is none
 use Prim.Native.Nat.{ℕ}
 use mathlib.Core.Path.{_≡_}
 use mathlib.Core.List.{List}
@@ -21,6 +21,7 @@ use Rattle.region.specs.Writer.{writeIn}
 use Rattle.region.specs.Converting.{convert}
 use Rattle.region.specs.Answers.{readAnswer, readAfter, fileAnswer, fileAfter}
 use Rattle.index.specs.Exposures.{isOwner, Exposure, Key}
+use Rattle.index.specs.Entries.{nothing}
 use Rattle.index.specs.Answers.{beginAnswer, beginAfter, addAnswer, addAfter, removeAnswer, removeAfter}
 use Rattle.frames.specs.Answers.{framesAnswer, rangesAfter, numbersAfter}
 use Rattle.trial.specs.declared.Setting.{Setting}
@@ -62,6 +63,7 @@ LentListsStay =
     × ((x : Exposure) (n : ℕ) (l : List ℤ) → addAnswer x l ≡ refused n → addAfter x l ≡ l)
     × ((k : Key) (n : ℕ) (l : List ℤ) → removeAnswer k l ≡ refused n → removeAfter k l ≡ l)
     × ((i n : ℕ) (l out : List ℤ) → entryForC i l out ≡ refused n → entryAfterC i l out ≡ out)
+    × ((i : ℕ) (l out : List ℤ) → entryForC i l out ≡ gives nothing → entryAfterC i l out ≡ out)
     × ((o n : ℕ) (l : List ℤ) (f ranges numbers : List ℕ) → framesAnswer o l f ranges numbers ≡ refused n
     → (rangesAfter o l f ranges numbers ≡ ranges) × (numbersAfter o l f ranges numbers ≡ numbers))
     × ((o n : ℕ) (l : List ℤ) (f ranges numbers counts : List ℕ) → framesForC o l f ranges numbers counts ≡ refused n

@@ -8,7 +8,7 @@ use index::WIDTH;
 ghost use mathlib.Core.Path.{_≡_};
 ghost use Rattle.index.specs.Exposures.{key, exposure};
 ghost use Rattle.index.specs.Answers.{beginAnswer, beginAfter, addAnswer, addAfter, removeAnswer, removeAfter, countAnswer};
-ghost use Rattle.htm_abi.specs.Values.{numberForC, statusOf};
+ghost use Rattle.htm_abi.specs.Values.{numberForC, statusOf, foundForC};
 ghost use Rattle.htm.specs.CalledFromC.{entryForC, entryAfterC, framesForC, rangesAfterC, numbersAfterC, framesAfterC};
 
 // Makes a list an empty index: 0, or minus the number of the refusal.
@@ -46,10 +46,11 @@ pub extern "C" fn htm_index_count(index: &[i64]) -> i64
     htm_abi::number_or_minus(crate::index_count(index))
 }
 
-// The entry at a place, its six numbers at the beginning of `out`: 0, or minus the number of the refusal, 10 also where `out` has fewer elements.
+// The entry at a place: 1, with its six numbers at the beginning of `out`; 0 where there is none; or minus the number of the refusal, 10 also where there is an
+// entry and `out` has fewer elements.
 #[no_mangle]
 pub extern "C" fn htm_index_entry(index: &[i64], place: u32, out: &mut [i64]) -> i64
-    ensures { λ r. ⌜ r ≡ statusOf (entryForC place (now (index .entry)) (now (out .entry))) ⌝ }
+    ensures { λ r. ⌜ r ≡ foundForC (entryForC place (now (index .entry)) (now (out .entry))) ⌝ }
     ensures { λ r. ⌜ now (out .exit) ≡ entryAfterC place (now (index .entry)) (now (out .entry)) ⌝ }
 {
     let answer = crate::index_entry(index, place);
@@ -59,8 +60,9 @@ pub extern "C" fn htm_index_entry(index: &[i64], place: u32, out: &mut [i64]) ->
                 return htm_abi::minus(SPACE);
             }
             index_entries::store_entry(out, 0, e);
-            0
+            1
         }
+        EntryOf::Nothing => 0,
         EntryOf::Refused(n) => htm_abi::minus(n),
     }
 }

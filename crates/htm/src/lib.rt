@@ -202,7 +202,7 @@ pub fn index_count(index: &[i64]) -> Number
     index_calls::count(index)
 }
 
-// The entry at a place, counted from 0; refusals 10, 17.
+// The entry at a place, counted from 0, or that there is none; refusal 10.
 pub fn index_entry(index: &[i64], place: u32) -> EntryOf
     ensures { λ r. ⌜ entryGiven r ≡ entryAnswer place (now (index .entry)) ⌝ }
 {

@@ -3,6 +3,7 @@
 --   orZero a        the identifier, or 0 for a refusal
 --   numberForC a    the number that is asked for, or minus the number of the refusal
 --   heldForC a      1 held, 0 not, or minus the number of the refusal
+--   foundForC a     1 where there is an entry, 0 where there is none, or minus the number of the refusal
 --   statusOf a      0, or minus the number of the refusal
 --   cornersList c   x, y, z of each corner
 --   headerList h    count, depth, budget
@@ -16,6 +17,7 @@ use Rattle.vector.specs.Vectors.{three}
 use Rattle.mesh.specs.declared.Corners.{Corners}
 use Rattle.region.specs.declared.Header.{Header}
 use Rattle.region.specs.Reader.{File, read}
+use Rattle.index.specs.Entries.{Placed, found, nothing}
 
 -- ---- answers as numbers
 
@@ -30,6 +32,11 @@ numberForC (gives n) = pos n
 abbrev pub heldForC : Answer Bool → ℤ
 heldForC (refused n) = negℤ (pos n)
 heldForC (gives held) = cond held (pos 1) (pos 0)
+
+abbrev pub foundForC : Answer Placed → ℤ
+foundForC (refused n) = negℤ (pos n)
+foundForC (gives nothing) = pos 0
+foundForC (gives (found e)) = pos 1
 
 abbrev pub statusOf : {A : Type 0} → Answer A → ℤ
 statusOf (refused n) = negℤ (pos n)

@@ -4,7 +4,7 @@
 --   addAnswer, removeAnswer, beginAnswer    what the call answers: that it was done, or its refusal
 --   addAfter, removeAfter, beginAfter       the list afterwards: the entries in the place of the old ones, or all as it was after a refusal
 --   countAnswer l      how many entries there are; refusal 10
---   entryAnswer i l    the entry at place i; refusals 10, 17
+--   entryAnswer i l    the entry at place i, or that there is none; refusal 10
 --   changeGiven r, entryGiven r   what a call gave
 use Prim.Native.Nat.{ℕ}
 use mathlib.Core.List.{List, []}
@@ -18,7 +18,7 @@ use Rattle.index.specs.declared.Entry.{Entry}
 use Rattle.index.specs.declared.Change.{Change}
 use Rattle.index.specs.declared.EntryOf.{EntryOf}
 use Rattle.index.specs.Exposures.{isOwner, Exposure, Key, keyOf, answered}
-use Rattle.index.specs.Entries.{IndexLength, entryOf, countIn, entriesIn, withEntries, entering, withdrawing, placed}
+use Rattle.index.specs.Entries.{IndexLength, entryOf, countIn, entriesIn, withEntries, entering, withdrawing, Placed, found, nothing, placed}
 
 -- what is answered on a list that is long enough
 abbrev pub inList : {A : Type 0} → List ℤ → Answer A → Answer A
@@ -54,13 +54,14 @@ beginAfter l = stored withEntries (beginning l) l
 unfoldable pub countAnswer : List ℤ → Answer ℕ
 countAnswer l = inList l (gives (countIn l))
 
-unfoldable pub entryAnswer : ℕ → List ℤ → Answer Entry
-entryAnswer i l = inList l (placed i (entriesIn l))
+unfoldable pub entryAnswer : ℕ → List ℤ → Answer Placed
+entryAnswer i l = inList l (gives (placed i (entriesIn l)))
 
 abbrev pub changeGiven : Change → Answer (Unit {0})
 changeGiven Change.Made = gives tt
 changeGiven (Change.Refused n) = refused n
 
-abbrev pub entryGiven : EntryOf → Answer Entry
-entryGiven (EntryOf.Gives e) = gives e
+abbrev pub entryGiven : EntryOf → Answer Placed
+entryGiven (EntryOf.Gives e) = gives (found e)
+entryGiven EntryOf.Nothing = gives nothing
 entryGiven (EntryOf.Refused n) = refused n

@@ -18,7 +18,8 @@
 --   withdrawn k es    without the first entry that has the key k
 --   hasRoom es        one entry more has a place in the list, whoever's it is
 --   entering          the entries after an add, or the refusal: 15 twice, 16 full; withdrawing: after a removal, or 17 absent
---   placed i es       the entry at place i, counted from 0, or the refusal 17
+--   Placed            what stands at a place: an entry, or nothing
+--   placed i es       what stands at place i, counted from 0: nothing past the last entry
 use Prim.Native.Nat.{ℕ, zero, suc, _+_, _*_, min}
 use mathlib.Core.Bool.{Bool, cond, not, _&&_, _||_}
 use mathlib.Core.List.{List, [], _∷_, _++_}
@@ -27,7 +28,7 @@ use lib.ListN.{length, getD, drop}
 use lib.IntN.{ℤ, pos, negsuc}
 use lib.Signed.{ltZ}
 use Rattle.algebra.specs.Lists.{every, some}
-use Rattle.answer.specs.Answer.{Answer, refused, gives, check, Twice, Full, Absent}
+use Rattle.answer.specs.Answer.{Answer, gives, check, Twice, Full, Absent}
 use Rattle.vector.specs.declared.Vec3.{Vec3}
 use Rattle.vector.specs.Numbers.{eqZ}
 use Rattle.vector.specs.Vectors.{vec, three}
@@ -115,7 +116,11 @@ entering k e es =
 abbrev pub withdrawing : Key → List Entry → Answer (List Entry)
 withdrawing k es = check Absent (some (isKeyed k) es) (gives (withdrawn k es))
 
-unfoldable pub placed : ℕ → List Entry → Answer Entry
-placed i [] = refused Absent
-placed zero (e ∷ es) = gives e
+pub data Placed : Type 0 where
+  found : Entry → Placed
+  nothing : Placed
+
+unfoldable pub placed : ℕ → List Entry → Placed
+placed i [] = nothing
+placed zero (e ∷ es) = found e
 placed (suc i) (e ∷ es) = placed i es

@@ -30,8 +30,9 @@ pub enum Change {
     Refused(u32),
 }
 
-// One entry, or the number of the first check that failed.
+// The entry at a place, that there is none, or the number of the first check that failed.
 pub enum EntryOf {
     Gives(Entry),
+    Nothing,
     Refused(u32),
 }

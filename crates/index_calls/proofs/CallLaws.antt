@@ -20,7 +20,7 @@ use Rattle.index.specs.declared.Entry.{Entry}
 use Rattle.index.specs.declared.Change.{Change}
 use Rattle.index.specs.declared.Change.the-variants.{Made, Refused}
 use Rattle.index.specs.Exposures.{IndexCapacity, OwnerCapacity, Exposure, Key, hasPlace}
-use Rattle.index.specs.Entries.{Width, IndexLength, numbers, entryAt, precedes, isOwned, isKeyed, countIn, entriesFrom, entriesIn, written, withEntries, inserted, withdrawn, hasRoom, entering, withdrawing, placed}
+use Rattle.index.specs.Entries.{Width, IndexLength, numbers, entryAt, precedes, isOwned, isKeyed, countIn, entriesFrom, entriesIn, written, withEntries, inserted, withdrawn, hasRoom, entering, withdrawing, Placed, nothing, placed}
 use Rattle.index.specs.Answers.{inList, beginning, adding, removing, beginAnswer, beginAfter, addAnswer, addAfter, removeAnswer, removeAfter, countAnswer, entryAnswer, changeGiven}
 use Rattle.index.proofs.WrittenLaws.{length-entries}
 use Rattle.index_entries.specs.Steps.{leading, staying, raised, lowered}
@@ -154,15 +154,15 @@ module _ (l : List ℤ) (n : ℕ) (long : IndexLength ≤ length l) (is : n ≡ 
 
 -- ---- how many entries there are, and one by its place
 
-placed-at : (n : ℕ) (l : List ℤ) (a i : ℕ) → i < n → placed i (entriesFrom n (drop a l)) ≡ gives (entryAt l (a + Width * i))
+placed-at : (n : ℕ) (l : List ℤ) (a i : ℕ) → i < n → placed i (entriesFrom n (drop a l)) ≡ Placed.found (entryAt l (a + Width * i))
 unfolding placed entriesFrom
 placed-at zero l a i h = absurd (omega arith)
-placed-at (suc n) l a zero h = let e : a ≡ a + Width * 0 = omega arith in ap gives (entry-drop a l ∙ ap (entryAt l) e)
+placed-at (suc n) l a zero h = let e : a ≡ a + Width * 0 = omega arith in ap Placed.found (entry-drop a l ∙ ap (entryAt l) e)
 placed-at (suc n) l a (suc i) h =
     let e : a + Width + Width * i ≡ a + Width * suc i = omega arith in
-    ap (λ m. placed i (entriesFrom n m)) (drop-drop Width a l) ∙ placed-at n l (a + Width) i (omega arith) ∙ ap (λ k. gives (entryAt l k)) e
+    ap (λ m. placed i (entriesFrom n m)) (drop-drop Width a l) ∙ placed-at n l (a + Width) i (omega arith) ∙ ap (λ k. Placed.found (entryAt l k)) e
 
-placed-past : (n : ℕ) (l : List ℤ) (i : ℕ) → n ≤ i → placed i (entriesFrom n l) ≡ refused Absent
+placed-past : (n : ℕ) (l : List ℤ) (i : ℕ) → n ≤ i → placed i (entriesFrom n l) ≡ nothing
 unfolding placed entriesFrom
 placed-past zero l i h = refl
 placed-past (suc n) l zero h = absurd (omega arith)
@@ -183,14 +183,14 @@ module _ (l : List ℤ) where
     none-placed h = let e : leb IndexLength (length l) ≡ false = lt-leb IndexLength (length l) h in rw e refl
 
     module _ (long : IndexLength ≤ length l) (n : ℕ) (is : n ≡ countIn l) where
-      pub is-past : n ≤ i → refused Absent ≡ entryAnswer i l
+      pub is-past : n ≤ i → gives nothing ≡ entryAnswer i l
       unfolding entryAnswer entriesIn
       is-past h =
           let e : leb IndexLength (length l) ≡ true = le-leb IndexLength (length l) long in
-          rw e (sym (placed-past (countIn l) (drop 1 l) i (omega arith)))
+          rw e (ap gives (sym (placed-past (countIn l) (drop 1 l) i (omega arith))))
 
-      pub is-placed : i < n → gives (entryAt l (1 + Width * i)) ≡ entryAnswer i l
+      pub is-placed : i < n → gives (Placed.found (entryAt l (1 + Width * i))) ≡ entryAnswer i l
       unfolding entryAnswer entriesIn
       is-placed h =
           let e : leb IndexLength (length l) ≡ true = le-leb IndexLength (length l) long in
-          rw e (sym (placed-at (countIn l) l 1 i (omega arith)))
+          rw e (ap gives (sym (placed-at (countIn l) l 1 i (omega arith))))

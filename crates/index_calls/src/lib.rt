@@ -116,7 +116,7 @@ pub fn count(index: &[i64]) -> Number
     Number::Gives(index_entries::count_in(index) as u64)
 }
 
-// The entry at a place, counted from 0; refusals 10, 17.
+// The entry at a place, counted from 0, or that there is none; refusal 10.
 pub fn entry(index: &[i64], place: u32) -> EntryOf
     ensures { λ r. ⌜ entryGiven r ≡ entryAnswer place (now (index .entry)) ⌝ }
 {
@@ -125,7 +125,7 @@ pub fn entry(index: &[i64], place: u32) -> EntryOf
     }
     let i = place as usize;
     if index_entries::count_in(index) <= i {
-        return EntryOf::Refused(ABSENT);
+        return EntryOf::Nothing;
     }
     EntryOf::Gives(index_entries::entry_at(index, 1 + WIDTH * i))
 }

@@ -2,6 +2,7 @@
 use native.Mathlib.Omega.{arith}
 use mathlib.Core.Path.{ap, _∙_}
 use Rattle.answer.specs.Answer.{gives}
+use Rattle.index.specs.Entries.{found}
 use Rattle.index_calls.proofs.CallLaws.{none-placed, is-past, is-placed}
 use Rattle.index_calls.proofs.entry.Statement.{statement}
 use Rattle.index_calls.proofs.entry.Tie as tie
@@ -19,4 +20,4 @@ entry-spec =
     (λ c.
     let k = c .before .before in
     let s = k .before in
-    ap gives (c .entry-at .ensures) ∙ is-placed (s .before .args .index .now) (s .before .args .place) (s .if1 .left) (k .count-in .result) (k .count-in .ensures .0) (omega arith)))
+    ap (λ e. gives (found e)) (c .entry-at .ensures) ∙ is-placed (s .before .args .index .now) (s .before .args .place) (s .if1 .left) (k .count-in .result) (k .count-in .ensures .0) (omega arith)))

@@ -1,16 +1,17 @@
--- `htm::index_from_c::htm_index_entry` finds the entry, checks the lent list's length, and stores it. Assumes nothing.
+-- `htm::index_from_c::htm_index_entry` finds the entry, checks the lent list's length, and stores it; where there is none nothing is written. Assumes nothing.
 use native.Mathlib.Omega.{arith}
 use mathlib.Core.Path.{_≡_, sym, ap, _∙_}
 use denote.Ref.{now}
 use Rattle.algebra.proofs.Sized.{held}
 use Rattle.answer.specs.Answer.{gives}
+use Rattle.index.specs.Entries.{Placed}
 use Rattle.index.specs.Answers.{entryAnswer, entryGiven}
-use Rattle.htm.proofs.CLaws.{no-entry, no-entry-room, entry-put}
+use Rattle.htm.proofs.CLaws.{entry-refused, no-entry, no-entry-room, entry-put}
 use Rattle.htm.proofs.index_from_c.htm_index_entry.Statement.{statement}
 use Rattle.htm.proofs.index_from_c.htm_index_entry.Tie as tie
 
 -- the entry that was found, by the rule
-found : (c : tie.After-answer) → gives (c .answer .given .0 .0) ≡ entryAnswer (c .before .before .before .args .place) (now (c .before .before .before .args .index))
+found : (c : tie.After-answer) → gives (Placed.found (c .answer .given .0 .0)) ≡ entryAnswer (c .before .before .before .args .place) (now (c .before .before .before .args .index))
 found c = sym (ap entryGiven (c .answer .given .1)) ∙ c .before .before .index-entry .ensures
 
 pub htm-index-entry-spec : {M : Type 1} → statement M
@@ -28,6 +29,7 @@ htm-index-entry-spec =
     (held (m .1) tt .eq ∙ m .0 ∙ k .0, k .1))
     (λ c κs. omega (arith, c .before .if1 .left))
     (λ c. c .match .keys2)
+    (λ c. c .match .keys3)
     (λ c κs. tt)
     (λ c. c .before .store-entry .kept .0)
     (λ c.
@@ -36,7 +38,10 @@ htm-index-entry-spec =
     let k = entry-put (s .place) (now (s .index)) (now (s .out)) _ (found a) (omega (arith, c .before .before .before .if1 .left)) in
     (k .0, c .before .store-entry .ensures ∙ k .1))
     (λ c.
+    let s = c .before .before .before .args in
+    no-entry (s .place) (now (s .index)) (now (s .out)) (sym (ap entryGiven (c .enum-told .given .1)) ∙ c .before .before .index-entry .ensures))
+    (λ c.
     let s = c .before .before .before .before .before .args in
     let m = c .minus2 .ensures in
-    let k = no-entry (s .place) (now (s .index)) (now (s .out)) _ (sym (ap entryGiven (c .before .before .answer2 .given .1)) ∙ c .before .before .before .before .index-entry .ensures) in
+    let k = entry-refused (s .place) (now (s .index)) (now (s .out)) _ (sym (ap entryGiven (c .before .before .answer2 .given .1)) ∙ c .before .before .before .before .index-entry .ensures) in
     (held (m .1) tt .eq ∙ m .0 ∙ k .0, k .1)))
