@@ -8,7 +8,9 @@
 --   rangesAfter         the range list afterwards: as the cover leaves it
 --   numbersAfter        the list of numbers afterwards: those delivered, from element 0 on; the other elements stay
 --   framesGiven r       what the call gave
+--   FramesCall ..       it gave r and left both lists, all by these definitions: the contract of the call
 use Prim.Native.Nat.{ℕ, _*_}
+use mathlib.Core.Path.{_≡_}
 use mathlib.Core.List.{List, [], _∷_}
 use lib.Dec.{leb}
 use lib.ListN.{length}
@@ -58,3 +60,8 @@ numbersAfter o l f ranges numbers = stored (λ x before. put 0 (deliveredBy (wal
 abbrev pub framesGiven : FramesOf → Answer Frames
 framesGiven (FramesOf.Gives r) = gives r
 framesGiven (FramesOf.Refused n) = refused n
+
+pub record FramesCall (o : ℕ) (l : List ℤ) (f ranges numbers : List ℕ) (r : FramesOf) (lists left : List ℕ) : Type 0 where
+  pub answer : framesGiven r ≡ framesAnswer o l f ranges numbers
+  pub lists-left : lists ≡ rangesAfter o l f ranges numbers
+  pub numbers-left : left ≡ numbersAfter o l f ranges numbers

@@ -26,18 +26,18 @@ use Rattle.index.specs.Answers.{inList}
 use Rattle.frames.specs.declared.Frames.{Frames}
 use Rattle.frames.specs.declared.FramesOf.{FramesOf}
 use Rattle.frames.specs.Walk.{Met, deliveredBy, testsOf}
-use Rattle.frames.specs.Answers.{framesInto, walkOf, framesBy, framesAnswer, rangesAfter, numbersAfter}
+use Rattle.frames.specs.Answers.{framesInto, walkOf, framesBy, framesAnswer, rangesAfter, numbersAfter, FramesCall}
 use Rattle.frames_walk.specs.Steps.{countsBy}
 use Rattle.frames_walk.proofs.MetLaws.{length-delivered, tests-counted}
 use Rattle.frames_calls.specs.declared.Searched.{Searched}
-use Rattle.frames_calls.specs.Searches.{walkBeside, SearchesRows, deliveryOf, Answers}
+use Rattle.frames_calls.specs.Searches.{walkBeside, SearchesRows, deliveryOf}
 
 -- the counts of a walk are its answer
 counted : (ms : List Met) → deliveryOf (countsBy ms) ≡ framesBy ms
 counted ms i = record { delivered = sym (length-delivered ms) i; tests = sym (tests-counted ms) i }
 
 module _ (o : ℕ) (l : List ℤ) (f ranges numbers : List ℕ) where
-  refuses : (n : ℕ) → framesInto o l f ranges numbers ≡ refused n → Answers o l f ranges numbers (FramesOf.Refused n) ranges numbers
+  refuses : (n : ℕ) → framesInto o l f ranges numbers ≡ refused n → FramesCall o l f ranges numbers (FramesOf.Refused n) ranges numbers
   unfolding framesAnswer rangesAfter numbersAfter
   refuses n e = record {
     answer = sym (ap (with-value (λ x. framesBy (walkOf o l x))) e);
@@ -49,11 +49,11 @@ module _ (o : ℕ) (l : List ℤ) (f ranges numbers : List ℕ) where
   abbrev rest : File → Answer File
   rest x = check Space (leb (4 * budgetOf (x .budget)) (length ranges)) (check Space (leb OwnerCapacity (length numbers)) (inList l (gives x)))
 
-  pub no-owner : isOwner o ≡ false → Answers o l f ranges numbers (FramesOf.Refused Owner) ranges numbers
+  pub no-owner : isOwner o ≡ false → FramesCall o l f ranges numbers (FramesOf.Refused Owner) ranges numbers
   no-owner e = refuses Owner (ap (λ t. check Owner t (then (read f) rest)) e)
 
   module _ (own : isOwner o ≡ true) where
-    pub file-refused : (n : ℕ) → refused n ≡ with-value headerOf (read f) → Answers o l f ranges numbers (FramesOf.Refused n) ranges numbers
+    pub file-refused : (n : ℕ) → refused n ≡ with-value headerOf (read f) → FramesCall o l f ranges numbers (FramesOf.Refused n) ranges numbers
     file-refused n e = refuses n (ap (λ t. check Owner t (then (read f) rest)) own ∙ ap (λ a. then a rest) (value-refused headerOf (read f) n (sym e)))
 
     module _ (h : Header) (rs : List ℤ) (k : Decoded f h rs) where
@@ -70,22 +70,22 @@ module _ (o : ℕ) (l : List ℤ) (f ranges numbers : List ℕ) where
         checked : framesInto o l f ranges numbers ≡ check Space a (check Space b (check Space c (gives x)))
         checked = into ∙ (λ i. check Space (p i) (check Space (q i) (check Space (r i) (gives x))))
 
-      pub no-ranges : length ranges < 4 * budgetOf (h .budget) → Answers o l f ranges numbers (FramesOf.Refused Space) ranges numbers
+      pub no-ranges : length ranges < 4 * budgetOf (h .budget) → FramesCall o l f ranges numbers (FramesOf.Refused Space) ranges numbers
       no-ranges s = refuses Space (checked (lt-leb (4 * B) (length ranges) (omega (arith, budget-same k))) refl refl)
 
       module _ (s : 4 * budgetOf (h .budget) ≤ length ranges) where
         roomy : leb (4 * B) (length ranges) ≡ true
         roomy = le-leb (4 * B) (length ranges) (omega (arith, budget-same k))
 
-        pub no-numbers : length numbers < OwnerCapacity → Answers o l f ranges numbers (FramesOf.Refused Space) ranges numbers
+        pub no-numbers : length numbers < OwnerCapacity → FramesCall o l f ranges numbers (FramesOf.Refused Space) ranges numbers
         no-numbers t = refuses Space (checked roomy (lt-leb OwnerCapacity (length numbers) t) refl)
 
-        pub no-index : OwnerCapacity ≤ length numbers → length l < IndexLength → Answers o l f ranges numbers (FramesOf.Refused Space) ranges numbers
+        pub no-index : OwnerCapacity ≤ length numbers → length l < IndexLength → FramesCall o l f ranges numbers (FramesOf.Refused Space) ranges numbers
         no-index t u = refuses Space (checked roomy (le-leb OwnerCapacity (length numbers) t) (lt-leb IndexLength (length l) u))
 
         pub delivered : OwnerCapacity ≤ length numbers → IndexLength ≤ length l → (r : Searched) (lists left : List ℕ)
             → SearchesRows o l (h .depth) (budgetOf (h .budget)) rs (h .count) ranges numbers r lists left
-            → Answers o l f ranges numbers (FramesOf.Gives (deliveryOf (r .tests))) lists left
+            → FramesCall o l f ranges numbers (FramesOf.Gives (deliveryOf (r .tests))) lists left
         unfolding framesAnswer rangesAfter numbersAfter walkOf
         delivered t u r lists left w =
             let v = w (x .region) (k .rows) in

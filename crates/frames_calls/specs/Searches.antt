@@ -2,7 +2,6 @@
 --   Leaves ..            what a search of a region leaves; SearchesRows: of every region that has these rows
 --   FileIs h rs          rs is what some file with the header h was decoded to
 --   deliveryOf t         the answer by the counts of a walk
---   Answers ..           a call gave r, and left both lists, by the rule
 use Prim.Native.Nat.{ℕ, _+_, _*_, _≤_}
 use mathlib.Core.Path.{_≡_}
 use mathlib.Core.List.{List}
@@ -13,9 +12,7 @@ use Rattle.region.specs.declared.Header.{Header}
 use Rattle.covering.specs.Cover.{Cover, cutting, listed, countsOf, bothListed}
 use Rattle.index.specs.Exposures.{OwnerCapacity}
 use Rattle.frames.specs.declared.Frames.{Frames}
-use Rattle.frames.specs.declared.FramesOf.{FramesOf}
 use Rattle.frames.specs.Walk.{entriesOf, Met, walk, deliveredBy}
-use Rattle.frames.specs.Answers.{framesAnswer, rangesAfter, numbersAfter, framesGiven}
 use Rattle.frames_walk.specs.declared.Tests.{Tests}
 use Rattle.frames_walk.specs.Steps.{countsBy}
 use Rattle.covering_walk.specs.Walk.{RowsOf}
@@ -41,8 +38,3 @@ FileIs h rs = (f : List ℕ) × Decoded f h rs
 
 abbrev pub deliveryOf : Tests → Frames
 deliveryOf t = record { delivered = t .unchecked + t .held; tests = t .held + t .discarded }
-
-pub record Answers (o : ℕ) (l : List ℤ) (f ranges numbers : List ℕ) (r : FramesOf) (lists left : List ℕ) : Type 0 where
-  pub answer : framesGiven r ≡ framesAnswer o l f ranges numbers
-  pub lists-left : lists ≡ rangesAfter o l f ranges numbers
-  pub numbers-left : left ≡ numbersAfter o l f ranges numbers

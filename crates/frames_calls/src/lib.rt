@@ -21,10 +21,10 @@ ghost use Prim.Native.Nat.{ℕ, _+_, _*_, _-_, _≤_, _<_};
 ghost use lib.ListN.{length};
 ghost use Rattle.index.specs.Exposures.{OwnerCapacity, isOwner};
 ghost use Rattle.index.specs.Entries.{IndexLength};
-ghost use Rattle.frames.specs.Answers.{framesAnswer, rangesAfter, numbersAfter, framesGiven};
+ghost use Rattle.frames.specs.Answers.{FramesCall};
 ghost use Rattle.covering_walk.specs.Walk.{SomeRows};
 ghost use Rattle.covering_calls.specs.Decoded.{Decoded};
-ghost use Rattle.frames_calls.specs.Searches.{SearchesRows, FileIs, Answers, deliveryOf};
+ghost use Rattle.frames_calls.specs.Searches.{SearchesRows, FileIs, deliveryOf};
 
 // What a search gives: the counts of the cover, and what became of the entries.
 pub struct Searched {
@@ -84,7 +84,9 @@ fn frames_in(
 ) -> FramesOf
     requires { ⌜ FileIs h (now rows) ⌝ }
     requires { ⌜ isOwner owner ≡ true ⌝ }
-    ensures { λ r. ⌜ ((f : List ℕ) → Decoded f h (now (rows .entry)) → Answers owner (now (index .entry)) f (now (ranges .entry)) (now (numbers .entry)) r (now (ranges .exit)) (now (numbers .exit))) ⌝ }
+    ensures { λ r. ⌜ ((f : List ℕ) → Decoded f h (now (rows .entry))
+        → FramesCall owner (now (index .entry)) f (now (ranges .entry)) (now (numbers .entry))
+        r (now (ranges .exit)) (now (numbers .exit))) ⌝ }
 {
     let budget = limits::budget_of(h.budget);
     if ranges.len() < 4 * budget {
@@ -118,9 +120,8 @@ pub fn frames(
     ranges: &mut [u64],
     numbers: &mut [u32],
 ) -> FramesOf
-    ensures { λ r. ⌜ framesGiven r ≡ framesAnswer owner (now (index .entry)) (now (file .entry)) (now (ranges .entry)) (now (numbers .entry)) ⌝ }
-    ensures { λ r. ⌜ now (ranges .exit) ≡ rangesAfter owner (now (index .entry)) (now (file .entry)) (now (ranges .entry)) (now (numbers .entry)) ⌝ }
-    ensures { λ r. ⌜ now (numbers .exit) ≡ numbersAfter owner (now (index .entry)) (now (file .entry)) (now (ranges .entry)) (now (numbers .entry)) ⌝ }
+    ensures { λ r. ⌜ FramesCall owner (now (index .entry)) (now (file .entry)) (now (ranges .entry)) (now (numbers .entry))
+        r (now (ranges .exit)) (now (numbers .exit)) ⌝ }
 {
     if OWNERS <= owner {
         return FramesOf::Refused(OWNER);

@@ -20,18 +20,12 @@ use Rattle.frames.specs.Walk.{deliveredBy}
 use Rattle.frames.specs.Answers.{framesInto, walkOf, framesBy, framesList, frameCounts, framesAnswer, rangesAfter, numbersAfter}
 use Rattle.htm.specs.Answers.{bothLists}
 use Rattle.htm_abi.specs.Values.{statusOf, refusalOf}
-use Rattle.htm.specs.CalledFromC.{inBoth, framesIntoC, framesForC, rangesAfterC, numbersAfterC, framesAfterC}
+use Rattle.htm.specs.CalledFromC.{inBoth, framesIntoC, framesForC, rangesAfterC, numbersAfterC, framesAfterC, FramesCallC}
 
 module _ (o : ℕ) (l : List ℤ) (f ranges numbers counts : List ℕ) where
-  pub record Frames (status : ℤ) (xs ns cs : List ℕ) : Type 0 where
-    pub status-is : status ≡ statusOf (framesForC o l f ranges numbers counts)
-    pub ranges-left : xs ≡ rangesAfterC o l f ranges numbers counts
-    pub numbers-left : ns ≡ numbersAfterC o l f ranges numbers counts
-    pub counts-left : cs ≡ framesAfterC o l f ranges numbers counts
-
   -- what there is to write, or the refusal
   frames-by : (a : Answer File) → framesIntoC o l f ranges numbers counts ≡ a
-      → Frames (statusOf (with-value (λ x. framesBy (walkOf o l x)) a)) (stored bothLists a ranges) (stored (λ x before. put 0 (deliveredBy (walkOf o l x)) before) a numbers)
+      → FramesCallC o l f ranges numbers counts (statusOf (with-value (λ x. framesBy (walkOf o l x)) a)) (stored bothLists a ranges) (stored (λ x before. put 0 (deliveredBy (walkOf o l x)) before) a numbers)
       (stored (λ r before. put 0 (framesList r) before) (with-value (λ x. framesBy (walkOf o l x)) a) counts)
   unfolding framesForC rangesAfterC numbersAfterC framesAfterC
   frames-by a e = record {
@@ -63,7 +57,7 @@ module _ (o : ℕ) (l : List ℤ) (f ranges numbers counts : List ℕ) where
     refusals true (refused n) = refl
     refusals true (gives x) = in-any-case x (leb (4 * budgetOf (x .budget)) (length ranges)) (leb OwnerCapacity (length numbers)) (leb IndexLength (length l))
 
-    pub short-frames : Frames (statusOf (check Owner (isOwner o) (refusalOf f))) ranges numbers counts
+    pub short-frames : FramesCallC o l f ranges numbers counts (statusOf (check Owner (isOwner o) (refusalOf f))) ranges numbers counts
     short-frames = refused-frames (check Owner (isOwner o) (refusalOf f)) (always (framesInto o l f ranges numbers) ∙ refusals (isOwner o) (read f)) (never (isOwner o) (read f))
       where
         -- it gives nothing
@@ -75,8 +69,8 @@ module _ (o : ℕ) (l : List ℤ) (f ranges numbers counts : List ℕ) where
         never true (refused n) = (n, refl)
         never true (gives x) = (Space, refl)
 
-        refused-frames : (a : Answer File) → framesIntoC o l f ranges numbers counts ≡ a → Never a → Frames (statusOf a) ranges numbers counts
-        refused-frames a e n = subst (λ b. Frames (statusOf b) ranges numbers counts) (sym (n .1)) (frames-by (refused (n .0)) (e ∙ n .1))
+        refused-frames : (a : Answer File) → framesIntoC o l f ranges numbers counts ≡ a → Never a → FramesCallC o l f ranges numbers counts (statusOf a) ranges numbers counts
+        refused-frames a e n = subst (λ b. FramesCallC o l f ranges numbers counts (statusOf b) ranges numbers counts) (sym (n .1)) (frames-by (refused (n .0)) (e ∙ n .1))
 
   -- enough
   module _ (h : frameCounts ≤ length counts) where
@@ -85,7 +79,7 @@ module _ (o : ℕ) (l : List ℤ) (f ranges numbers counts : List ℕ) where
     enough-counts (gives x) = ap (λ t. check Space t (gives x)) (le-leb frameCounts (length counts) h)
 
     pub long-frames : (a : Answer declared.Frames) (xs ns : List ℕ) → a ≡ framesAnswer o l f ranges numbers → xs ≡ rangesAfter o l f ranges numbers → ns ≡ numbersAfter o l f ranges numbers
-        → Frames (statusOf a) xs ns (stored (λ r before. put 0 (framesList r) before) a counts)
+        → FramesCallC o l f ranges numbers counts (statusOf a) xs ns (stored (λ r before. put 0 (framesList r) before) a counts)
     unfolding framesAnswer rangesAfter numbersAfter
     long-frames a xs ns e g k =
         let w = frames-by (framesInto o l f ranges numbers) (enough-counts (framesInto o l f ranges numbers)) in

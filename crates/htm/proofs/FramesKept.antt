@@ -44,7 +44,7 @@ use Rattle.frames.specs.Answers.{framesInto, walkOf, framesBy, framesAnswer, ra
 use Rattle.frames.proofs.WalkLaws.{dispositionIn, walk-all, delivered-only, tallied, only-same, tally-same, only-every, only-length}
 use Rattle.htm.specs.Promise.{CoverSound}
 use Rattle.htm.specs.Answers.{coverInto, coverAnswer, bothLists, coverAfter}
-use Rattle.htm.specs.Frames.{entriesBy, outerOnly, Delivers, Frames, Delivered, FramesOfAnswers, FramesOfCalls}
+use Rattle.htm.specs.Frames.{entriesBy, outerOnly, Delivers, Frames, Delivered, FramesOfCalls}
 use Rattle.htm.proofs.PromiseKept.{outer-proper, inner-proper, kept}
 
 -- ---- an entry of an index
@@ -214,7 +214,8 @@ module _ (f ranges : List ℕ) (x : File) (t : Into f ranges x) where
   unfolding coverAfter
   cover-leaves = ap (λ a. stored bothLists a ranges) covers
 
-pub frames-answers : FramesOfAnswers
+pub frames-answers : (o : ℕ) (l : List ℤ) (f ranges numbers : List ℕ) (r : declared.Frames) → IsIndex l → framesAnswer o l f ranges numbers ≡ gives r
+    → Delivered o l f ranges numbers r (rangesAfter o l f ranges numbers) (numbersAfter o l f ranges numbers)
 unfolding framesAnswer rangesAfter numbersAfter
 frames-answers o l f ranges numbers r i e =
     let v = value-gives (λ y. framesBy (walkOf o l y)) (framesInto o l f ranges numbers) r e in
@@ -242,5 +243,5 @@ frames-answers o l f ranges numbers r i e =
     }
 
 pub frames-calls : FramesOfCalls
-frames-calls o l f ranges numbers lists left r i e a b =
-    subst₂ (λ x y. Delivered o l f ranges numbers r x y) (sym a) (sym b) (frames-answers o l f ranges numbers r i (sym e))
+frames-calls o l f ranges numbers lists left r i k =
+    subst₂ (λ x y. Delivered o l f ranges numbers r x y) (sym (k .lists-left)) (sym (k .numbers-left)) (frames-answers o l f ranges numbers r i (sym (k .answer)))

@@ -39,8 +39,7 @@ left-index : (h : List Call) (rs : List Change) (l : List ℤ) → Ran h rs l �
 left-index h rs l r = history-kept .kept (r .start) l h rs (r .empty) (r .numbered) (r .runs) .index
 
 pub frames-histories : FramesOfHistories
-frames-histories o h rs l f ranges numbers lists left r ran e a b =
-    (own-entries o h rs l ran, frames-calls o l f ranges numbers lists left r (left-index h rs l ran) e a b)
+frames-histories o h rs l f ranges numbers lists left r ran k = (own-entries o h rs l ran, frames-calls o l f ranges numbers lists left r (left-index h rs l ran) k)
 
 pub trials-histories : TrialsOfHistories
 trials-histories o h rs l f s t first second r ran e =

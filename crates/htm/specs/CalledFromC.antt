@@ -11,9 +11,10 @@
 --                        leaves the list
 --   entryForC i l out, entryAfterC         the entry at place i of the index l, that there is none, or the refusal, then 10; the lent list afterwards
 --   framesForC .., rangesAfterC, numbersAfterC, framesAfterC   the counts of the frames delivered and of the tests; the range list, the list of numbers
---                        and the list of counts afterwards
+--                        and the list of counts afterwards; FramesCallC: what the contract of that call says
 -- The entry goes by `foundForC`. The other calls on an index answer `statusOf` and `numberForC` of what its calls answer (index/specs/Answers).
 use Prim.Native.Nat.{ℕ}
+use mathlib.Core.Path.{_≡_}
 use mathlib.Core.List.{List}
 use lib.IntN.{ℤ}
 use Rattle.answer.specs.Answer.{Answer, gives, then, with-value}
@@ -31,7 +32,7 @@ use Rattle.frames.specs.declared.Frames.{Frames}
 use Rattle.frames.specs.Walk.{deliveredBy}
 use Rattle.frames.specs.Answers.{framesInto, walkOf, framesBy, framesList}
 use Rattle.frames.specs.Answers as frames
-use Rattle.htm_abi.specs.Values.{cornersList, headerList}
+use Rattle.htm_abi.specs.Values.{cornersList, headerList, statusOf}
 use Rattle.htm.specs.Answers.{coverInto, bothLists}
 
 -- ---- corners
@@ -97,3 +98,10 @@ numbersAfterC o l f ranges numbers counts = stored (λ x before. put 0 (delivere
 
 unfoldable pub framesAfterC : ℕ → List ℤ → List ℕ → List ℕ → List ℕ → List ℕ → List ℕ
 framesAfterC o l f ranges numbers counts = stored (λ r before. put 0 (framesList r) before) (framesForC o l f ranges numbers counts) counts
+
+-- the call gave the status and left the three lists, all by these definitions: its contract
+pub record FramesCallC (o : ℕ) (l : List ℤ) (f ranges numbers counts : List ℕ) (status : ℤ) (lists left counted : List ℕ) : Type 0 where
+  pub status-is : status ≡ statusOf (framesForC o l f ranges numbers counts)
+  pub ranges-left : lists ≡ rangesAfterC o l f ranges numbers counts
+  pub numbers-left : left ≡ numbersAfterC o l f ranges numbers counts
+  pub counts-left : counted ≡ framesAfterC o l f ranges numbers counts

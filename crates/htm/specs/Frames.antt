@@ -5,8 +5,8 @@
 --   Delivers ..         these numbers and this count of tests are what is said above, of the owner o, the index l, the region g, and the outer
 --                       and the inner ranges os and ns at the depth d
 --   Frames              of the rules: of every index and every accepted file
---   FramesOfAnswers     of what the call answers, and of the two lent lists afterwards
---   FramesOfCalls       of values that meet the call's contract
+--   Delivered ..        the same of an answer, and of the two lent lists afterwards
+--   FramesOfCalls       of whatever values meet the call's contract, `FramesCall`
 -- All are proved: proofs/FramesKept.
 use Prim.Native.Nat.{ℕ}
 use mathlib.Core.Path.{_≡_}
@@ -30,7 +30,7 @@ use Rattle.index.specs.HistoryCorrect.{IsIndex}
 use Rattle.frames.specs.declared.Frames as declared
 use Rattle.frames.specs.declared.FramesOf.{FramesOf}
 use Rattle.frames.specs.Walk.{shortened, deliveredBy, testsOf}
-use Rattle.frames.specs.Answers.{walkOf, framesAnswer, rangesAfter, numbersAfter, framesGiven}
+use Rattle.frames.specs.Answers.{walkOf, FramesCall}
 use Rattle.htm.specs.Answers.{coverAnswer, coverAfter, outerIn, innerIn}
 
 abbrev pub entriesBy : ℕ → List ℤ → List Entry
@@ -59,13 +59,8 @@ pub record Delivered (o : ℕ) (l : List ℤ) (f ranges numbers : List ℕ) (r :
   pub numbers-left : left ≡ put 0 delivered numbers
   pub delivers : Delivers o l (file .region) (file .depth) (outerIn counts lists) (innerIn (budgetOf (file .budget)) counts lists) delivered (r .tests)
 
-abbrev pub FramesOfAnswers : Type 0
-FramesOfAnswers =
-    (o : ℕ) (l : List ℤ) (f ranges numbers : List ℕ) (r : declared.Frames) → IsIndex l → framesAnswer o l f ranges numbers ≡ gives r
-    → Delivered o l f ranges numbers r (rangesAfter o l f ranges numbers) (numbersAfter o l f ranges numbers)
-
+-- of values that meet the call's contract
 abbrev pub FramesOfCalls : Type 0
 FramesOfCalls =
     (o : ℕ) (l : List ℤ) (f ranges numbers lists left : List ℕ) (r : declared.Frames) → IsIndex l
-    → framesGiven (FramesOf.Gives r) ≡ framesAnswer o l f ranges numbers
-    → lists ≡ rangesAfter o l f ranges numbers → left ≡ numbersAfter o l f ranges numbers → Delivered o l f ranges numbers r lists left
+    → FramesCall o l f ranges numbers (FramesOf.Gives r) lists left → Delivered o l f ranges numbers r lists left

@@ -14,7 +14,7 @@ use Rattle.index.specs.HistoryCorrect.{Holds}
 use Rattle.index.specs.Apart.{callsOf, Ran}
 use Rattle.frames.specs.declared.Frames as declared
 use Rattle.frames.specs.declared.FramesOf.{FramesOf}
-use Rattle.frames.specs.Answers.{framesAnswer, rangesAfter, numbersAfter, framesGiven}
+use Rattle.frames.specs.Answers.{framesAnswer, rangesAfter, numbersAfter, FramesCall}
 use Rattle.trial.specs.declared.Setting.{Setting}
 use Rattle.trial.specs.declared.Trial.{Trial}
 use Rattle.trial.specs.declared.TrialOf.{TrialOf}
@@ -29,9 +29,7 @@ Own o h l = Holds (contentOf OwnerCapacity (callsOf o h)) (entriesBy o l)
 abbrev pub FramesOfHistories : Type 0
 FramesOfHistories =
     (o : ℕ) (h : List Call) (rs : List Change) (l : List ℤ) (f ranges numbers lists left : List ℕ) (r : declared.Frames) → Ran h rs l
-    → framesGiven (FramesOf.Gives r) ≡ framesAnswer o l f ranges numbers
-    → lists ≡ rangesAfter o l f ranges numbers → left ≡ numbersAfter o l f ranges numbers
-    → Own o h l × Delivered o l f ranges numbers r lists left
+    → FramesCall o l f ranges numbers (FramesOf.Gives r) lists left → Own o h l × Delivered o l f ranges numbers r lists left
 
 abbrev pub TrialsOfHistories : Type 0
 TrialsOfHistories =

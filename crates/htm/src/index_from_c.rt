@@ -9,7 +9,7 @@ ghost use mathlib.Core.Path.{_≡_};
 ghost use Rattle.index.specs.Exposures.{key, exposure};
 ghost use Rattle.index.specs.Answers.{beginAnswer, beginAfter, addAnswer, addAfter, removeAnswer, removeAfter, countAnswer};
 ghost use Rattle.htm_abi.specs.Values.{numberForC, statusOf, foundForC};
-ghost use Rattle.htm.specs.CalledFromC.{entryForC, entryAfterC, framesForC, rangesAfterC, numbersAfterC, framesAfterC};
+ghost use Rattle.htm.specs.CalledFromC.{entryForC, entryAfterC, FramesCallC};
 
 // Makes a list an empty index: 0, or minus the number of the refusal.
 #[no_mangle]
@@ -78,10 +78,8 @@ pub extern "C" fn htm_frames(
     numbers: &mut [u32],
     counts: &mut [u64],
 ) -> i64
-    ensures { λ r. ⌜ r ≡ statusOf (framesForC owner (now (index .entry)) (now (file .entry)) (now (ranges .entry)) (now (numbers .entry)) (now (counts .entry))) ⌝ }
-    ensures { λ r. ⌜ now (ranges .exit) ≡ rangesAfterC owner (now (index .entry)) (now (file .entry)) (now (ranges .entry)) (now (numbers .entry)) (now (counts .entry)) ⌝ }
-    ensures { λ r. ⌜ now (numbers .exit) ≡ numbersAfterC owner (now (index .entry)) (now (file .entry)) (now (ranges .entry)) (now (numbers .entry)) (now (counts .entry)) ⌝ }
-    ensures { λ r. ⌜ now (counts .exit) ≡ framesAfterC owner (now (index .entry)) (now (file .entry)) (now (ranges .entry)) (now (numbers .entry)) (now (counts .entry)) ⌝ }
+    ensures { λ r. ⌜ FramesCallC owner (now (index .entry)) (now (file .entry)) (now (ranges .entry)) (now (numbers .entry)) (now (counts .entry))
+        r (now (ranges .exit)) (now (numbers .exit)) (now (counts .exit)) ⌝ }
 {
     if counts.len() < FRAME_COUNTS {
         return htm_abi::owner_without_room(owner, file);

@@ -31,7 +31,7 @@ ghost use Rattle.region.specs.Answers.{headerGiven, readAnswer, readAfter, file
 ghost use Rattle.index.specs.Exposures.{key, exposure};
 ghost use Rattle.index.specs.Answers.{beginAnswer, beginAfter, addAnswer, addAfter, removeAnswer, removeAfter, countAnswer, entryAnswer};
 ghost use Rattle.index.specs.Answers.{changeGiven, entryGiven};
-ghost use Rattle.frames.specs.Answers.{framesGiven, framesAnswer, rangesAfter, numbersAfter};
+ghost use Rattle.frames.specs.Answers.{FramesCall};
 ghost use Rattle.trial.specs.Answers.{trialGiven, trialAnswer, firstAfter, secondAfter, IsPart};
 ghost use Rattle.htm.specs.Answers as answers;
 ghost use Rattle.htm.specs.Answers.{lookupReport, locateLine, coverGiven, coverAnswer, coverAfter};
@@ -219,9 +219,8 @@ pub fn frames(
     ranges: &mut [u64],
     numbers: &mut [u32],
 ) -> FramesOf
-    ensures { λ r. ⌜ framesGiven r ≡ framesAnswer owner (now (index .entry)) (now (file .entry)) (now (ranges .entry)) (now (numbers .entry)) ⌝ }
-    ensures { λ r. ⌜ now (ranges .exit) ≡ rangesAfter owner (now (index .entry)) (now (file .entry)) (now (ranges .entry)) (now (numbers .entry)) ⌝ }
-    ensures { λ r. ⌜ now (numbers .exit) ≡ numbersAfter owner (now (index .entry)) (now (file .entry)) (now (ranges .entry)) (now (numbers .entry)) ⌝ }
+    ensures { λ r. ⌜ FramesCall owner (now (index .entry)) (now (file .entry)) (now (ranges .entry)) (now (numbers .entry))
+        r (now (ranges .exit)) (now (numbers .exit)) ⌝ }
 {
     frames_calls::frames(index, owner, file, ranges, numbers)
 }

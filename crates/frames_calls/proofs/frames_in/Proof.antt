@@ -10,7 +10,8 @@ use Rattle.region.proofs.BudgetLaws.{budget-one}
 use Rattle.covering_calls.specs.Decoded.{Decoded}
 use Rattle.covering_calls.proofs.DecodedLaws.{some-rows, depth-fits}
 use Rattle.frames.specs.declared.FramesOf.{FramesOf}
-use Rattle.frames_calls.specs.Searches.{SearchesRows, Answers}
+use Rattle.frames.specs.Answers.{FramesCall}
+use Rattle.frames_calls.specs.Searches.{SearchesRows}
 use Rattle.frames_calls.proofs.AnswerLaws.{no-ranges, no-numbers, no-index, delivered}
 use Rattle.frames_calls.proofs.frames_in.Statement.{statement}
 use Rattle.frames_calls.proofs.frames_in.Tie as tie
@@ -76,7 +77,7 @@ given c f k =
     let ranges = now (a .ranges) in
     let numbers = now (a .numbers) in
     let w = subst (λ n. SearchesRows (a .owner) l (a .h .depth) n (now (a .rows)) (a .h .count) ranges numbers (v .search .result) lists left) (b .budget-of .ensures .0) (v .search .ensures) in
-    subst (λ t. Answers (a .owner) l f ranges numbers (FramesOf.Gives t) lists left) (sym (c .delivery .ensures))
+    subst (λ t. FramesCall (a .owner) l f ranges numbers (FramesOf.Gives t) lists left) (sym (c .delivery .ensures))
     (delivered (a .owner) l f ranges numbers (s .pre .1) (a .h) (now (a .rows)) k (roomy i) (omega (arith, e .before .if2 .left)) (omega (arith, e .if3 .left)) (v .search .result) lists left w)
 
 pub frames-in-spec : {M : Type 1} → statement M

@@ -7,7 +7,7 @@ use Rattle.algebra.proofs.Sized.{held}
 use Rattle.answer.specs.Answer.{Answer}
 use Rattle.frames.specs.declared.Frames as declared
 use Rattle.frames.specs.Answers.{framesGiven, framesAnswer}
-use Rattle.htm.proofs.FramesCLaws.{Frames, short-frames, long-frames}
+use Rattle.htm.proofs.FramesCLaws.{short-frames, long-frames}
 use Rattle.htm.proofs.index_from_c.htm_frames.Statement.{statement}
 use Rattle.htm.proofs.index_from_c.htm_frames.Tie as tie
 
@@ -16,7 +16,7 @@ short c =
     let a = c .before .before .before .before .before .before .args in
     let w = c .owner-without-room .ensures in
     let k = short-frames (a .owner) (now (a .index)) (now (a .file)) (now (a .ranges)) (now (a .numbers)) (now (a .counts)) (omega (arith, c .before .if1 .taken)) in
-    (held (w .1) tt .eq ∙ w .0 ∙ k .status-is, (k .ranges-left, (k .numbers-left, k .counts-left)))
+    record { status-is = held (w .1) tt .eq ∙ w .0 ∙ k .status-is; ranges-left = k .ranges-left; numbers-left = k .numbers-left; counts-left = k .counts-left }
 
 given : tie.Need-returns-2
 given c =
@@ -26,8 +26,8 @@ given c =
     let i = v .before .before .before in
     let a = i .before .before .before .before .before .args in
     let k = long-frames (a .owner) (now (a .index)) (now (a .file)) (now (a .ranges)) (now (a .numbers)) (now (a .counts)) (omega (arith, i .if1 .left)) _ _ _
-    (sym (ap framesGiven (t .answer .given .1)) ∙ v .frames .ensures .0) (v .frames .ensures .1 .0) (v .frames .ensures .1 .1) in
-    (k .status-is, (k .ranges-left, (k .numbers-left, p .put-frames .ensures ∙ k .counts-left)))
+    (sym (ap framesGiven (t .answer .given .1)) ∙ v .frames .ensures .answer) (v .frames .ensures .lists-left) (v .frames .ensures .numbers-left) in
+    record { status-is = k .status-is; ranges-left = k .ranges-left; numbers-left = k .numbers-left; counts-left = p .put-frames .ensures ∙ k .counts-left }
 
 refused : tie.Need-returns-3
 refused c =
@@ -37,8 +37,8 @@ refused c =
     let a = i .before .before .before .before .before .args in
     let m = c .minus .ensures in
     let k = long-frames (a .owner) (now (a .index)) (now (a .file)) (now (a .ranges)) (now (a .numbers)) (now (a .counts)) (omega (arith, i .if1 .left)) _ _ _
-    (sym (ap framesGiven (t .answer2 .given .1)) ∙ v .frames .ensures .0) (v .frames .ensures .1 .0) (v .frames .ensures .1 .1) in
-    (held (m .1) tt .eq ∙ m .0 ∙ k .status-is, (k .ranges-left, (k .numbers-left, k .counts-left)))
+    (sym (ap framesGiven (t .answer2 .given .1)) ∙ v .frames .ensures .answer) (v .frames .ensures .lists-left) (v .frames .ensures .numbers-left) in
+    record { status-is = held (m .1) tt .eq ∙ m .0 ∙ k .status-is; ranges-left = k .ranges-left; numbers-left = k .numbers-left; counts-left = k .counts-left }
 
 pub htm-frames-spec : {M : Type 1} → statement M
 htm-frames-spec =
