@@ -2,7 +2,7 @@
 -- for a refusal is the list as it was. Assumes nothing.
 use Prim.Native.Nat.{ℕ, _*_}
 use mathlib.Core.Path.{_≡_, refl, ap, _∙_}
-use mathlib.Core.Bool.{Bool, true, false, cond}
+use mathlib.Core.Bool.{Bool, true, false}
 use mathlib.Core.List.{List}
 use lib.Dec.{leb}
 use lib.ListN.{length}
@@ -26,14 +26,12 @@ use Rattle.frames.specs.declared.Frames.{Frames}
 use Rattle.frames.specs.Walk.{deliveredBy}
 use Rattle.frames.specs.Answers.{framesInto, walkOf, framesBy, framesList, framesAnswer, rangesAfter, numbersAfter}
 use Rattle.htm.specs.Answers.{coverInto, coverAnswer, bothLists, coverAfter}
-use Rattle.htm_abi.specs.Values.{cornersList, headerList, refusalOf}
+use Rattle.htm_abi.specs.Values.{cornersList, headerList}
 use Rattle.htm.specs.CalledFromC.{entryAfterC, cornersForC, cornersAfterC, inBoth, readForC, rowsAfterC, headerAfterC, coverForC, coverAfterC, countsAfterC, framesIntoC, framesForC, rangesAfterC, numbersAfterC, framesAfterC}
 use Rattle.trial.specs.declared.Setting.{Setting}
 use Rattle.trial.specs.declared.Trial.{Trial}
 use Rattle.trial.specs.Trials.{trialOf}
 use Rattle.trial.specs.Answers.{settled, roomFor, trialInto, trialAnswer, listsBy, firstAfter, secondAfter, trialList}
-use Rattle.trial.specs.Answers as trial
-use Rattle.htm_abi.specs.TrialValues.{settingAt}
 use Rattle.htm.specs.TrialFromC.{trialIntoC, trialForC, firstAfterC, secondAfterC, trialAfterC, chosenAfterC}
 use Rattle.htm.specs.Refusals.{SpaceLast, LentListsStay}
 
@@ -68,15 +66,6 @@ module _ (o : ℕ) (l : List ℤ) (f first second : List ℕ) (s t : Setting) wh
   trial-refused : (n : ℕ) → check Owner (isOwner o) (then (read f) (λ x. settled s (settled t (gives x)))) ≡ refused n → trialInto o l f s t first second ≡ refused n
   trial-refused n e = behind (isOwner o) (read f) ∙ ap (λ a. then a rooms) e
 
--- for C: whether the settings are there or not, the owner and the file come first
-module _ (o : ℕ) (l : List ℤ) (f ss first second numbers : List ℕ) (n : ℕ) (e : check Owner (isOwner o) (read f) ≡ refused n) where
-  owner-or-file : (g : File → Answer File) → check Owner (isOwner o) (then (read f) g) ≡ refused n
-  owner-or-file g = check-then (isOwner o) (read f) g ∙ ap (λ a. then a g) e
-
-  trial-c-refused : (b : Bool) → cond b (inBoth trial.trialCounts (trialInto o l f (settingAt ss 0) (settingAt ss 2) first second) numbers) (check Owner (isOwner o) (refusalOf f)) ≡ refused n
-  trial-c-refused true = ap (λ a. inBoth trial.trialCounts a numbers) (owner-or-file (λ x. settled (settingAt ss 0) (settled (settingAt ss 2) (rooms o l f first second (settingAt ss 0) (settingAt ss 2) x))))
-  trial-c-refused false = owner-or-file (λ x. refused Space)
-
 pub space-last : SpaceLast
 unfolding trialAnswer trialForC nameAnswer readAnswer fileAnswer coverAnswer cornersForC readForC coverForC framesAnswer framesForC
 space-last = (
@@ -91,8 +80,8 @@ space-last = (
   λ o n l f ranges numbers e. ap (with-value (λ x. framesBy (walkOf o l x))) (frames-refused o l f ranges numbers n e),
   λ o n l f ranges numbers counts e. first-refusal (λ x. framesBy (walkOf o l x)) (framesInto o l f ranges numbers) _ n (frames-refused o l f ranges numbers n e),
   λ o n l f first second s t e. ap (with-value (λ x. trialOf o l (x .region) s t)) (trial-refused o l f first second s t n e),
-  λ o n l f ss first second numbers e.
-      ap (with-value (λ x. trialOf o l (x .region) (settingAt ss 0) (settingAt ss 2))) (trial-c-refused o l f ss first second numbers n e (leb 4 (length ss))),
+  λ o n l f first second numbers s t e.
+      first-refusal (λ x. trialOf o l (x .region) s t) (trialInto o l f s t first second) _ n (trial-refused o l f first second s t n e),
 )
 
 pub lent-lists-stay : LentListsStay
@@ -125,12 +114,12 @@ lent-lists-stay = (
       let a = trialInto o l f s t first second in
       let v : File → Trial = λ x. trialOf o l (x .region) s t in
       (not-stored v (listsBy s) a first n e, not-stored v (listsBy t) a second n e),
-  λ o n l f ss first second numbers e.
-      let a = trialIntoC o l f ss first second numbers in
-      let v : File → Trial = λ x. trialOf o l (x .region) (settingAt ss 0) (settingAt ss 2) in (
-        not-stored v (listsBy (settingAt ss 0)) a first n e,
-        not-stored v (listsBy (settingAt ss 2)) a second n e,
+  λ o n l f first second numbers s t e.
+      let a = trialIntoC o l f s t first second numbers in
+      let v : File → Trial = λ x. trialOf o l (x .region) s t in (
+        not-stored v (listsBy s) a first n e,
+        not-stored v (listsBy t) a second n e,
         ap (λ b. stored (λ r before. put 0 (trialList r) before) b numbers) e,
       ),
-  λ n ns first second part. ap (λ a. stored (put 0) a part),
+  λ z n ns first second part. ap (λ a. stored (put 0) a part),
 )

@@ -44,8 +44,9 @@ SpaceLast =
     → framesForC o l f ranges numbers counts ≡ refused n)
     × ((o n : ℕ) (l : List ℤ) (f first second : List ℕ) (s t : Setting) → check Owner (isOwner o) (then (read f) (λ x. settled s (settled t (gives x)))) ≡ refused n
     → trialAnswer o l f s t first second ≡ refused n)
-    × ((o n : ℕ) (l : List ℤ) (f ss first second numbers : List ℕ) → check Owner (isOwner o) (read f) ≡ refused n
-    → trialForC o l f ss first second numbers ≡ refused n)
+    × ((o n : ℕ) (l : List ℤ) (f first second numbers : List ℕ) (s t : Setting)
+    → check Owner (isOwner o) (then (read f) (λ x. settled s (settled t (gives x)))) ≡ refused n
+    → trialForC o l f s t first second numbers ≡ refused n)
 
 abbrev pub LentListsStay : Type 0
 LentListsStay =
@@ -69,7 +70,7 @@ LentListsStay =
     × (framesAfterC o l f ranges numbers counts ≡ counts))
     × ((o n : ℕ) (l : List ℤ) (f first second : List ℕ) (s t : Setting) → trialAnswer o l f s t first second ≡ refused n
     → (firstAfter o l f s t first second ≡ first) × (secondAfter o l f s t first second ≡ second))
-    × ((o n : ℕ) (l : List ℤ) (f ss first second numbers : List ℕ) → trialForC o l f ss first second numbers ≡ refused n
-    → (firstAfterC o l f ss first second numbers ≡ first) × (secondAfterC o l f ss first second numbers ≡ second)
-    × (trialAfterC o l f ss first second numbers ≡ numbers))
-    × ((n : ℕ) (ns first second part : List ℕ) → chosenForC ns first second part ≡ refused n → chosenAfterC ns first second part ≡ part)
+    × ((o n : ℕ) (l : List ℤ) (f first second numbers : List ℕ) (s t : Setting) → trialForC o l f s t first second numbers ≡ refused n
+    → (firstAfterC o l f s t first second numbers ≡ first) × (secondAfterC o l f s t first second numbers ≡ second)
+    × (trialAfterC o l f s t first second numbers ≡ numbers))
+    × ((z : ℤ) (n : ℕ) (ns first second part : List ℕ) → chosenForC z ns first second part ≡ refused n → chosenAfterC z ns first second part ≡ part)
