@@ -42,8 +42,8 @@ pub frames-histories : FramesOfHistories
 frames-histories o h rs l f ranges numbers lists left r ran k = (own-entries o h rs l ran, frames-calls o l f ranges numbers lists left r (left-index h rs l ran) k)
 
 pub trials-histories : TrialsOfHistories
-trials-histories o h rs l f s t first second r ran e =
-    let k = trials-answers o l f s t first second r (sym e) in
+trials-histories o h rs l f s t first second one two r ran c =
+    let k = trials-answers o l f s t first second r (sym (c .answer)) in
     (own-entries o h rs l ran, (k .file, k .accepted, k .same-held (left-index h rs l ran)))
 
 -- ---- apart

@@ -14,3 +14,4 @@ pub mod TrialsKept
 pub mod TrialCLaws
 pub mod HistoriesKept
 pub mod ReadBack
+pub mod RefusalNumbers

@@ -1,21 +1,21 @@
 -- Number 10 comes last, and a refusal changes no lent element: an answer with its room is the answer's refusal where it has one, and what is stored
 -- for a refusal is the list as it was. Assumes nothing.
 use Prim.Native.Nat.{ℕ, _*_}
-use mathlib.Core.Path.{_≡_, refl, ap, _∙_}
-use mathlib.Core.Bool.{Bool, true, false, cond}
+use mathlib.Core.Path.{_≡_, refl, sym, ap, _∙_}
+use mathlib.Core.Bool.{Bool, true, false}
 use mathlib.Core.List.{List}
 use lib.Dec.{leb}
 use lib.ListN.{length}
 use lib.IntN.{ℤ}
-use Rattle.answer.specs.Answer.{Answer, refused, gives, check, then, with-value, Depth, Budget, Space, Owner}
+use Rattle.answer.specs.Answer.{Answer, refused, gives, check, then, with-value, Depth, Budget, Vector, Space, Owner}
 use Rattle.answer.specs.Lent.{put, stored}
+use Rattle.answer.proofs.AnswerLaws.{refused-gives}
 use Rattle.answer.proofs.LentLaws.{first-refusal, not-stored}
 use Rattle.mesh.specs.Answers.{nameInto, nameAnswer, nameAfter}
 use Rattle.vector.specs.Numbers.{isDepth}
+use Rattle.vector.specs.Vectors.{isVector}
 use Rattle.region.specs.Budgets.{isBudget, budgetOf}
 use Rattle.region.specs.Reader.{File, read}
-use Rattle.region.specs.Writer.{writeIn}
-use Rattle.region.specs.Converting.{convert}
 use Rattle.region.specs.Answers.{headerOf, rowsInto, readInto, readAnswer, readAfter, fileInto, fileAnswer, fileAfter}
 use Rattle.region.proofs.ConvertLaws.{refusal-stays}
 use Rattle.covering.specs.Cover.{cover, countsOf, coverCounts, countsList}
@@ -26,14 +26,12 @@ use Rattle.frames.specs.declared.Frames.{Frames}
 use Rattle.frames.specs.Walk.{deliveredBy}
 use Rattle.frames.specs.Answers.{framesInto, walkOf, framesBy, framesList, framesAnswer, rangesAfter, numbersAfter}
 use Rattle.htm.specs.Answers.{coverInto, coverAnswer, bothLists, coverAfter}
-use Rattle.htm_abi.specs.Values.{cornersList, headerList, refusalOf}
+use Rattle.htm_abi.specs.Values.{cornersList, headerList}
 use Rattle.htm.specs.CalledFromC.{entryInto, entryAfterC, cornersForC, cornersAfterC, inBoth, readForC, rowsAfterC, headerAfterC, coverForC, coverAfterC, countsAfterC, framesIntoC, framesForC, rangesAfterC, numbersAfterC, framesAfterC}
 use Rattle.trial.specs.declared.Setting.{Setting}
 use Rattle.trial.specs.declared.Trial.{Trial}
 use Rattle.trial.specs.Trials.{trialOf}
 use Rattle.trial.specs.Answers.{checkSetting, roomFor, trialInto, trialAnswer, listsBy, firstAfter, secondAfter, trialList}
-use Rattle.trial.specs.Answers as trial
-use Rattle.htm_abi.specs.TrialValues.{settingAt}
 use Rattle.htm.specs.TrialFromC.{trialIntoC, trialForC, firstAfterC, secondAfterC, trialAfterC, chosenAfterC}
 use Rattle.htm.specs.Refusals.{SpaceLast, LentListsStay}
 
@@ -68,70 +66,84 @@ module _ (o : ℕ) (l : List ℤ) (f first second : List ℕ) (s t : Setting) wh
   trial-refused : (n : ℕ) → check Owner (isOwner o) (then (read f) (λ x. checkSetting s (checkSetting t (gives x)))) ≡ refused n → trialInto o l f s t first second ≡ refused n
   trial-refused n e = behind (isOwner o) (read f) ∙ ap (λ a. then a rooms) e
 
--- for C: whether the settings are there or not, the owner and the file come first
-module _ (o : ℕ) (l : List ℤ) (f ss first second numbers : List ℕ) (n : ℕ) (e : check Owner (isOwner o) (read f) ≡ refused n) where
-  owner-or-file : (g : File → Answer File) → check Owner (isOwner o) (then (read f) g) ≡ refused n
-  owner-or-file g = check-then (isOwner o) (read f) g ∙ ap (λ a. then a g) e
+-- of an add and of a removal: what is asked before the list
+add-refused : {A B C : Type 0} (t u : Bool) (x : A) (a : Answer B) (f : B → C) (n : ℕ) → check Owner t (check Vector u (gives x)) ≡ refused n
+    → with-value f (check Owner t (check Vector u a)) ≡ refused n
+add-refused false u x a f n e = cc
+add-refused true false x a f n e = cc
+add-refused true true x a f n e = refused-gives n x (sym e)
 
-  trial-c-refused : (b : Bool) → cond b (inBoth trial.trialCounts (trialInto o l f (settingAt ss 0) (settingAt ss 2) first second) numbers) (check Owner (isOwner o) (refusalOf f)) ≡ refused n
-  trial-c-refused true = ap (λ a. inBoth trial.trialCounts a numbers) (owner-or-file (λ x. checkSetting (settingAt ss 0) (checkSetting (settingAt ss 2) (rooms o l f first second (settingAt ss 0) (settingAt ss 2) x))))
-  trial-c-refused false = owner-or-file (λ x. refused Space)
+remove-refused : {A B C : Type 0} (t : Bool) (x : A) (a : Answer B) (f : B → C) (n : ℕ) → check Owner t (gives x) ≡ refused n → with-value f (check Owner t a) ≡ refused n
+remove-refused false x a f n e = cc
+remove-refused true x a f n e = refused-gives n x (sym e)
 
 pub space-last : SpaceLast
-unfolding trialAnswer trialForC nameAnswer readAnswer fileAnswer coverAnswer cornersForC readForC coverForC framesAnswer framesForC
-space-last = (
-  λ i n before. first-refusal length _ _ n,
-  λ f n before. first-refusal headerOf _ _ n,
-  λ s d b n rs before. first-refusal length _ _ n,
-  λ s f n before e. first-refusal length _ _ n (refusal-stays s f n e),
-  λ f n before. first-refusal (λ x. countsOf (cover x)) _ _ n,
-  λ i n out e. rw e,
-  λ f n rows header e. rw e,
-  λ f n out counts e. rw e,
-  λ o n l f ranges numbers e. ap (with-value (λ x. framesBy (walkOf o l x))) (frames-refused o l f ranges numbers n e),
-  λ o n l f ranges numbers counts e. first-refusal (λ x. framesBy (walkOf o l x)) (framesInto o l f ranges numbers) _ n (frames-refused o l f ranges numbers n e),
-  λ o n l f first second s t e. ap (with-value (λ x. trialOf o l (x .region) s t)) (trial-refused o l f first second s t n e),
-  λ o n l f ss first second numbers e.
-      ap (with-value (λ x. trialOf o l (x .region) (settingAt ss 0) (settingAt ss 2))) (trial-c-refused o l f ss first second numbers n e (leb 4 (length ss))),
-)
+unfolding trialAnswer trialForC nameAnswer readAnswer fileAnswer coverAnswer cornersForC readForC coverForC framesAnswer framesForC addAnswer removeAnswer
+space-last = record {
+  name = λ i before n. first-refusal length _ _ n;
+  reader = λ f before n. first-refusal headerOf _ _ n;
+  writer = λ s d b rs before n. first-refusal length _ _ n;
+  converter = λ s f before n e. first-refusal length _ _ n (refusal-stays s f n e);
+  cover = λ f before n. first-refusal (λ x. countsOf (cover x)) _ _ n;
+  add = λ x l n. add-refused (isOwner (x .owner)) (isVector (x .pointing)) x _ (λ _. tt) n;
+  remove = λ k l n. remove-refused (isOwner (k .owner)) k _ (λ _. tt) n;
+  frames = λ o l f ranges numbers n e. ap (with-value (λ x. framesBy (walkOf o l x))) (frames-refused o l f ranges numbers n e);
+  trial = λ o l f s t first second n e. ap (with-value (λ x. trialOf o l (x .region) s t)) (trial-refused o l f first second s t n e);
+  corners-C = λ i out n e. rw e;
+  reader-C = λ f rows header n e. rw e;
+  cover-C = λ f out counts n e. rw e;
+  frames-C = λ o l f ranges numbers counts n e. first-refusal (λ x. framesBy (walkOf o l x)) (framesInto o l f ranges numbers) _ n (frames-refused o l f ranges numbers n e);
+  trial-C = λ o l f s t first second numbers n e.
+      first-refusal (λ x. trialOf o l (x .region) s t) (trialInto o l f s t first second) _ n (trial-refused o l f first second s t n e);
+}
+
+-- ---- a refusal changes nothing
+
+module _ (o : ℕ) (l : List ℤ) where
+  abbrev found : File → Frames
+  found x = framesBy (walkOf o l x)
+
+  abbrev deliver : File → List ℕ → List ℕ
+  deliver x before = put 0 (deliveredBy (walkOf o l x)) before
 
 pub lent-lists-stay : LentListsStay
-unfolding trialAnswer firstAfter secondAfter trialForC firstAfterC secondAfterC trialAfterC chosenAfterC framesAnswer rangesAfter numbersAfter framesForC rangesAfterC numbersAfterC framesAfterC beginAnswer beginAfter addAnswer addAfter removeAnswer removeAfter entryAfterC nameAnswer nameAfter readAnswer readAfter fileAnswer fileAfter coverAnswer coverAfter cornersAfterC readForC rowsAfterC headerAfterC coverForC coverAfterC countsAfterC
-lent-lists-stay = (
-  λ i n before. not-stored length (put 0) (nameInto i before) before n,
-  λ f n before. not-stored headerOf rowsInto (readInto f before) before n,
-  λ s d b n rs before. not-stored length (put 0) (fileInto (writeIn s d b rs) before) before n,
-  λ s f n before. not-stored length (put 0) (fileInto (convert s f) before) before n,
-  λ f n before. not-stored (λ x. countsOf (cover x)) bothLists (coverInto f before) before n,
-  λ i n out. ap (λ a. stored (λ c before. put 0 (cornersList c) before) a out),
-  λ f n rows header e. (not-stored headerOf rowsInto (inBoth 3 (readInto f rows) header) rows n e, ap (λ a. stored (λ h before. put 0 (headerList h) before) a header) e),
-  λ f n out counts e. (not-stored (λ x. countsOf (cover x)) bothLists (inBoth coverCounts (coverInto f out) counts) out n e, ap (λ a. stored (λ c before. put 0 (countsList c) before) a counts) e),
-  λ n l. not-stored (λ _. tt) withEntries (beginning l) l n,
-  λ x n l. not-stored (λ _. tt) withEntries (adding x l) l n,
-  λ k n l. not-stored (λ _. tt) withEntries (removing k l) l n,
-  λ i n l out. ap (λ a. stored entryInto a out),
-  λ i l out. ap (λ a. stored entryInto a out),
-  λ o n l f ranges numbers e.
+unfolding nameAnswer nameAfter readAnswer readAfter fileAnswer fileAfter coverAnswer coverAfter beginAnswer beginAfter addAnswer addAfter removeAnswer removeAfter framesAnswer rangesAfter numbersAfter trialAnswer firstAfter secondAfter cornersAfterC readForC rowsAfterC headerAfterC coverForC coverAfterC countsAfterC entryAfterC framesForC rangesAfterC numbersAfterC framesAfterC trialForC firstAfterC secondAfterC trialAfterC chosenAfterC
+lent-lists-stay = record {
+  name = λ i before n. not-stored length (put 0) (nameInto i before) before n;
+  reader = λ f before n. not-stored headerOf rowsInto (readInto f before) before n;
+  file = λ a before n. not-stored length (put 0) (fileInto a before) before n;
+  cover = λ f before n. not-stored (λ x. countsOf (cover x)) bothLists (coverInto f before) before n;
+  begin = λ l n. not-stored (λ _. tt) withEntries (beginning l) l n;
+  add = λ x l n. not-stored (λ _. tt) withEntries (adding x l) l n;
+  remove = λ k l n. not-stored (λ _. tt) withEntries (removing k l) l n;
+  frames = λ o l f ranges numbers.
       let a = framesInto o l f ranges numbers in
-      let v : File → Frames = λ x. framesBy (walkOf o l x) in
-      (not-stored v bothLists a ranges n e, not-stored v (λ x before. put 0 (deliveredBy (walkOf o l x)) before) a numbers n e),
-  λ o n l f ranges numbers counts e.
-      let a = framesIntoC o l f ranges numbers counts in
-      let v : File → Frames = λ x. framesBy (walkOf o l x) in (
-        not-stored v bothLists a ranges n e,
-        not-stored v (λ x before. put 0 (deliveredBy (walkOf o l x)) before) a numbers n e,
-        ap (λ b. stored (λ r before. put 0 (framesList r) before) b counts) e,
-      ),
-  λ o n l f first second s t e.
+      (λ n. not-stored (found o l) bothLists a ranges n, λ n. not-stored (found o l) (deliver o l) a numbers n);
+  trial = λ o l f s t first second.
       let a = trialInto o l f s t first second in
       let v : File → Trial = λ x. trialOf o l (x .region) s t in
-      (not-stored v (listsBy s) a first n e, not-stored v (listsBy t) a second n e),
-  λ o n l f ss first second numbers e.
-      let a = trialIntoC o l f ss first second numbers in
-      let v : File → Trial = λ x. trialOf o l (x .region) (settingAt ss 0) (settingAt ss 2) in (
-        not-stored v (listsBy (settingAt ss 0)) a first n e,
-        not-stored v (listsBy (settingAt ss 2)) a second n e,
-        ap (λ b. stored (λ r before. put 0 (trialList r) before) b numbers) e,
-      ),
-  λ n ns first second part. ap (λ a. stored (put 0) a part),
-)
+      (λ n. not-stored v (listsBy s) a first n, λ n. not-stored v (listsBy t) a second n);
+  corners-C = λ i out n. ap (λ a. stored (λ c before. put 0 (cornersList c) before) a out);
+  reader-C = λ f rows header.
+      (λ n. not-stored headerOf rowsInto (inBoth 3 (readInto f rows) header) rows n, λ n. ap (λ a. stored (λ h before. put 0 (headerList h) before) a header));
+  cover-C = λ f out counts. (
+    λ n. not-stored (λ x. countsOf (cover x)) bothLists (inBoth coverCounts (coverInto f out) counts) out n,
+    λ n. ap (λ a. stored (λ c before. put 0 (countsList c) before) a counts),
+  );
+  entry-C = λ i l out n. ap (λ a. stored entryInto a out);
+  no-entry-C = λ i l out. ap (λ a. stored entryInto a out);
+  frames-C = λ o l f ranges numbers counts.
+      let a = framesIntoC o l f ranges numbers counts in (
+        λ n. not-stored (found o l) bothLists a ranges n,
+        λ n. not-stored (found o l) (deliver o l) a numbers n,
+        λ n. ap (λ b. stored (λ r before. put 0 (framesList r) before) b counts),
+      );
+  trial-C = λ o l f s t first second numbers.
+      let a = trialIntoC o l f s t first second numbers in
+      let v : File → Trial = λ x. trialOf o l (x .region) s t in (
+        λ n. not-stored v (listsBy s) a first n,
+        λ n. not-stored v (listsBy t) a second n,
+        λ n. ap (λ b. stored (λ r before. put 0 (trialList r) before) b numbers),
+      );
+  chosen-C = λ z ns first second part n. ap (λ a. stored (put 0) a part);
+}

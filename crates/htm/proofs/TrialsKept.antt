@@ -36,7 +36,7 @@ use Rattle.trial.specs.declared.TrialOf.{TrialOf}
 use Rattle.trial.specs.Trials.{isSetting, coverBy, walkBy, skyOf, choiceOf, trialOf}
 use Rattle.trial.specs.Answers.{trialInto, trialAnswer, listsBy, firstAfter, secondAfter, fitting, ofChoice, partBy, partOf, checkSetting, roomFor}
 use Rattle.htm.specs.Frames.{entriesBy}
-use Rattle.htm.specs.Trials.{heldBy, SameHeld, Trials, chosenOf, Smaller, Tries, TrialsOfAnswers, TrialsOfCalls}
+use Rattle.htm.specs.Trials.{heldBy, SameHeld, Trials, chosenOf, Smaller, Tries, TrialsOfCalls}
 use Rattle.htm.proofs.PromiseKept.{outer-proper}
 use Rattle.htm.proofs.FramesKept.{delivered-tally}
 
@@ -143,7 +143,8 @@ chosen-part : (s t : Setting) (x : File) (first second : List ℕ) → 4 * budge
 chosen-part s t x first second h k true = front s x first h
 chosen-part s t x first second h k false = front t x second k
 
-pub trials-answers : TrialsOfAnswers
+pub trials-answers : (o : ℕ) (l : List ℤ) (f : List ℕ) (s t : Setting) (first second : List ℕ) (r : Trial) → trialAnswer o l f s t first second ≡ gives r
+    → Tries o l f s t r (partOf (TrialOf.Gives r) (firstAfter o l f s t first second) (secondAfter o l f s t first second))
 unfolding trialAnswer firstAfter secondAfter trialOf
 trials-answers o l f s t first second r e =
     let v = value-gives (λ x. trialOf o l (x .region) s t) (trialInto o l f s t first second) r e in
@@ -166,5 +167,5 @@ trials-answers o l f s t first second r e =
     }
 
 pub trials-calls : TrialsOfCalls
-trials-calls o l f s t first second one two part r e a b c =
-    subst (λ p. Tries o l f s t r p) (sym (c ∙ (λ i. partOf (TrialOf.Gives r) (a i) (b i)))) (trials-answers o l f s t first second r (sym e))
+trials-calls o l f s t first second one two part r k c =
+    subst (λ p. Tries o l f s t r p) (sym (c ∙ (λ i. partOf (TrialOf.Gives r) (k .first-left i) (k .second-left i)))) (trials-answers o l f s t first second r (sym (k .answer)))

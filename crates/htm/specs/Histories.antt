@@ -18,7 +18,7 @@ use Rattle.frames.specs.Answers.{framesAnswer, rangesAfter, numbersAfter, Frame
 use Rattle.trial.specs.declared.Setting.{Setting}
 use Rattle.trial.specs.declared.Trial.{Trial}
 use Rattle.trial.specs.declared.TrialOf.{TrialOf}
-use Rattle.trial.specs.Answers.{trialAnswer, firstAfter, secondAfter, trialGiven}
+use Rattle.trial.specs.Answers.{trialAnswer, firstAfter, secondAfter, TrialCall}
 use Rattle.htm.specs.Frames.{entriesBy, Delivered}
 use Rattle.htm.specs.Trials.{heldBy, SameHeld}
 use Rattle.region.specs.Reader.{File, Accepted}
@@ -33,8 +33,8 @@ FramesOfHistories =
 
 abbrev pub TrialsOfHistories : Type 0
 TrialsOfHistories =
-    (o : ℕ) (h : List Call) (rs : List Change) (l : List ℤ) (f : List ℕ) (s t : Setting) (first second : List ℕ) (r : Trial) → Ran h rs l
-    → trialGiven (TrialOf.Gives r) ≡ trialAnswer o l f s t first second
+    (o : ℕ) (h : List Call) (rs : List Change) (l : List ℤ) (f : List ℕ) (s t : Setting) (first second one two : List ℕ) (r : Trial) → Ran h rs l
+    → TrialCall o l f s t first second (TrialOf.Gives r) one two
     → Own o h l × ((x : File) × Accepted f x × SameHeld (heldBy o l (x .region)) r)
 
 pub record SameFrames (o : ℕ) (m n : List ℤ) (f ranges numbers : List ℕ) : Type 0 where

@@ -1,21 +1,20 @@
--- Demand 1, of the rules. Document 01, 'What is sent back': number 10 comes after all other checks, and a refusal changes no lent element.
--- Statements; they are proved in proofs/Refusals. The calls that write into a lent list are the name, the reader, the two writers (`writeIn`), the two
--- conversions (`convert`) and the cover; for C also the corners, and the reader and the cover with a second list. (The calls for C that answer a length have
--- the rules of the others.)
--- Those that write into an index are begin, add and remove; there 10 says that the list is no index, and comes before what is asked of one. The frames of a
--- region write into two lists, for C into three; there 10 comes after the owner and the file. A trial writes into two buffers, for C also into a list of
--- numbers; there 10 comes after the settings too.
---   SpaceLast     what is refused for another reason keeps its number, whatever list is lent
---   LentListsStay where a call refuses, every lent list is as it was; so is that of the entry for C where there is none
+-- Demand 1, of the rules. Document 01, 'What is sent back': number 10 comes after all other checks, and a refusal changes no lent element. Proved in
+-- proofs/Refusals, for each call that is lent a list to write into. The calls for C that answer a length have the rules of the others.
+--   Keeps a b       where a refuses, b refuses with the same number: a is what a call checks before any room, b what it answers
+--   Stays a after before   where the call refuses, which answers a, the list stays
+--   SpaceLast       what is refused for another reason keeps its number, whatever list is lent. Of an add and a removal, 10 says that the list is no index, and
+--                   comes before what is asked of one
+--   LentListsStay   where a call refuses, every lent list is as it was; so is that of the entry for C where there is none
 use Prim.Native.Nat.{ℕ}
 use mathlib.Core.Path.{_≡_}
 use mathlib.Core.List.{List}
 use lib.IntN.{ℤ}
-use Rattle.answer.specs.Answer.{refused, gives, check, then, Owner}
+use Rattle.answer.specs.Answer.{Answer, refused, gives, check, then, Vector, Owner}
+use Rattle.vector.specs.Vectors.{isVector}
 use Rattle.mesh.specs.Identifiers.{corners}
 use Rattle.mesh.specs.Names.{nameOf}
 use Rattle.mesh.specs.Answers.{nameAnswer, nameAfter}
-use Rattle.region.specs.Reader.{read}
+use Rattle.region.specs.Reader.{File, read}
 use Rattle.region.specs.declared.Style.{Style}
 use Rattle.region.specs.Writer.{writeIn}
 use Rattle.region.specs.Converting.{convert}
@@ -27,51 +26,74 @@ use Rattle.frames.specs.Answers.{framesAnswer, rangesAfter, numbersAfter}
 use Rattle.trial.specs.declared.Setting.{Setting}
 use Rattle.trial.specs.Answers.{checkSetting, trialAnswer, firstAfter, secondAfter}
 use Rattle.htm.specs.Answers.{coverAnswer, coverAfter}
-use Rattle.htm.specs.CalledFromC.{entryForC, entryAfterC, cornersForC, cornersAfterC, readForC, rowsAfterC, headerAfterC, coverForC, coverAfterC, countsAfterC, framesForC, rangesAfterC, numbersAfterC, framesAfterC}
+use Rattle.htm.specs.CalledFromC.{entryForC, entryAfterC, cornersForC, cornersAfterC, readForC, rowsAfterC, headerAfterC}
+use Rattle.htm.specs.CalledFromC.{coverForC, coverAfterC, countsAfterC, framesForC, rangesAfterC, numbersAfterC, framesAfterC}
 use Rattle.htm.specs.TrialFromC.{trialForC, firstAfterC, secondAfterC, trialAfterC, chosenForC, chosenAfterC}
 
-abbrev pub SpaceLast : Type 0
-SpaceLast =
-    ((i n : ℕ) (before : List ℕ) → nameOf i ≡ refused n → nameAnswer i before ≡ refused n)
-    × ((f : List ℕ) (n : ℕ) (before : List ℤ) → read f ≡ refused n → readAnswer f before ≡ refused n)
-    × ((s : Style) (d b n : ℕ) (rs : List ℤ) (before : List ℕ) → writeIn s d b rs ≡ refused n → fileAnswer (writeIn s d b rs) before ≡ refused n)
-    × ((s : Style) (f : List ℕ) (n : ℕ) (before : List ℕ) → read f ≡ refused n → fileAnswer (convert s f) before ≡ refused n)
-    × ((f : List ℕ) (n : ℕ) (before : List ℕ) → read f ≡ refused n → coverAnswer f before ≡ refused n)
-    × ((i n : ℕ) (out : List ℤ) → corners i ≡ refused n → cornersForC i out ≡ refused n)
-    × ((f : List ℕ) (n : ℕ) (rows : List ℤ) (header : List ℕ) → read f ≡ refused n → readForC f rows header ≡ refused n)
-    × ((f : List ℕ) (n : ℕ) (out counts : List ℕ) → read f ≡ refused n → coverForC f out counts ≡ refused n)
-    × ((o n : ℕ) (l : List ℤ) (f ranges numbers : List ℕ) → check Owner (isOwner o) (read f) ≡ refused n → framesAnswer o l f ranges numbers ≡ refused n)
-    × ((o n : ℕ) (l : List ℤ) (f ranges numbers counts : List ℕ) → check Owner (isOwner o) (read f) ≡ refused n
-    → framesForC o l f ranges numbers counts ≡ refused n)
-    × ((o n : ℕ) (l : List ℤ) (f first second : List ℕ) (s t : Setting) → check Owner (isOwner o) (then (read f) (λ x. checkSetting s (checkSetting t (gives x)))) ≡ refused n
-    → trialAnswer o l f s t first second ≡ refused n)
-    × ((o n : ℕ) (l : List ℤ) (f ss first second numbers : List ℕ) → check Owner (isOwner o) (read f) ≡ refused n
-    → trialForC o l f ss first second numbers ≡ refused n)
+abbrev pub Keeps : {A B : Type 0} → Answer A → Answer B → Type 0
+Keeps a b = (n : ℕ) → a ≡ refused n → b ≡ refused n
 
-abbrev pub LentListsStay : Type 0
-LentListsStay =
-    ((i n : ℕ) (before : List ℕ) → nameAnswer i before ≡ refused n → nameAfter i before ≡ before)
-    × ((f : List ℕ) (n : ℕ) (before : List ℤ) → readAnswer f before ≡ refused n → readAfter f before ≡ before)
-    × ((s : Style) (d b n : ℕ) (rs : List ℤ) (before : List ℕ)
-    → fileAnswer (writeIn s d b rs) before ≡ refused n → fileAfter (writeIn s d b rs) before ≡ before)
-    × ((s : Style) (f : List ℕ) (n : ℕ) (before : List ℕ) → fileAnswer (convert s f) before ≡ refused n → fileAfter (convert s f) before ≡ before)
-    × ((f : List ℕ) (n : ℕ) (before : List ℕ) → coverAnswer f before ≡ refused n → coverAfter f before ≡ before)
-    × ((i n : ℕ) (out : List ℤ) → cornersForC i out ≡ refused n → cornersAfterC i out ≡ out)
-    × ((f : List ℕ) (n : ℕ) (rows : List ℤ) (header : List ℕ) → readForC f rows header ≡ refused n → (rowsAfterC f rows header ≡ rows) × (headerAfterC f rows header ≡ header))
-    × ((f : List ℕ) (n : ℕ) (out counts : List ℕ) → coverForC f out counts ≡ refused n → (coverAfterC f out counts ≡ out) × (countsAfterC f out counts ≡ counts))
-    × ((n : ℕ) (l : List ℤ) → beginAnswer l ≡ refused n → beginAfter l ≡ l)
-    × ((x : Exposure) (n : ℕ) (l : List ℤ) → addAnswer x l ≡ refused n → addAfter x l ≡ l)
-    × ((k : Key) (n : ℕ) (l : List ℤ) → removeAnswer k l ≡ refused n → removeAfter k l ≡ l)
-    × ((i n : ℕ) (l out : List ℤ) → entryForC i l out ≡ refused n → entryAfterC i l out ≡ out)
-    × ((i : ℕ) (l out : List ℤ) → entryForC i l out ≡ gives nothing → entryAfterC i l out ≡ out)
-    × ((o n : ℕ) (l : List ℤ) (f ranges numbers : List ℕ) → framesAnswer o l f ranges numbers ≡ refused n
-    → (rangesAfter o l f ranges numbers ≡ ranges) × (numbersAfter o l f ranges numbers ≡ numbers))
-    × ((o n : ℕ) (l : List ℤ) (f ranges numbers counts : List ℕ) → framesForC o l f ranges numbers counts ≡ refused n
-    → (rangesAfterC o l f ranges numbers counts ≡ ranges) × (numbersAfterC o l f ranges numbers counts ≡ numbers)
-    × (framesAfterC o l f ranges numbers counts ≡ counts))
-    × ((o n : ℕ) (l : List ℤ) (f first second : List ℕ) (s t : Setting) → trialAnswer o l f s t first second ≡ refused n
-    → (firstAfter o l f s t first second ≡ first) × (secondAfter o l f s t first second ≡ second))
-    × ((o n : ℕ) (l : List ℤ) (f ss first second numbers : List ℕ) → trialForC o l f ss first second numbers ≡ refused n
-    → (firstAfterC o l f ss first second numbers ≡ first) × (secondAfterC o l f ss first second numbers ≡ second)
-    × (trialAfterC o l f ss first second numbers ≡ numbers))
-    × ((n : ℕ) (ns first second part : List ℕ) → chosenForC ns first second part ≡ refused n → chosenAfterC ns first second part ≡ part)
+abbrev pub Stays : {A X : Type 0} → Answer A → List X → List X → Type 0
+Stays a after before = (n : ℕ) → a ≡ refused n → after ≡ before
+
+-- ---- number 10 last
+
+-- an owner, then a file; then two settings
+abbrev pub ownFile : ℕ → List ℕ → Answer File
+ownFile o f = check Owner (isOwner o) (read f)
+
+abbrev pub triedFile : ℕ → List ℕ → Setting → Setting → Answer File
+triedFile o f s t = check Owner (isOwner o) (then (read f) (λ x. checkSetting s (checkSetting t (gives x))))
+
+abbrev pub asked : Exposure → Answer Exposure
+asked x = check Owner (isOwner (x .owner)) (check Vector (isVector (x .pointing)) (gives x))
+
+pub record SpaceLast : Type 0 where
+  pub name : (i : ℕ) (before : List ℕ) → Keeps (nameOf i) (nameAnswer i before)
+  pub reader : (f : List ℕ) (before : List ℤ) → Keeps (read f) (readAnswer f before)
+  pub writer : (s : Style) (d b : ℕ) (rs : List ℤ) (before : List ℕ) → Keeps (writeIn s d b rs) (fileAnswer (writeIn s d b rs) before)
+  pub converter : (s : Style) (f before : List ℕ) → Keeps (read f) (fileAnswer (convert s f) before)
+  pub cover : (f before : List ℕ) → Keeps (read f) (coverAnswer f before)
+  pub add : (x : Exposure) (l : List ℤ) → Keeps (asked x) (addAnswer x l)
+  pub remove : (k : Key) (l : List ℤ) → Keeps (check Owner (isOwner (k .owner)) (gives k)) (removeAnswer k l)
+  pub frames : (o : ℕ) (l : List ℤ) (f ranges numbers : List ℕ) → Keeps (ownFile o f) (framesAnswer o l f ranges numbers)
+  pub trial : (o : ℕ) (l : List ℤ) (f : List ℕ) (s t : Setting) (first second : List ℕ) → Keeps (triedFile o f s t) (trialAnswer o l f s t first second)
+  pub corners-C : (i : ℕ) (out : List ℤ) → Keeps (corners i) (cornersForC i out)
+  pub reader-C : (f : List ℕ) (rows : List ℤ) (header : List ℕ) → Keeps (read f) (readForC f rows header)
+  pub cover-C : (f out counts : List ℕ) → Keeps (read f) (coverForC f out counts)
+  pub frames-C : (o : ℕ) (l : List ℤ) (f ranges numbers counts : List ℕ) → Keeps (ownFile o f) (framesForC o l f ranges numbers counts)
+  pub trial-C : (o : ℕ) (l : List ℤ) (f : List ℕ) (s t : Setting) (first second numbers : List ℕ)
+      → Keeps (triedFile o f s t) (trialForC o l f s t first second numbers)
+
+-- ---- a refusal changes nothing
+
+pub record LentListsStay : Type 0 where
+  pub name : (i : ℕ) (before : List ℕ) → Stays (nameAnswer i before) (nameAfter i before) before
+  pub reader : (f : List ℕ) (before : List ℤ) → Stays (readAnswer f before) (readAfter f before) before
+  pub file : (a : Answer (List ℕ)) (before : List ℕ) → Stays (fileAnswer a before) (fileAfter a before) before
+  pub cover : (f before : List ℕ) → Stays (coverAnswer f before) (coverAfter f before) before
+  pub begin : (l : List ℤ) → Stays (beginAnswer l) (beginAfter l) l
+  pub add : (x : Exposure) (l : List ℤ) → Stays (addAnswer x l) (addAfter x l) l
+  pub remove : (k : Key) (l : List ℤ) → Stays (removeAnswer k l) (removeAfter k l) l
+  pub frames : (o : ℕ) (l : List ℤ) (f ranges numbers : List ℕ)
+      → Stays (framesAnswer o l f ranges numbers) (rangesAfter o l f ranges numbers) ranges
+      × Stays (framesAnswer o l f ranges numbers) (numbersAfter o l f ranges numbers) numbers
+  pub trial : (o : ℕ) (l : List ℤ) (f : List ℕ) (s t : Setting) (first second : List ℕ)
+      → Stays (trialAnswer o l f s t first second) (firstAfter o l f s t first second) first
+      × Stays (trialAnswer o l f s t first second) (secondAfter o l f s t first second) second
+  pub corners-C : (i : ℕ) (out : List ℤ) → Stays (cornersForC i out) (cornersAfterC i out) out
+  pub reader-C : (f : List ℕ) (rows : List ℤ) (header : List ℕ)
+      → Stays (readForC f rows header) (rowsAfterC f rows header) rows × Stays (readForC f rows header) (headerAfterC f rows header) header
+  pub cover-C : (f out counts : List ℕ)
+      → Stays (coverForC f out counts) (coverAfterC f out counts) out × Stays (coverForC f out counts) (countsAfterC f out counts) counts
+  pub entry-C : (i : ℕ) (l out : List ℤ) → Stays (entryForC i l out) (entryAfterC i l out) out
+  pub no-entry-C : (i : ℕ) (l out : List ℤ) → entryForC i l out ≡ gives nothing → entryAfterC i l out ≡ out
+  pub frames-C : (o : ℕ) (l : List ℤ) (f ranges numbers counts : List ℕ)
+      → Stays (framesForC o l f ranges numbers counts) (rangesAfterC o l f ranges numbers counts) ranges
+      × Stays (framesForC o l f ranges numbers counts) (numbersAfterC o l f ranges numbers counts) numbers
+      × Stays (framesForC o l f ranges numbers counts) (framesAfterC o l f ranges numbers counts) counts
+  pub trial-C : (o : ℕ) (l : List ℤ) (f : List ℕ) (s t : Setting) (first second numbers : List ℕ)
+      → Stays (trialForC o l f s t first second numbers) (firstAfterC o l f s t first second numbers) first
+      × Stays (trialForC o l f s t first second numbers) (secondAfterC o l f s t first second numbers) second
+      × Stays (trialForC o l f s t first second numbers) (trialAfterC o l f s t first second numbers) numbers
+  pub chosen-C : (z : ℤ) (ns first second part : List ℕ) → Stays (chosenForC z ns first second part) (chosenAfterC z ns first second part) part

@@ -25,7 +25,7 @@ use Rattle.trial.specs.declared.Choice.the-variants.{First}
 use Rattle.trial.specs.declared.Trial.{Trial}
 use Rattle.trial.specs.declared.TrialOf.{TrialOf}
 use Rattle.trial.specs.Trials.{isSetting, coverBy, skyOf, trialOf}
-use Rattle.trial.specs.Answers.{trialAnswer, firstAfter, secondAfter, trialGiven, ofChoice, partOf}
+use Rattle.trial.specs.Answers.{TrialCall, partOf}
 use Rattle.htm.specs.Frames.{entriesBy}
 
 abbrev pub heldBy : ℕ → List ℤ → Region → ℕ
@@ -49,7 +49,7 @@ pub record Smaller (c : Choice) (s t : Setting) (g : Region) : Type 0 where
   pub no-second : skyOf (chosenOf c s t) g ≤ skyOf t g
   pub equal : skyOf s g ≡ skyOf t g → c ≡ First
 
--- ---- of the answers and of the calls
+-- ---- of the calls
 
 -- r is what the trial answered, and part is what the second call hands back of the two buffers as the trial left them
 pub record Tries (o : ℕ) (l : List ℤ) (f : List ℕ) (s t : Setting) (r : Trial) (part : List ℕ) : Type 0 where
@@ -59,14 +59,7 @@ pub record Tries (o : ℕ) (l : List ℤ) (f : List ℕ) (s t : Setting) (r : Tr
   pub smaller : Smaller (r .choice) s t (file .region)
   pub outer : part ≡ pairs (coverBy (chosenOf (r .choice) s t) (file .region) .outer)
 
-abbrev pub TrialsOfAnswers : Type 0
-TrialsOfAnswers =
-    (o : ℕ) (l : List ℤ) (f : List ℕ) (s t : Setting) (first second : List ℕ) (r : Trial) → trialAnswer o l f s t first second ≡ gives r
-    → Tries o l f s t r (partOf (TrialOf.Gives r) (firstAfter o l f s t first second) (secondAfter o l f s t first second))
-
 abbrev pub TrialsOfCalls : Type 0
 TrialsOfCalls =
     (o : ℕ) (l : List ℤ) (f : List ℕ) (s t : Setting) (first second one two part : List ℕ) (r : Trial)
-    → trialGiven (TrialOf.Gives r) ≡ trialAnswer o l f s t first second
-    → one ≡ firstAfter o l f s t first second → two ≡ secondAfter o l f s t first second → part ≡ partOf (TrialOf.Gives r) one two
-    → Tries o l f s t r part
+    → TrialCall o l f s t first second (TrialOf.Gives r) one two → part ≡ partOf (TrialOf.Gives r) one two → Tries o l f s t r part

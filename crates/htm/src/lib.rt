@@ -32,7 +32,7 @@ ghost use Rattle.index.specs.Exposures.{key, exposure};
 ghost use Rattle.index.specs.Answers.{beginAnswer, beginAfter, addAnswer, addAfter, removeAnswer, removeAfter, countAnswer, entryAnswer};
 ghost use Rattle.index.specs.Answers.{changeGiven, entryGiven};
 ghost use Rattle.frames.specs.Answers.{FramesCall};
-ghost use Rattle.trial.specs.Answers.{trialGiven, trialAnswer, firstAfter, secondAfter, IsPart};
+ghost use Rattle.trial.specs.Answers.{TrialCall, IsPart};
 ghost use Rattle.htm.specs.Answers as answers;
 ghost use Rattle.htm.specs.Answers.{lookupReport, locateLine, coverGiven, coverAnswer, coverAfter};
 
@@ -237,9 +237,8 @@ pub fn trial(
     first: &mut [u64],
     second: &mut [u64],
 ) -> TrialOf
-    ensures { λ r. ⌜ trialGiven r ≡ trialAnswer owner (now (index .entry)) (now (file .entry)) s t (now (first .entry)) (now (second .entry)) ⌝ }
-    ensures { λ r. ⌜ now (first .exit) ≡ firstAfter owner (now (index .entry)) (now (file .entry)) s t (now (first .entry)) (now (second .entry)) ⌝ }
-    ensures { λ r. ⌜ now (second .exit) ≡ secondAfter owner (now (index .entry)) (now (file .entry)) s t (now (first .entry)) (now (second .entry)) ⌝ }
+    ensures { λ r. ⌜ TrialCall owner (now (index .entry)) (now (file .entry)) s t (now (first .entry)) (now (second .entry))
+        r (now (first .exit)) (now (second .exit)) ⌝ }
 {
     trial_calls::trial(index, owner, file, s, t, first, second)
 }

@@ -1,4 +1,4 @@
-// Settings and results of a trial as numbers in lists, for the calls from C. The rules are those of specs/TrialValues.
+// Results and parts of a trial as numbers in lists, for the calls from C. The rules are those of specs/TrialValues.
 use answer::OWNER;
 use answer::SPACE;
 use index::OWNERS;
@@ -16,19 +16,8 @@ ghost use Rattle.answer.specs.Answer.{refused};
 ghost use mathlib.Core.List.{[], _∷_};
 ghost use Rattle.answer.specs.Lent.{put};
 ghost use Rattle.trial.specs.Answers.{trialCounts, ofChoice, partBy};
-ghost use Rattle.htm_abi.specs.TrialValues.{settingAt, choiceIn, resultIn, trialIn, settingRefusalOr, anywayRefused};
+ghost use Rattle.htm_abi.specs.TrialValues.{choiceIn, resultIn, trialIn, settingRefusalOr, anywayRefused};
 ghost use Rattle.trial.specs.Answers.{trialList};
-
-// The setting whose depth and budget stand at element k.
-pub fn setting_at(settings: &[u32], k: usize) -> Setting
-    requires { ⌜ k + 2 ≤ length (now settings) ⌝ }
-    ensures { λ r. ⌜ r ≡ settingAt (now (settings .entry)) k ⌝ }
-{
-    Setting {
-        depth: settings[k],
-        budget: settings[k + 1],
-    }
-}
 
 // The choice that a number stands for.
 fn choice_in(n: u64) -> Choice

@@ -5,6 +5,7 @@
 --   trialAnswer ..     both results, and the choice
 --   firstAfter ..      the first buffer afterwards, and secondAfter the second: the two lists of each setting, as a cover leaves them
 --   trialGiven r       what the call gave
+--   TrialCall ..       it gave r and left both buffers, all by these definitions: the contract of the call
 --   trialList t        both results and the choice, as numbers, `trialCounts` of them: the five of the first, those of the second, and the choice, 1 or 2
 --   fitting n l        the first n elements of l, where it has so many; else none
 --   ofChoice c a b     a where the choice c is the first, b where it is the second
@@ -64,6 +65,11 @@ secondAfter o l f s t first second = stored (listsBy t) (trialInto o l f s t fir
 abbrev pub trialGiven : TrialOf → Answer Trial
 trialGiven (TrialOf.Gives t) = gives t
 trialGiven (TrialOf.Refused n) = refused n
+
+pub record TrialCall (o : ℕ) (l : List ℤ) (f : List ℕ) (s t : Setting) (first second : List ℕ) (r : TrialOf) (one two : List ℕ) : Type 0 where
+  pub answer : trialGiven r ≡ trialAnswer o l f s t first second
+  pub first-left : one ≡ firstAfter o l f s t first second
+  pub second-left : two ≡ secondAfter o l f s t first second
 
 -- a choice by its two cases
 abbrev pub ofChoice : {A : Type 0} → Choice → A → A → A

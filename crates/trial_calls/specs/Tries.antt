@@ -5,7 +5,6 @@
 --                      5, 6, 5, 6, 10
 --   scoreOf d r        the result and the share of the sky of a search at the depth d; trialBy a b: both results, and the choice
 --   Tries, TriesRows   the setting s tried on a region; on every region that has these rows
---   Answers ..         a call gave r, and left both buffers, by the rule
 use Prim.Native.Nat.{ℕ, _+_, _-_, _*_, _^_}
 use mathlib.Core.Path.{_≡_}
 use mathlib.Core.Bool.{cond}
@@ -22,9 +21,8 @@ use Rattle.index.specs.Entries.{IndexLength}
 use Rattle.frames_calls.specs.declared.Searched.{Searched}
 use Rattle.trial.specs.declared.Setting.{Setting}
 use Rattle.trial.specs.declared.Trial.{Trial}
-use Rattle.trial.specs.declared.TrialOf.{TrialOf}
 use Rattle.trial.specs.Trials.{coverBy, resultBy, skyOf, choiceOf}
-use Rattle.trial.specs.Answers.{checkSetting, trialAnswer, firstAfter, secondAfter, trialGiven}
+use Rattle.trial.specs.Answers.{checkSetting}
 use Rattle.trial_calls.specs.declared.ScoredSetting.{ScoredSetting}
 
 -- ---- the checks
@@ -67,10 +65,3 @@ pub record Tries (o : ℕ) (l : List ℤ) (s : Setting) (g : Region) (before : L
 
 abbrev pub TriesRows : ℕ → List ℤ → Setting → List ℤ → ℕ → List ℕ → ScoredSetting → List ℕ → Type 0
 TriesRows o l s rs n before r after = (g : Region) → RowsOf g n rs → Tries o l s g before r after
-
--- ---- the trial
-
-pub record Answers (o : ℕ) (l : List ℤ) (f : List ℕ) (s t : Setting) (first second : List ℕ) (r : TrialOf) (one two : List ℕ) : Type 0 where
-  pub answer : trialGiven r ≡ trialAnswer o l f s t first second
-  pub first-left : one ≡ firstAfter o l f s t first second
-  pub second-left : two ≡ secondAfter o l f s t first second

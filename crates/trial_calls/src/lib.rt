@@ -32,8 +32,8 @@ ghost use Rattle.covering_calls.specs.Decoded.{Decoded};
 ghost use Rattle.frames_calls.specs.Searches.{FileIs};
 ghost use Rattle.trial.specs.declared.TrialOf.the-variants.{Gives};
 ghost use Rattle.trial.specs.Trials.{choiceOf};
-ghost use Rattle.trial.specs.Answers.{trialAnswer, firstAfter, secondAfter, trialGiven, fitting, IsPart};
-ghost use Rattle.trial_calls.specs.Tries.{SettingRefusal, Checks, scoreOf, trialBy, TriesRows, Answers};
+ghost use Rattle.trial.specs.Answers.{TrialCall, fitting, IsPart};
+ghost use Rattle.trial_calls.specs.Tries.{SettingRefusal, Checks, scoreOf, trialBy, TriesRows};
 
 // The result of one setting, and the share of the sky that its outer list spans, in identifiers of depth 12.
 pub struct ScoredSetting {
@@ -169,7 +169,8 @@ fn trial_in(
 ) -> TrialOf
     requires { ⌜ FileIs h (now rows) ⌝ }
     requires { ⌜ isOwner owner ≡ true ⌝ }
-    ensures { λ r. ⌜ ((f : List ℕ) → Decoded f h (now (rows .entry)) → Answers owner (now (index .entry)) f s t (now (first .entry)) (now (second .entry)) r (now (first .exit)) (now (second .exit))) ⌝ }
+    ensures { λ r. ⌜ ((f : List ℕ) → Decoded f h (now (rows .entry))
+        → TrialCall owner (now (index .entry)) f s t (now (first .entry)) (now (second .entry)) r (now (first .exit)) (now (second .exit))) ⌝ }
 {
     let refused = refusal(index.len(), s, t, first.len(), second.len());
     if refused != 0 {
@@ -190,9 +191,8 @@ pub fn trial(
     first: &mut [u64],
     second: &mut [u64],
 ) -> TrialOf
-    ensures { λ r. ⌜ trialGiven r ≡ trialAnswer owner (now (index .entry)) (now (file .entry)) s t (now (first .entry)) (now (second .entry)) ⌝ }
-    ensures { λ r. ⌜ now (first .exit) ≡ firstAfter owner (now (index .entry)) (now (file .entry)) s t (now (first .entry)) (now (second .entry)) ⌝ }
-    ensures { λ r. ⌜ now (second .exit) ≡ secondAfter owner (now (index .entry)) (now (file .entry)) s t (now (first .entry)) (now (second .entry)) ⌝ }
+    ensures { λ r. ⌜ TrialCall owner (now (index .entry)) (now (file .entry)) s t (now (first .entry)) (now (second .entry))
+        r (now (first .exit)) (now (second .exit)) ⌝ }
 {
     if OWNERS <= owner {
         return TrialOf::Refused(OWNER);

@@ -16,8 +16,7 @@ use Rattle.trial_calls.proofs.trial.Tie as tie
 other : tie.Need-returns
 other c =
     let a = c .before .before .before .before .args in
-    let r = no-owner (a .owner) (now (a .index)) (now (a .file)) (a .s) (a .t) (now (a .first)) (now (a .second)) (le-ltb (a .owner) 2 (omega (arith, c .if1 .taken))) in
-    (r .answer, (r .first-left, r .second-left))
+    no-owner (a .owner) (now (a .index)) (now (a .file)) (a .s) (a .t) (now (a .first)) (now (a .second)) (le-ltb (a .owner) 2 (omega (arith, c .if1 .taken)))
 
 own : (c : tie.Else1) → isOwner (c .before .before .before .before .args .owner) ≡ true
 own c = lt-ltb (c .before .before .before .before .args .owner) 2 (omega (arith, c .if1 .left))
@@ -37,16 +36,14 @@ wants c κs =
 given : tie.Need-returns-2
 given c =
     let v = c .before .before .before .before in
-    let r = v .trial-in .ensures _ (file (v .before .before .before .before)) in
-    (r .answer, (r .first-left, r .second-left))
+    v .trial-in .ensures _ (file (v .before .before .before .before))
 
 refused : tie.Need-returns-3
 refused c =
     let d = c .before .before .before in
     let e = d .before .before in
     let a = e .before .before .before .before .args in
-    let r = file-refused (a .owner) (now (a .index)) (now (a .file)) (a .s) (a .t) (now (a .first)) (now (a .second)) (own e) (c .before .said2 .given .0 .0) (sym (ap headerGiven (c .before .said2 .given .1)) ∙ d .decode .ensures .0) in
-    (r .answer, (r .first-left, r .second-left))
+    file-refused (a .owner) (now (a .index)) (now (a .file)) (a .s) (a .t) (now (a .first)) (now (a .second)) (own e) (c .before .said2 .given .0 .0) (sym (ap headerGiven (c .before .said2 .given .1)) ∙ d .decode .ensures .0)
 
 pub trial-spec : {M : Type 1} → statement M
 trial-spec =

@@ -5,7 +5,7 @@ use denote.Ref.{now}
 use borrow.Author.Needs.{needs}
 use Rattle.covering_calls.proofs.DecodedLaws.{some-rows}
 use Rattle.trial.specs.declared.TrialOf.{TrialOf}
-use Rattle.trial_calls.specs.Tries.{Answers}
+use Rattle.trial.specs.Answers.{TrialCall}
 use Rattle.trial_calls.proofs.CheckLaws.{SettingsPassed, passed}
 use Rattle.trial_calls.proofs.AnswerLaws.{check-refused, tried-both}
 use Rattle.trial_calls.proofs.trial_in.Statement.{statement}
@@ -50,7 +50,7 @@ given c f k =
     let a = s .args in
     let one = u .try-setting .last .1 .1 .1 .1 .1 .0 in
     let two = v .try-setting2 .last .1 .1 .1 .1 .1 .0 in
-    subst (λ t. Answers (a .owner) (now (a .index)) f (a .s) (a .t) (now (a .first)) (now (a .second)) (TrialOf.Gives t) one two) (sym (c .compared .ensures))
+    subst (λ t. TrialCall (a .owner) (now (a .index)) f (a .s) (a .t) (now (a .first)) (now (a .second)) (TrialOf.Gives t) one two) (sym (c .compared .ensures))
     (tried-both (a .owner) (now (a .index)) f (a .s) (a .t) (now (a .first)) (now (a .second)) (s .pre .1) k (r .refusal .result) (r .refusal .ensures) (e .if1 .left)
     (u .try-setting .result) (v .try-setting2 .result) one two (u .try-setting .ensures (k .file .region) (k .rows)) (v .try-setting2 .ensures (k .file .region) (k .rows)))
 

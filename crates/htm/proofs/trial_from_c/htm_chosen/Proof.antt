@@ -1,15 +1,14 @@
--- `htm::trial_from_c::htm_chosen` checks both lists, and tells the part. Assumes nothing.
+-- `htm::trial_from_c::htm_chosen` checks both lists, asks the status, and tells the part. Assumes nothing.
 use native.Mathlib.Omega.{arith}
 use mathlib.Core.Path.{_≡_, sym, ap, _∙_}
 use mathlib.Core.List.{[], _∷_}
 use borrow.Author.Needs.{needs}
 use denote.Ref.{now}
-use lib.ListN.{length}
 use Rattle.algebra.proofs.Sized.{held}
 use Rattle.answer.specs.Lent.{put}
-use Rattle.trial.specs.Answers.{partBy}
-use Rattle.htm.specs.TrialFromC.{partList}
-use Rattle.htm.proofs.TrialCLaws.{few-numbers, no-room-for-part, part-put}
+use Rattle.trial.specs.declared.TrialOf.{TrialOf}
+use Rattle.htm_abi.specs.TrialValues.{partList}
+use Rattle.htm.proofs.TrialCLaws.{few-numbers, no-room-for-part, no-part, some-part, zero-status, other-status}
 use Rattle.htm.proofs.trial_from_c.htm_chosen.Statement.{statement}
 use Rattle.htm.proofs.trial_from_c.htm_chosen.Tie as tie
 
@@ -18,7 +17,7 @@ few c =
     let i = c .before in
     let a = i .before .before .before .before .before .args in
     let m = c .minus .ensures in
-    let k = few-numbers (now (a .numbers)) (now (a .first)) (now (a .second)) (now (a .part)) (omega (arith, i .if1 .taken)) in
+    let k = few-numbers (a .status) (now (a .numbers)) (now (a .first)) (now (a .second)) (now (a .part)) (omega (arith, i .if1 .taken)) in
     (held (m .1) tt .eq ∙ m .0 ∙ k .0, k .1)
 
 short : tie.Need-returns-2
@@ -27,25 +26,37 @@ short c =
     let i = j .before in
     let a = i .before .before .before .before .before .args in
     let m = c .minus2 .ensures in
-    let k = no-room-for-part (now (a .numbers)) (now (a .first)) (now (a .second)) (now (a .part)) (omega (arith, i .if1 .left)) (omega (arith, j .if2 .taken)) in
+    let k = no-room-for-part (a .status) (now (a .numbers)) (now (a .first)) (now (a .second)) (now (a .part)) (omega (arith, i .if1 .left)) (omega (arith, j .if2 .taken)) in
     (held (m .1) tt .eq ∙ m .0 ∙ k .0, k .1)
 
-handed-back : tie.Need-returns-3
-handed-back c =
+none : tie.Need-returns-3
+none c =
+    let p = c .before .before in
+    let q = p .before .before in
+    let j = q .before in
+    let i = j .before in
+    let a = i .before .before .before .before .before .args in
+    let k = no-part (a .status) (now (a .numbers)) (now (a .first)) (now (a .second)) (now (a .part)) (omega (arith, i .if1 .left)) (omega (arith, j .if2 .left))
+    (other-status (a .status) (q .if3 .taken)) in
+    (k .0, p .put-part .ensures ∙ k .1)
+
+told : tie.Need-returns-4
+told c =
     let p = c .before .before in
     let w = p .before in
     let n = w .before .before in
     let t = n .before in
-    let j = t .before in
+    let q = t .before in
+    let j = q .before in
     let i = j .before in
-    let a = i .before .before .before .before .before .args in
-    let xs = now (a .first) in
-    let ys = now (a .second) in
-    let k = part-put (now (a .numbers)) xs ys (now (a .part)) (omega (arith, i .if1 .left)) (omega (arith, j .if2 .left)) in
+    let s = i .before .before .before .before .before in
+    let a = s .args in
+    let k = some-part (a .status) (now (a .numbers)) (now (a .first)) (now (a .second)) (now (a .part)) (omega (arith, i .if1 .left)) (omega (arith, j .if2 .left))
+    (zero-status (s .fits .status) (q .if3 .left)) in
     let e = t .trial-at .ensures in (
       k .0,
-      p .put-part .ensures
-          ∙ (λ i. put 0 (w .choice-number .ensures i ∷ n .part-length .ensures i ∷ []) (now (a .part))) ∙ ap (λ r. put 0 (partList r xs ys) (now (a .part))) e ∙ k .1,
+      p .put-part2 .ensures ∙ (λ i. put 0 (w .choice-number .ensures i ∷ n .part-length .ensures i ∷ []) (now (a .part)))
+          ∙ ap (λ r. put 0 (partList (TrialOf.Gives r) (now (a .first)) (now (a .second))) (now (a .part))) e ∙ k .1,
     )
 
 pub htm-chosen-spec : {M : Type 1} → statement M
@@ -57,8 +68,11 @@ htm-chosen-spec =
     (λ c κs. search needs)
     short
     (λ c κs. search needs)
+    (λ c. search needs)
+    none
+    (λ c κs. search needs)
     (λ c κs. search needs)
     (λ c κs. search needs)
     (λ c κs. search needs)
     (λ c. search needs)
-    handed-back)
+    told)
