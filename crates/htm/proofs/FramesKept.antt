@@ -39,6 +39,7 @@ use Rattle.index.specs.HistoryCorrect.{Ascends, isFiled, IsIndex}
 use Rattle.index.proofs.OrderLaws.{eqZ-eq, only-ascends}
 use Rattle.index.proofs.TallyLaws.{some-tally}
 use Rattle.frames.specs.declared.Disposition.{Disposition}
+use Rattle.frames.specs.declared.Frames as declared
 use Rattle.frames.specs.Walk.{whole, shortened, numberOf, entriesOf, dispositionOf, Met, met, walk, isDelivered, isTested, deliveredBy, testsOf}
 use Rattle.frames.specs.Answers.{framesInto, walkOf, framesBy, framesAnswer, rangesAfter, numbersAfter}
 use Rattle.frames.proofs.WalkLaws.{dispositionIn, walk-all, delivered-only, tallied, only-same, tally-same, only-every, only-length}
