@@ -21,7 +21,6 @@ list-spec =
     (λ c. omega arith)
     (λ c κs. tt)
     (λ c. search needs)
-    (λ c. search needs)
     (λ c κs. tt)
     (λ c. tt)
     (λ c κs. tt)
