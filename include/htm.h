@@ -26,8 +26,7 @@
  *   16 full    1024 exposures are the owner's    17 absent  no such number of its owner's
  *   18 owner   not 0 or 1
  * In the calls on an index 18 comes before all else. There 10 says that the list is too short to be one, and comes before 15, 16 and 17;
- * of htm_frames and htm_trial it says that any of its lists is too short, and comes last. Only a list of settings that is too short is
- * found before their depths and budgets are checked.
+ * of htm_frames and htm_trial it says that any of its lists is too short, and comes last.
  *
  * Styles: a region file is plain, with a record for each convex and one for each halfspace (kinds 2 and 3), or grouped, with one
  * record for each convex and all its halfspaces (kind 5). Every call that reads a region file takes either style. */
@@ -158,29 +157,30 @@ int64_t htm_index_entry(const int64_t *index, size_t elements, uint32_t place, i
 int64_t htm_frames(const int64_t *index, size_t elements, uint32_t owner, const uint8_t *file, size_t bytes, uint64_t *ranges, size_t n,
                    uint32_t *numbers, size_t m, uint64_t *counts, size_t k);
 
-/* The region of a region file of so many bytes under two settings, tried on the owner's exposures. settings[0] and settings[1] are depth
- * and budget of the first, settings[2] and settings[3] those of the second. They stand in for the depth and budget of the file's header,
- * and a budget of 0 counts as HTM_DEFAULT_BUDGET. first and second are left as htm_cover leaves its list under that setting: the outer
- * list from element 0 on, the inner list from element 2 * budget on.
+/* The region of a region file of so many bytes under two settings, tried on the owner's exposures: depth_1 and budget_1, then depth_2 and
+ * budget_2. They stand in for the depth and budget of the file's header, and a budget of 0 counts as HTM_DEFAULT_BUDGET. first and second
+ * are left as htm_cover leaves its list under the first setting and under the second: the outer list from element 0 on, the inner list
+ * from element 2 * budget on.
  * numbers[0] to numbers[4] are the result of the first setting: how many of the owner's exposures htm_frames would deliver unchecked, test
  * and hold, and test and discard, and how many ranges the outer and the inner list have. numbers[5] to numbers[9] are that of the
  * second. Unchecked plus held is the same under both settings: the exposures that the region holds. numbers[10] is the choice, 1 or 2:
  * the setting whose outer list spans the smaller share of the sky, counted in identifiers of depth 12, and 1 where they are equal.
  * The elements of numbers from 11 on keep their values.
- * 0, or -N for refusal N: 18 where there is no such owner; then that of the file's first failed check, 1 to 9 or 14; then -10 where
- * settings has fewer than 4 elements; then 5 and 6 of the first setting, and 5 and 6 of the second; then -10 where first or second has
- * fewer than 4 * budget elements of its setting, at most 8192, index fewer than HTM_INDEX_LENGTH, or numbers fewer than 11. */
-int64_t htm_trial(const int64_t *index, size_t elements, uint32_t owner, const uint8_t *file, size_t bytes, const uint32_t *settings,
-                  size_t s, uint64_t *first, size_t n1, uint64_t *second, size_t n2, uint64_t *numbers, size_t m);
+ * 0, or -N for refusal N: 18 where there is no such owner; then that of the file's first failed check, 1 to 9 or 14; then 5 and 6 of the
+ * first setting, and 5 and 6 of the second; then -10 where first or second has fewer than 4 * budget elements of its setting, at most
+ * 8192, index fewer than HTM_INDEX_LENGTH, or numbers fewer than 11. */
+int64_t htm_trial(const int64_t *index, size_t elements, uint32_t owner, const uint8_t *file, size_t bytes, uint32_t depth_1,
+                  uint32_t budget_1, uint32_t depth_2, uint32_t budget_2, uint64_t *first, size_t n1, uint64_t *second, size_t n2,
+                  uint64_t *numbers, size_t m);
 
-/* The outer list of the chosen setting, given what htm_trial left in numbers, first and second. It is a part of one of these two lists,
- * itself and not a copy: part[0] is which one, 1 for first and 2 for second, and part[1] how many of its elements, from element 0 on, are
- * the part, pairs low, high. Nothing else is written, and the part is there for as long as its list keeps these elements.
- * part[0] is 0 where numbers[10] is neither 1 nor 2. part[1] is 0, and the part empty, there and where the list is shorter than its outer
- * list. A refused htm_trial leaves numbers as it was: with zeros in it before, the part is empty after a refusal.
+/* The outer list of the chosen setting, given what htm_trial returned (status) and left in numbers, first and second. It is a part of one
+ * of these two lists, itself and not a copy: part[0] is which one, 1 for first and 2 for second, and part[1] how many of its elements, from
+ * element 0 on, are the part, pairs low, high. Nothing else is written, and the part is there for as long as its list keeps these elements.
+ * After a refused htm_trial, that is with any status but 0, part[0] and part[1] are 0, whatever an earlier trial left in the lists. part[1]
+ * is 0 too, and the part empty, where the chosen list is shorter than the outer list of the result.
  * 0; -10 where numbers has fewer than 11 elements or part fewer than 2. */
-int64_t htm_chosen(const uint64_t *numbers, size_t m, const uint64_t *first, size_t n1, const uint64_t *second, size_t n2, uint64_t *part,
-                   size_t p);
+int64_t htm_chosen(int64_t status, const uint64_t *numbers, size_t m, const uint64_t *first, size_t n1, const uint64_t *second, size_t n2,
+                   uint64_t *part, size_t p);
 
 #ifdef __cplusplus
 }

@@ -3,7 +3,7 @@
  * one that is shorter by one element and one that is exactly long enough. Then adds and removals on short lists, in the order of their checks, and the calls
  * on lists of noise, which no history leaves.
  * What htm_frames leaves in its range list is compared with htm_cover, and so is each buffer of htm_trial, with the setting in the file's
- * header; the part that htm_chosen tells is printed from the buffer itself.
+ * header; the part that htm_chosen tells is printed from the buffer itself, and is empty after a refusal, also in lists that are used again.
  *
  *   index STDIN STDOUT     exit status 1 on any difference */
 #include <inttypes.h>
@@ -250,29 +250,26 @@ struct buffers {
 };
 
 struct room {
-    size_t index, settings, first, second, numbers;
+    size_t index, first, second, numbers;
 };
 
 struct setting {
     uint32_t depth, budget;
 };
 
-static const struct room roomy = {ALL, 5, RANGES + BEHIND, RANGES + BEHIND, COUNTS + BEHIND};
-static struct buffers trial_given, trial_again, trial_painted;
+static const struct room roomy = {ALL, RANGES + BEHIND, RANGES + BEHIND, COUNTS + BEHIND};
+static struct buffers trial_given, trial_again, trial_painted, trial_before;
+
+static int64_t trial_into(uint32_t owner, const struct region *r, const struct setting *two, struct room n, struct buffers *to)
+{
+    return htm_trial(kept, n.index, owner, r->bytes, r->count, two[0].depth, two[0].budget, two[1].depth, two[1].budget, to->lists[0], n.first, to->lists[1],
+                     n.second, to->numbers, n.numbers);
+}
 
 static int64_t trial_of(uint32_t owner, const struct region *r, const struct setting *two, struct room n, struct buffers *to)
 {
-    uint32_t settings[5] = {two[0].depth, two[0].budget, two[1].depth, two[1].budget, UINT32_MAX};
     memset(to, PAINT & 0xff, sizeof *to);
-    return htm_trial(kept, n.index, owner, r->bytes, r->count, settings, n.settings, to->lists[0], n.first, to->lists[1], n.second, to->numbers, n.numbers);
-}
-
-/* The refusal of the owner or of the file, which comes before all others; 0 where there is none. */
-static int64_t refusal_before(uint32_t owner, const struct region *r)
-{
-    static int32_t rows[2560];
-    uint64_t header[3];
-    return owner < 2 ? htm_read(r->bytes, r->count, rows, 2560, header, 3) : -18;
+    return trial_into(owner, r, two, n, to);
 }
 
 /* The same region with another depth and budget in its header. */
@@ -320,18 +317,15 @@ static size_t room_for(struct setting s)
     return 4 * (0 < s.budget && s.budget <= 2048 ? s.budget : HTM_DEFAULT_BUDGET);
 }
 
-/* The trial with lists of exact lengths, and with each of them short by one. Short settings come before what they say. */
+/* The trial with lists of exact lengths, and with each of them short by one: 10 comes after every other refusal. */
 static void trial_must_need(uint32_t owner, const struct region *r, const struct setting *two, int64_t answer)
 {
-    struct room exact = {HTM_INDEX_LENGTH, 4, room_for(two[0]), room_for(two[1]), COUNTS}, n = exact;
+    struct room exact = {HTM_INDEX_LENGTH, room_for(two[0]), room_for(two[1]), COUNTS}, n = exact;
     must(trial_of(owner, r, two, exact, &trial_again) == answer, "lists of the exact lengths are tried alike");
     must(memcmp(&trial_again, &trial_given, sizeof trial_given) == 0, "lists of the exact lengths are left alike");
-    int64_t before = refusal_before(owner, r), refusal = answer ? answer : -10;
+    int64_t refusal = answer ? answer : -10;
     n.index--;
     must(trial_is_left(owner, r, two, n, refusal), "an index that is short by one is not tried, and all stays");
-    n = exact;
-    n.settings--;
-    must(trial_is_left(owner, r, two, n, before ? before : -10), "settings that are short by one are not tried, and all stays");
     n = exact;
     n.first--;
     must(trial_is_left(owner, r, two, n, refusal), "a first buffer that is short by one is not tried, and all stays");
@@ -341,32 +335,38 @@ static void trial_must_need(uint32_t owner, const struct region *r, const struct
     n = exact;
     n.numbers--;
     must(trial_is_left(owner, r, two, n, refusal), "a list of numbers that is short by one is not tried, and all stays");
-    must(trial_is_left(owner, r, two, (struct room){0, 4, 0, 0, 0}, refusal), "lists of no elements are not tried, and all stays");
-    must(trial_is_left(owner, r, two, (struct room){0, 0, 0, 0, 0}, before ? before : -10), "no settings are not tried, and all stays");
+    must(trial_is_left(owner, r, two, (struct room){0, 0, 0, 0}, refusal), "lists of no elements are not tried, and all stays");
 }
 
-/* What htm_chosen tells of some numbers and of buffers of so many elements: the buffer and the length, each other element of the list staying. */
-static bool is_part(const struct buffers *b, size_t n1, size_t n2, uint64_t which, uint64_t length)
+/* What htm_chosen tells of a status, some numbers and buffers of so many elements: the buffer and the length, each other element of the list staying. */
+static bool is_part(int64_t status, const struct buffers *b, size_t n1, size_t n2, uint64_t which, uint64_t length)
 {
     uint64_t part[2 + BEHIND], wanted_part[2 + BEHIND];
     memset(part, PAINT & 0xff, sizeof part);
     memcpy(wanted_part, part, sizeof part);
     wanted_part[0] = which;
     wanted_part[1] = length;
-    return htm_chosen(b->numbers, COUNTS, b->lists[0], n1, b->lists[1], n2, part, 2) == 0 && memcmp(part, wanted_part, sizeof part) == 0;
+    return htm_chosen(status, b->numbers, COUNTS, b->lists[0], n1, b->lists[1], n2, part, 2) == 0 && memcmp(part, wanted_part, sizeof part) == 0;
 }
 
-static bool has_no_part(const struct buffers *b, size_t numbers, size_t p)
+static bool has_no_part(int64_t status, const struct buffers *b, size_t numbers, size_t p)
 {
     uint64_t part[2] = {PAINT, PAINT};
-    return htm_chosen(b->numbers, numbers, b->lists[0], RANGES, b->lists[1], RANGES, part, p) == -10 && part[0] == PAINT && part[1] == PAINT;
+    return htm_chosen(status, b->numbers, numbers, b->lists[0], RANGES, b->lists[1], RANGES, part, p) == -10 && part[0] == PAINT && part[1] == PAINT;
+}
+
+/* A list of numbers and a list for the part that are too short, with any status. */
+static void part_must_need(int64_t status, const struct buffers *b)
+{
+    must(has_no_part(status, b, COUNTS - 1, 2) && has_no_part(status, b, 0, 2), "numbers that are short tell no part");
+    must(has_no_part(status, b, COUNTS, 1) && has_no_part(status, b, COUNTS, 0), "a part that is short is refused, and stays");
 }
 
 /* The same of the trial, where its chosen buffer and the other one have so many elements. */
 static bool has_part(size_t its, size_t others, uint64_t length)
 {
     uint64_t choice = trial_given.numbers[COUNTS - 1];
-    return is_part(&trial_given, choice == 1 ? its : others, choice == 1 ? others : its, choice, length);
+    return is_part(0, &trial_given, choice == 1 ? its : others, choice == 1 ? others : its, choice, length);
 }
 
 /* The part in buffers that are longer, exact, short by one and empty; it is printed from the buffer that is told. */
@@ -380,13 +380,24 @@ static void print_part(size_t at)
     must(has_part(length, 0, length), "a buffer of the exact length has the part");
     must(length == 0 || has_part(length - 1, RANGES, 0), "a buffer that is short by one has no part");
     must(has_part(0, RANGES, 0), "a buffer of no elements has no part");
-    must(has_no_part(b, COUNTS - 1, 2) && has_no_part(b, 0, 2), "numbers that are short tell no part");
-    must(has_no_part(b, COUNTS, 1) && has_no_part(b, COUNTS, 0), "a part that is short is refused, and stays");
-    must(htm_chosen(b->numbers, COUNTS + BEHIND, b->lists[0], RANGES, b->lists[1], RANGES, part, 2) == 0, "longer numbers tell a part");
+    part_must_need(0, b);
+    must(htm_chosen(0, b->numbers, COUNTS + BEHIND, b->lists[0], RANGES, b->lists[1], RANGES, part, 2) == 0, "longer numbers tell a part");
     must(memcmp(&before, b, sizeof before) == 0, "numbers and buffers stay");
     const uint64_t *list = b->lists[part[0] == 2];
     for (uint64_t i = 0; i + 1 < part[1] && part[1] <= RANGES; i += 2)
         at += (size_t)sprintf(printed + at, "|%" PRIu64 " %" PRIu64, list[i], list[i + 1]);
+}
+
+/* A refused trial has the empty part, also where its lists have those of an earlier trial. */
+static void refused_trial(uint32_t owner, const struct region *r, const struct setting *two, int64_t answer)
+{
+    must(memcmp(&trial_given, &trial_painted, sizeof trial_given) == 0, "a trial that is refused leaves every element");
+    must(is_part(answer, &trial_given, RANGES, RANGES, 0, 0), "a refused trial has no part");
+    memcpy(&trial_again, &trial_before, sizeof trial_again);
+    must(trial_into(owner, r, two, roomy, &trial_again) == answer, "lists that are used again are refused alike");
+    must(memcmp(&trial_again, &trial_before, sizeof trial_again) == 0, "lists that are used again stay");
+    must(is_part(answer, &trial_again, RANGES, RANGES, 0, 0), "a refused trial has no part of an earlier one");
+    part_must_need(answer, &trial_again);
 }
 
 static void trial(void)
@@ -406,12 +417,11 @@ static void trial(void)
         for (int i = 0; i < COUNTS; i++)
             n += (size_t)sprintf(printed + n, i ? " %" PRIu64 : "%" PRIu64, trial_given.numbers[i]);
         print_part(n);
+        memcpy(&trial_before, &trial_given, sizeof trial_before);
         tried++;
         chosen[trial_given.numbers[COUNTS - 1] % 3]++;
     } else {
-        must(memcmp(&trial_given, &trial_painted, sizeof trial_given) == 0, "a trial that is refused leaves every element");
-        memset(trial_again.numbers, 0, sizeof trial_again.numbers);
-        must(is_part(&trial_again, RANGES, RANGES, 0, 0), "zeros have no part");
+        refused_trial(owner, &r, two, answer);
         print_answer(answer);
         not_tried++;
     }
@@ -526,7 +536,7 @@ static void trial_in_noise(const struct region *some, size_t elements, uint32_t 
     must(memcmp(other, kept, sizeof kept) == 0, "noise that is tried stays");
 }
 
-/* Numbers that no trial gives. */
+/* Statuses and numbers that no trial gives. */
 static void chosen_in_noise(void)
 {
     static const uint64_t values[] = {0, 1, 2, 3, 4, 64, 4096, UINT32_MAX, (1ull << 32) + 1, (1ull << 32) + 2, 1ull << 63, (1ull << 63) + 1, UINT64_MAX};
@@ -536,9 +546,11 @@ static void chosen_in_noise(void)
     if (next() % 4)
         b->numbers[COUNTS - 1] = 1 + next() % 2;
     size_t n1 = next() % 3 ? next() % 10 : next() % (RANGES + 1), n2 = next() % 3 ? next() % 10 : next() % (RANGES + 1);
-    uint64_t choice = b->numbers[COUNTS - 1], which = choice == 1 || choice == 2 ? choice : 0;
+    static const int64_t statuses[] = {1, -1, -10, -18, 1ll << 32, INT64_MIN, INT64_MAX};
+    int64_t status = next() % 4 ? 0 : statuses[next() % (sizeof statuses / sizeof statuses[0])];
+    uint64_t which = status ? 0 : b->numbers[COUNTS - 1] == 1 ? 1 : 2;
     uint64_t outer = b->numbers[which == 2 ? 8 : 3], room = which == 1 ? n1 : which == 2 ? n2 : 0;
-    must(is_part(b, n1, n2, which, outer <= room / 2 ? 2 * outer : 0), "any numbers tell a part of the buffer, or none");
+    must(is_part(status, b, n1, n2, which, outer <= room / 2 ? 2 * outer : 0), "any numbers tell a part of the buffer, or none");
 }
 
 static void noise(const struct region *some)
