@@ -1,6 +1,7 @@
 // Lines of input, each answered as it ends. After a read that failed the line that has begun is not answered, and after a write that failed nothing
 // more is read.
 use check::same;
+use command_words::StoredLine;
 use print::Buffer;
 use print::LOST;
 use region::Style;
@@ -14,53 +15,63 @@ pub mod trixels;
 // A loop must end, and no run reads so many blocks.
 const BLOCKS: u64 = u64::MAX;
 
-// Between two bytes of the input: how many bytes of a line are kept, and the place in what is printed.
+// Between two bytes of the input: what is stored of a line, and the place in what is printed.
 struct LineState {
-    kept: usize,
+    stored: StoredLine,
     at: usize,
 }
 
 // Answers the lines of the input. The result is how many bytes `line` holds of a last one that has no line feed and is to be answered.
 pub fn answer_lines(line: &mut Buffer, out: &mut Buffer) -> usize {
     let mut block = io::large_buffer();
-    let mut kept = 0;
+    let mut stored = command_words::empty_line();
     for _ in 0..BLOCKS {
         let Input::Bytes(n) = streams::read(&mut block) else {
             return 0;
         };
         if n == 0 {
-            return kept;
+            return stored.bytes;
         }
-        let place = answer_block(&block[..n], line, kept, out);
+        let place = answer_block(&block[..n], line, stored, out);
         if place.at == LOST {
             return 0;
         }
-        kept = place.kept;
+        stored = place.stored;
     }
     0
 }
 
-// Answers the lines that end in a block; `line` has so many bytes of the first one already.
-fn answer_block(block: &[u8], line: &mut Buffer, kept: usize, out: &mut Buffer) -> LineState {
-    let mut place = LineState { kept: kept, at: 0 };
+// Answers the lines that end in a block; `line` has what is stored of the first one already.
+fn answer_block(
+    block: &[u8],
+    line: &mut Buffer,
+    stored: StoredLine,
+    out: &mut Buffer,
+) -> LineState {
+    let mut place = LineState {
+        stored: stored,
+        at: 0,
+    };
     for i in 0..block.len() {
         place = answer_byte(block[i], line, place, out);
     }
+    let stored = place.stored;
     LineState {
-        kept: place.kept,
+        stored: stored,
         at: print::flush(out, place.at),
     }
 }
 
 fn answer_byte(b: u8, line: &mut Buffer, place: LineState, out: &mut Buffer) -> LineState {
+    let stored = place.stored;
     if b == b'\n' {
         return LineState {
-            kept: 0,
-            at: answer_line(line, place.kept, out, place.at),
+            stored: command_words::empty_line(),
+            at: answer_line(line, stored.bytes, out, place.at),
         };
     }
     LineState {
-        kept: command_words::append_byte(line, place.kept, b),
+        stored: command_words::append_byte(line, stored, b),
         at: place.at,
     }
 }

@@ -10,16 +10,16 @@ use Rattle.archive_commands.proofs.answer_lines.Statement.{statement}
 use Rattle.archive_commands.proofs.answer_lines.Tie as tie
 
 abbrev Inv-loop : tie.InvT-loop
-Inv-loop index₀ line₀ out₀ block₀ kept₀ counter₀ index line out block kept counter = (counter ≤ 18446744073709551615) × (length block ≡ 65536) × (length index ≡ length index₀)
+Inv-loop index₀ line₀ out₀ block₀ stored₀ counter₀ index line out block stored counter = (counter ≤ 18446744073709551615) × (length block ≡ 65536) × (length index ≡ length index₀)
 
 abbrev μ-loop : tie.MeasureT-loop
-μ-loop index₀ line₀ out₀ block₀ kept₀ counter₀ index line out block kept counter = 18446744073709551615 - counter
+μ-loop index₀ line₀ out₀ block₀ stored₀ counter₀ index line out block stored counter = 18446744073709551615 - counter
 
 within : (c : tie.After-known-told Inv-loop μ-loop) → Counts (c .before .n .given .0 .0) (c .before .before .before .before .read .last .0)
 within c = subst (Within _) (c .before .n .given .1) (c .before .before .before .before .read .ensures)
 
 -- the index keeps its length in a block
-same-index : (c : tie.After-answer-block Inv-loop μ-loop) → length (c .answer-block .last .1 .0) ≡ length (c .before .before .before .before .before .before .before .before .before .before .before .before .before .before .before .args .index .now)
+same-index : (c : tie.After-answer-block Inv-loop μ-loop) → length (c .answer-block .last .1 .0) ≡ length (c .before .before .before .before .before .before .before .before .before .before .before .before .before .before .before .before .args .index .now)
 same-index c = c .answer-block .kept .1 .0 ∙ c .before .before .before .before .before .before .before .before .before .before .before .before .before .loop .inv .2
 
 pub answer-lines-spec : {M : Type 1} → statement M
@@ -28,6 +28,7 @@ answer-lines-spec =
     (tie.spec
     Inv-loop
     μ-loop
+    (λ c κs. tt)
     (λ c κs. tt)
     (λ c. search needs)
     (λ c. search needs)
@@ -45,6 +46,6 @@ answer-lines-spec =
     (λ c. tt)
     (λ c. omega arith)
     (λ c. omega arith)
-    (λ c. (omega arith, search needs, same-index (c .before .before .before)))
+    (λ c. (omega arith, search needs, same-index (c .before .before .before .before)))
     (λ c. c .before .loop .inv .2)
     (λ c. tt))

@@ -10,10 +10,10 @@ use Rattle.query_commands.proofs.answer_lines.Statement.{statement}
 use Rattle.query_commands.proofs.answer_lines.Tie as tie
 
 abbrev Inv-loop : tie.InvT-loop
-Inv-loop line₀ out₀ block₀ kept₀ counter₀ line out block kept counter = (counter ≤ 18446744073709551615) × (length block ≡ 65536)
+Inv-loop line₀ out₀ block₀ stored₀ counter₀ line out block stored counter = (counter ≤ 18446744073709551615) × (length block ≡ 65536)
 
 abbrev μ-loop : tie.MeasureT-loop
-μ-loop line₀ out₀ block₀ kept₀ counter₀ line out block kept counter = 18446744073709551615 - counter
+μ-loop line₀ out₀ block₀ stored₀ counter₀ line out block stored counter = 18446744073709551615 - counter
 
 within : (c : tie.After-known-told Inv-loop μ-loop) → Counts (c .before .n .given .0 .0) (c .before .before .before .before .read .last .0)
 within c = subst (Within _) (c .before .n .given .1) (c .before .before .before .before .read .ensures)
@@ -24,6 +24,7 @@ answer-lines-spec =
     (tie.spec
     Inv-loop
     μ-loop
+    (λ c κs. tt)
     (λ c κs. tt)
     (λ c. search needs)
     (λ c. search needs)
