@@ -1,7 +1,7 @@
 #!/usr/bin/env bash
 # The SQLite host's frames in PostgreSQL: on one server with a partition for each root, and spread over two more servers. The frames
-# that each delivers for some regions are compared with what the SQLite host delivers. Private servers on sockets in a temporary
-# folder, which is removed at the end. `make postgres` builds the programs and runs this.
+# that each delivers for some regions are compared with what the SQLite host delivers; with a wrong row they must differ. Private servers
+# on sockets in a temporary folder, which is removed at the end. `make postgres` builds the programs and runs this.
 set -euo pipefail
 export LC_ALL=C
 cd "$(dirname "$0")/../.."
@@ -73,10 +73,13 @@ else
     echo "postgres_fdw is missing (Debian: postgresql-contrib): the spread table is not tried"
 fi
 
-# A region's frames from a database: numbers to FILE.numbers, counts to FILE.counts.
+# A region's frames from a database. Beside the region file: the query to FILE.sql, numbers to FILE.numbers, counts to FILE.counts.
 deliver() { # DATABASE REGIONFILE
-    "$region" sql "$2" > "$room/query.sql"
-    sql $one -d "$1" -At -F, -f "$room/query.sql" | "$region" filter "$2" > "$2.numbers" 2> "$2.counts"
+    "$region" sql "$2" > "$2.sql"
+    sql $one -d "$1" -At -F, -f "$2.sql" | "$region" filter "$2" > "$2.numbers" 2> "$2.counts"
+}
+same() { # REGIONFILE: whether these are the SQLite host's
+    cmp -s "$1.numbers" "$1.wanted" && cmp -s "$1.counts" "$1.wanted_counts"
 }
 
 failed=0
@@ -88,7 +91,7 @@ compare() { # NAME DEPTH BUDGET ROWS..
         began=${EPOCHREALTIME/./}
         deliver "$database" "$file"
         took=$(((${EPOCHREALTIME/./} - began) / 1000))
-        if cmp -s "$file.numbers" "$file.wanted" && cmp -s "$file.counts" "$file.wanted_counts"; then
+        if same "$file"; then
             printf '%-14s %-8s %s; %d ms\n' "$1" "$database" "$(cat "$file.counts")" "$took"
         else
             printf '%-14s %-8s DIFFERS from the SQLite host\n' "$1" "$database"
@@ -107,11 +110,31 @@ compare square_hole 12 64 0 254317 1017268 0 0 0 254317 -1017268 0 0 0 254317 0 
 compare three_caps 10 0 0 0 0 -1048576 1044586 1 0 -1048576 0 1048416 2 741455 741455 0 1044586
 compare whole_sky 3 5 0 0 0 1048576 -1 1 0 0 -1048576 -1
 compare nothing 11 64 0 1048576 0 0 908093 0 0 1048576 0 908093
-"$region" sql "$room/cap_5_coarse.region" | diff $here/query.sql - || { echo "query.sql is not the query of cap_5_coarse"; failed=1; }
 
-echo "the plan of cap_5_coarse on one server, and over two:"
+query=$room/cap_5_coarse.region.sql
+echo "the query of cap_5_coarse, and its plan on one server, and over two:"
+cat "$query"
 for database in $databases; do
-    { echo EXPLAIN ANALYZE; cat $here/query.sql; } | sql $one -d $database -At -f - | grep -E 'Values|Scan|Execution' | sed 's/  (cost=[^)]*)//'
+    { echo EXPLAIN ANALYZE; cat "$query"; } | sql $one -d $database -At -f - | grep -E 'Values|Scan|Execution' | sed 's/  (cost=[^)]*)//'
 done
 [ $failed = 0 ] || exit 1
+
+# The comparison itself: each of these rows is one that it must not pass.
+cap=$room/cap_5.region
+wrong() { # WHAT STATEMENT
+    sql $one -c "$2"
+    deliver archive "$cap"
+    if same "$cap"; then
+        echo "not seen: $1"
+        exit 1
+    fi
+    echo "seen: $1"
+}
+first=$(sed -n 1p "$cap.wanted")
+tested=$(sql $one -At -F, -f "$cap.sql" | grep '^f' | "$region" filter "$cap" 2> /dev/null | sed -n 1p)
+wrong "a frame with another number" "UPDATE frames SET number = -number WHERE number = $first"
+sql $one -c "UPDATE frames SET number = -number WHERE number = -$first"
+wrong "a tested frame with another pointing" "UPDATE frames SET x = -x, y = -y, z = -z WHERE number = $tested"
+sql $one -c "UPDATE frames SET x = -x, y = -y, z = -z WHERE number = $tested"
+wrong "a frame that is missing" "DELETE FROM frames WHERE number = $first"
 echo "PostgreSQL and the SQLite host deliver the same frames"

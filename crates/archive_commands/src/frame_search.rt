@@ -1,6 +1,6 @@
 // The command of archive that finds the frames of a region: frames. It is answered from the word at `next` on.
+use command_words::FILE_CAPACITY;
 use command_words::NaturalAt;
-use command_words::WORD_CAPACITY;
 use frames::Frames;
 use frames::FramesOf;
 use index::OWNER_CAPACITY;
@@ -15,7 +15,7 @@ pub fn frames(index: &[i64], line: &[u8], next: usize, out: &mut Buffer, at: usi
     let NaturalAt::Is(owner, file_at) = command_words::natural_at(line, next) else {
         return print::usage(out, at);
     };
-    let mut file = [0u8; WORD_CAPACITY];
+    let mut file = [0u8; FILE_CAPACITY];
     let n = command_words::file(command_words::last(line, file_at), &mut file);
     find(index, owner, &file, n, out, at)
 }
@@ -24,7 +24,7 @@ pub fn frames(index: &[i64], line: &[u8], next: usize, out: &mut Buffer, at: usi
 fn find(
     index: &[i64],
     owner: u32,
-    file: &[u8; WORD_CAPACITY],
+    file: &[u8; FILE_CAPACITY],
     n: usize,
     out: &mut Buffer,
     at: usize,

@@ -4,6 +4,7 @@ use answer::OWNER;
 use check::same;
 use command_words::NaturalAt;
 use command_words::PointAt;
+use command_words::StoredLine;
 use index::Change;
 use index::Entry;
 use index::EntryOf;
@@ -19,9 +20,9 @@ pub mod setting_trial;
 // A loop must end, and no run reads so many blocks.
 const BLOCKS: u64 = u64::MAX;
 
-// Between two bytes of the input: how many bytes of a line are stored, and the end of what is printed.
+// Between two bytes of the input: what is stored of a line, and the end of what is printed.
 struct LineState {
-    stored: usize,
+    stored: StoredLine,
     at: usize,
 }
 
@@ -34,13 +35,13 @@ struct Listed {
 // Answers the lines of the input. The result is how many bytes `line` holds of a last one that has no line feed and is to be answered.
 pub fn answer_lines(index: &mut [i64], line: &mut Buffer, out: &mut Buffer) -> usize {
     let mut block = io::large_buffer();
-    let mut stored = 0;
+    let mut stored = command_words::empty_line();
     for _ in 0..BLOCKS {
         let Input::Bytes(n) = streams::read(&mut block) else {
             return 0;
         };
         if n == 0 {
-            return stored;
+            return stored.bytes;
         }
         let state = answer_block(&block[..n], index, line, stored, out);
         if state.at == LOST {
@@ -51,12 +52,12 @@ pub fn answer_lines(index: &mut [i64], line: &mut Buffer, out: &mut Buffer) -> u
     0
 }
 
-// Answers the lines that end in a block; `line` has so many bytes of the first one already.
+// Answers the lines that end in a block; `line` has what is stored of the first one already.
 fn answer_block(
     block: &[u8],
     index: &mut [i64],
     line: &mut Buffer,
-    stored: usize,
+    stored: StoredLine,
     out: &mut Buffer,
 ) -> LineState {
     let mut state = LineState {
@@ -66,8 +67,9 @@ fn answer_block(
     for i in 0..block.len() {
         state = answer_byte(block[i], index, line, state, out);
     }
+    let stored = state.stored;
     LineState {
-        stored: state.stored,
+        stored: stored,
         at: print::flush(out, state.at),
     }
 }
@@ -79,14 +81,15 @@ fn answer_byte(
     state: LineState,
     out: &mut Buffer,
 ) -> LineState {
+    let stored = state.stored;
     if b == b'\n' {
         return LineState {
-            stored: 0,
-            at: answer_line(index, line, state.stored, out, state.at),
+            stored: command_words::empty_line(),
+            at: answer_line(index, line, stored.bytes, out, state.at),
         };
     }
     LineState {
-        stored: command_words::append_byte(line, state.stored, b),
+        stored: command_words::append_byte(line, stored, b),
         at: state.at,
     }
 }

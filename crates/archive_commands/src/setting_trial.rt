@@ -1,6 +1,6 @@
 // The command of archive that tries two settings for a region: trial. It is answered from the word at `next` on.
+use command_words::FILE_CAPACITY;
 use command_words::NaturalAt;
-use command_words::WORD_CAPACITY;
 use limits::MAX_BUDGET;
 use print::Buffer;
 use trial::Choice;
@@ -31,7 +31,7 @@ pub fn trial(index: &[i64], line: &[u8], next: usize, out: &mut Buffer, at: usiz
     if !command_words::is_over(line, end) {
         return print::usage(out, at);
     }
-    let mut file = [0u8; WORD_CAPACITY];
+    let mut file = [0u8; FILE_CAPACITY];
     let n = command_words::file(command_words::word(line, file_at), &mut file);
     try_both(index, owner, &file, n, s, t, out, at)
 }
@@ -51,7 +51,7 @@ fn setting_at(line: &[u8], at: usize) -> SettingAt {
 fn try_both(
     index: &[i64],
     owner: u32,
-    file: &[u8; WORD_CAPACITY],
+    file: &[u8; FILE_CAPACITY],
     n: usize,
     s: Setting,
     t: Setting,

@@ -1,18 +1,35 @@
 // A command line as it is stored, and its words: numbers, pointings, files and floats in hexadecimal digits, lists of numbers.
 use check::same;
+use limits::MAX_FILE_BYTES;
 ghost use mathlib.Core.Path.{_≡_};
 ghost use mathlib.Core.List.{[], _∷_};
 ghost use Rattle.command_words.specs.Numbers.{UpTo, naturalFrom, naturalIn, wholeIn, plain, negated};
-ghost use Prim.Native.Nat.{_≤_};
+ghost use Rattle.command_words.specs.Files.{FileDigits, hexValue, letterValue, bytesIn, lengthOf, filePlace, Pushed, Stored};
+ghost use Prim.Native.Nat.{_+_, _≤_};
 ghost use lib.ListN.{length};
 
-// A line of 65536 bytes has no more bytes in digits, and no more numbers.
+// The bytes of a file that are read: one more than a region file may have.
+pub const FILE_CAPACITY: usize = MAX_FILE_BYTES + 1;
+
+// A line of 65536 bytes has no more numbers.
 pub const WORD_CAPACITY: usize = 32768;
 
 // More than the arrays hold.
 const NONE: usize = 32769;
 
 const BLANK: u8 = b' ';
+
+// The digits of a file of so many bytes.
+const FILE_DIGITS: usize = 2 * FILE_CAPACITY;
+
+// Past every place of a line.
+const NO_FILE: usize = usize::MAX;
+
+// What is stored of a line while it comes: how many bytes, and the place where its file begins while that comes.
+pub struct StoredLine {
+    pub bytes: usize,
+    pub file: usize,
+}
 
 pub enum NaturalAt {
     Is(u32, usize),
@@ -39,8 +56,100 @@ pub enum Whole {
     Not,
 }
 
-// One byte more of a line of which n are stored. A line that is too long counts as one byte more than `line` can hold.
-pub fn append_byte(line: &mut [u8], n: usize, b: u8) -> usize {
+// A line of which nothing has come.
+pub fn empty_line() -> StoredLine {
+    StoredLine {
+        bytes: 0,
+        file: NO_FILE,
+    }
+}
+
+// One byte more of a line. Of a file no more digits are stored than tell that it is too long for a region file, so that a line with a file may have any length.
+// A line that is too long otherwise counts as more bytes than `line` can hold.
+pub fn append_byte(line: &mut [u8], stored: StoredLine, b: u8) -> StoredLine
+    ensures { λ r. ⌜ Stored (filePlace b (stored .file)) (stored .bytes) b (now (line .entry)) (now (line .exit)) (r .bytes) ⌝ }
+{
+    let n = stored.bytes;
+    if b == BLANK {
+        let file = file_after(line, n);
+        let bytes = store(line, n, NO_FILE, b);
+        return StoredLine { bytes, file };
+    }
+    let file = stored.file;
+    let bytes = store(line, n, file, b);
+    StoredLine { bytes, file }
+}
+
+// Where a file begins that follows the first n bytes of a line and a blank.
+fn file_after(line: &[u8], n: usize) -> usize {
+    if line.len() <= n {
+        return NO_FILE;
+    }
+    if is_before_file(&line[..n]) {
+        return n + 1;
+    }
+    NO_FILE
+}
+
+// Whether the word after these is a file or a catalogue line in digits: after the name of the command or, for the commands of an owner, after the owner.
+fn is_before_file(line: &[u8]) -> bool {
+    let name = word(line, 0);
+    let owner_at = after(line, 0);
+    if is_over(line, owner_at) {
+        return takes_file(name);
+    }
+    is_over(line, after(line, owner_at)) && takes_owner_and_file(name)
+}
+
+fn takes_file(name: &[u8]) -> bool {
+    same(name, b"rows")
+        || same(name, b"togrouped")
+        || same(name, b"toplain")
+        || same(name, b"holds")
+        || same(name, b"cover")
+        || same(name, b"line")
+}
+
+fn takes_owner_and_file(name: &[u8]) -> bool {
+    same(name, b"frames") || same(name, b"trial")
+}
+
+// One byte more of a line of which n are stored, with a file from `file` on.
+fn store(line: &mut [u8], n: usize, file: usize, b: u8) -> usize
+    ensures { λ r. ⌜ Stored file n b (now (line .entry)) (now (line .exit)) r ⌝ }
+{
+    if line.len() < n {
+        return n;
+    }
+    if n <= file {
+        return push(line, n, b);
+    }
+    if n - file < FILE_DIGITS {
+        return push(line, n, b);
+    }
+    store_past(line, n, file, b)
+}
+
+// The same where the file is too long already: of its further digits two are dropped as they come, and any other byte makes it no file.
+fn store_past(line: &mut [u8], n: usize, file: usize, b: u8) -> usize
+    requires { ⌜ file + FileDigits ≤ n ⌝ }
+    requires { ⌜ n ≤ length (now line) ⌝ }
+    ensures { λ r. ⌜ Stored file n b (now (line .entry)) (now (line .exit)) r ⌝ }
+{
+    if 15 < digit(b) {
+        line[file] = b;
+        return n;
+    }
+    if FILE_DIGITS < n - file {
+        return file + FILE_DIGITS;
+    }
+    push(line, n, b)
+}
+
+// One byte more, as it comes.
+fn push(line: &mut [u8], n: usize, b: u8) -> usize
+    ensures { λ r. ⌜ Pushed n b (now (line .entry)) (now (line .exit)) r ⌝ }
+{
     if n < line.len() {
         line[n] = b;
         return n + 1;
@@ -190,8 +299,10 @@ pub fn identifier(line: &[u8], at: usize) -> Natural {
     natural_of(last(line, at), u64::MAX)
 }
 
-// The bytes of a file: two digits each, and `-` for a file with no bytes.
-pub fn file(word: &[u8], to: &mut [u8; WORD_CAPACITY]) -> usize {
+// The bytes of a file: two digits each, and `-` for a file with no bytes. Of a longer file the first FILE_CAPACITY bytes are stored.
+pub fn file(word: &[u8], to: &mut [u8; FILE_CAPACITY]) -> usize
+    ensures { λ r. ⌜ r ≡ lengthOf (bytesIn (now (word .entry))) ⌝ }
+{
     if same(word, b"-") {
         return 0;
     }
@@ -202,17 +313,19 @@ pub fn file(word: &[u8], to: &mut [u8; WORD_CAPACITY]) -> usize {
     if n * 2 < word.len() {
         return NONE;
     }
-    if WORD_CAPACITY < n {
-        return NONE;
-    }
     for i in 0..n {
         let value = digit(word[i * 2]) * 16 + digit(word[i * 2 + 1]);
         if 255 < value {
             return NONE;
         }
-        to[i] = value as u8;
+        if i < FILE_CAPACITY {
+            to[i] = value as u8;
+        }
     }
-    n
+    if n < FILE_CAPACITY {
+        return n;
+    }
+    FILE_CAPACITY
 }
 
 // The bits of a float: so many hexadecimal digits, no more and no fewer, and at most 16.
@@ -233,6 +346,7 @@ pub fn bits_of(word: &[u8], digits: usize) -> Natural {
 
 // The value of a digit; 256 for another byte, so that two bytes give at most 255 only if both are digits.
 pub fn digit(byte: u8) -> u32
+    ensures { λ r. ⌜ r ≡ hexValue byte ⌝ }
     ensures { λ r. ⌜ r ≤ 256 ⌝ }
 {
     if byte < b'0' {
@@ -247,6 +361,7 @@ pub fn digit(byte: u8) -> u32
 // The value of a letter from `first` on, or `other` for another byte.
 fn letter(byte: u8, first: u8, other: u32) -> u32
     requires { ⌜ other ≤ 256 ⌝ }
+    ensures { λ r. ⌜ r ≡ letterValue byte first other ⌝ }
     ensures { λ r. ⌜ r ≤ 256 ⌝ }
 {
     if byte < first {

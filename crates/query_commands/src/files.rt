@@ -1,6 +1,7 @@
 // The commands of query that turn region files into rows and back, and from one style to the other: rows, file, grouped, togrouped, toplain. Each is
 // answered from the word at `next` on.
 use answer::Number;
+use command_words::FILE_CAPACITY;
 use command_words::NaturalAt;
 use command_words::WORD_CAPACITY;
 use limits::HALFSPACES;
@@ -14,13 +15,13 @@ const ROWS: usize = 5 * HALFSPACES;
 
 // rows HEX
 pub fn rows(line: &[u8], next: usize, out: &mut Buffer, at: usize) -> usize {
-    let mut file = [0u8; WORD_CAPACITY];
+    let mut file = [0u8; FILE_CAPACITY];
     let n = command_words::file(command_words::last(line, next), &mut file);
     read(&file, n, out, at)
 }
 
 // The rows of a file of n bytes, if it has a length.
-fn read(file: &[u8; WORD_CAPACITY], n: usize, out: &mut Buffer, at: usize) -> usize {
+fn read(file: &[u8; FILE_CAPACITY], n: usize, out: &mut Buffer, at: usize) -> usize {
     let all: &[u8] = file;
     if all.len() < n {
         return print::usage(out, at);
@@ -72,7 +73,7 @@ fn write(
 
 // togrouped HEX, toplain HEX
 pub fn convert(style: Style, line: &[u8], next: usize, out: &mut Buffer, at: usize) -> usize {
-    let mut file = [0u8; WORD_CAPACITY];
+    let mut file = [0u8; FILE_CAPACITY];
     let n = command_words::file(command_words::last(line, next), &mut file);
     converted(style, &file, n, out, at)
 }
@@ -80,7 +81,7 @@ pub fn convert(style: Style, line: &[u8], next: usize, out: &mut Buffer, at: usi
 // A file of n bytes in the wanted style, if it has a length.
 fn converted(
     style: Style,
-    file: &[u8; WORD_CAPACITY],
+    file: &[u8; FILE_CAPACITY],
     n: usize,
     out: &mut Buffer,
     at: usize,

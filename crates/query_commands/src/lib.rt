@@ -1,6 +1,7 @@
 // Lines of input, each answered as it ends. After a read that failed the line that has begun is not answered, and after a write that failed nothing
 // more is read.
 use check::same;
+use command_words::StoredLine;
 use print::Buffer;
 use print::LOST;
 use region::Style;
@@ -14,22 +15,22 @@ pub mod trixels;
 // A loop must end, and no run reads so many blocks.
 const BLOCKS: u64 = u64::MAX;
 
-// Between two bytes of the input: how many bytes of a line are stored, and the end of what is printed.
+// Between two bytes of the input: what is stored of a line, and the end of what is printed.
 struct LineState {
-    stored: usize,
+    stored: StoredLine,
     at: usize,
 }
 
 // Answers the lines of the input. The result is how many bytes `line` holds of a last one that has no line feed and is to be answered.
 pub fn answer_lines(line: &mut Buffer, out: &mut Buffer) -> usize {
     let mut block = io::large_buffer();
-    let mut stored = 0;
+    let mut stored = command_words::empty_line();
     for _ in 0..BLOCKS {
         let Input::Bytes(n) = streams::read(&mut block) else {
             return 0;
         };
         if n == 0 {
-            return stored;
+            return stored.bytes;
         }
         let state = answer_block(&block[..n], line, stored, out);
         if state.at == LOST {
@@ -40,8 +41,13 @@ pub fn answer_lines(line: &mut Buffer, out: &mut Buffer) -> usize {
     0
 }
 
-// Answers the lines that end in a block; `line` has so many bytes of the first one already.
-fn answer_block(block: &[u8], line: &mut Buffer, stored: usize, out: &mut Buffer) -> LineState {
+// Answers the lines that end in a block; `line` has what is stored of the first one already.
+fn answer_block(
+    block: &[u8],
+    line: &mut Buffer,
+    stored: StoredLine,
+    out: &mut Buffer,
+) -> LineState {
     let mut state = LineState {
         stored: stored,
         at: 0,
@@ -49,21 +55,23 @@ fn answer_block(block: &[u8], line: &mut Buffer, stored: usize, out: &mut Buffer
     for i in 0..block.len() {
         state = answer_byte(block[i], line, state, out);
     }
+    let stored = state.stored;
     LineState {
-        stored: state.stored,
+        stored: stored,
         at: print::flush(out, state.at),
     }
 }
 
 fn answer_byte(b: u8, line: &mut Buffer, state: LineState, out: &mut Buffer) -> LineState {
+    let stored = state.stored;
     if b == b'\n' {
         return LineState {
-            stored: 0,
-            at: answer_line(line, state.stored, out, state.at),
+            stored: command_words::empty_line(),
+            at: answer_line(line, stored.bytes, out, state.at),
         };
     }
     LineState {
-        stored: command_words::append_byte(line, state.stored, b),
+        stored: command_words::append_byte(line, stored, b),
         at: state.at,
     }
 }

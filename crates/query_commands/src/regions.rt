@@ -1,6 +1,6 @@
 // The commands of query about regions: holds, cover. Each is answered from the word at `next` on.
+use command_words::FILE_CAPACITY;
 use command_words::PointAt;
-use command_words::WORD_CAPACITY;
 use print::Buffer;
 use region::HeldOf;
 
@@ -15,14 +15,14 @@ pub fn holds(line: &[u8], next: usize, out: &mut Buffer, at: usize) -> usize {
     if !command_words::is_over(line, end) {
         return print::usage(out, at);
     }
-    let mut file = [0u8; WORD_CAPACITY];
+    let mut file = [0u8; FILE_CAPACITY];
     let n = command_words::file(command_words::word(line, next), &mut file);
     test(&file, n, x, y, z, out, at)
 }
 
 // The point test on a file of n bytes, if it has a length.
 fn test(
-    file: &[u8; WORD_CAPACITY],
+    file: &[u8; FILE_CAPACITY],
     n: usize,
     x: i32,
     y: i32,
@@ -42,13 +42,13 @@ fn test(
 
 // cover HEX
 pub fn cover(line: &[u8], next: usize, out: &mut Buffer, at: usize) -> usize {
-    let mut file = [0u8; WORD_CAPACITY];
+    let mut file = [0u8; FILE_CAPACITY];
     let n = command_words::file(command_words::last(line, next), &mut file);
     lines(&file, n, out, at)
 }
 
 // The cover of a file of n bytes on one line, if it has a length.
-fn lines(file: &[u8; WORD_CAPACITY], n: usize, out: &mut Buffer, at: usize) -> usize {
+fn lines(file: &[u8; FILE_CAPACITY], n: usize, out: &mut Buffer, at: usize) -> usize {
     let all: &[u8] = file;
     if all.len() < n {
         return print::usage(out, at);

@@ -1,9 +1,9 @@
 // The commands of query about trixels: lookup, line, name, id, corners. Each is answered from the word at `next` on.
 use answer::Number;
+use command_words::FILE_CAPACITY;
 use command_words::Natural;
 use command_words::NaturalAt;
 use command_words::PointAt;
-use command_words::WORD_CAPACITY;
 use mesh::Corners;
 use mesh::CornersOf;
 use print::Buffer;
@@ -40,14 +40,14 @@ pub fn line(line: &[u8], next: usize, out: &mut Buffer, at: usize) -> usize {
     if !command_words::is_over(line, end) {
         return print::usage(out, at);
     }
-    let mut bytes = [0u8; WORD_CAPACITY];
+    let mut bytes = [0u8; FILE_CAPACITY];
     let n = command_words::file(command_words::word(line, next), &mut bytes);
     locate_line(&bytes, n, depth, out, at)
 }
 
 // The lookup of a catalogue line of n bytes, if it has a length.
 fn locate_line(
-    bytes: &[u8; WORD_CAPACITY],
+    bytes: &[u8; FILE_CAPACITY],
     n: usize,
     depth: u32,
     out: &mut Buffer,

@@ -7,10 +7,10 @@ use Rattle.archive_commands.proofs.answer_block.Statement.{statement}
 use Rattle.archive_commands.proofs.answer_block.Tie as tie
 
 abbrev Inv-loop : tie.InvT-loop
-Inv-loop block index₀ line₀ stored out₀ state₀ i₀ i-end index line out state i = (i ≤ length block) × (length index ≡ length index₀)
+Inv-loop block index₀ line₀ out₀ state₀ i₀ i-end index line out state i = (i ≤ length block) × (length index ≡ length index₀)
 
 abbrev μ-loop : tie.MeasureT-loop
-μ-loop block index₀ line₀ stored out₀ state₀ i₀ i-end index line out state i = length block - i
+μ-loop block index₀ line₀ out₀ state₀ i₀ i-end index line out state i = length block - i
 
 pub answer-block-spec : {M : Type 1} → statement M
 answer-block-spec =
@@ -25,5 +25,5 @@ answer-block-spec =
     (λ c. omega arith)
     (λ c. (omega arith, c .before .answer-byte .kept .1 .0 ∙ c .before .before .before .before .before .before .before .loop .inv .1))
     (λ c κs. tt)
-    (λ c. c .before .before .before .loop .inv .1)
+    (λ c. c .before .before .before .before .loop .inv .1)
     (λ c. tt))

@@ -19,7 +19,7 @@ within : (c : tie.After-known-told Inv-loop μ-loop) → Counts (c .before .n .g
 within c = subst (Within _) (c .before .n .given .1) (c .before .before .before .before .read .ensures)
 
 -- the index keeps its length in a block
-same-index : (c : tie.After-answer-block Inv-loop μ-loop) → length (c .answer-block .last .1 .0) ≡ length (c .before .before .before .before .before .before .before .before .before .before .before .before .before .before .before .args .index .now)
+same-index : (c : tie.After-answer-block Inv-loop μ-loop) → length (c .answer-block .last .1 .0) ≡ length (c .before .before .before .before .before .before .before .before .before .before .before .before .before .before .before .before .args .index .now)
 same-index c = c .answer-block .kept .1 .0 ∙ c .before .before .before .before .before .before .before .before .before .before .before .before .before .loop .inv .2
 
 pub answer-lines-spec : {M : Type 1} → statement M
@@ -28,6 +28,7 @@ answer-lines-spec =
     (tie.spec
     Inv-loop
     μ-loop
+    (λ c κs. tt)
     (λ c κs. tt)
     (λ c. search needs)
     (λ c. search needs)
@@ -45,6 +46,6 @@ answer-lines-spec =
     (λ c. tt)
     (λ c. omega arith)
     (λ c. omega arith)
-    (λ c. (omega arith, search needs, same-index (c .before .before .before)))
+    (λ c. (omega arith, search needs, same-index (c .before .before .before .before)))
     (λ c. c .before .loop .inv .2)
     (λ c. tt))

@@ -6,10 +6,10 @@ use Rattle.query_commands.proofs.answer_block.Statement.{statement}
 use Rattle.query_commands.proofs.answer_block.Tie as tie
 
 abbrev Inv-loop : tie.InvT-loop
-Inv-loop block line₀ stored out₀ state₀ i₀ i-end line out state i = i ≤ length block
+Inv-loop block line₀ out₀ state₀ i₀ i-end line out state i = i ≤ length block
 
 abbrev μ-loop : tie.MeasureT-loop
-μ-loop block line₀ stored out₀ state₀ i₀ i-end line out state i = length block - i
+μ-loop block line₀ out₀ state₀ i₀ i-end line out state i = length block - i
 
 pub answer-block-spec : {M : Type 1} → statement M
 answer-block-spec =

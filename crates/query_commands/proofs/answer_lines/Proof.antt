@@ -25,6 +25,7 @@ answer-lines-spec =
     Inv-loop
     μ-loop
     (λ c κs. tt)
+    (λ c κs. tt)
     (λ c. search needs)
     (λ c. search needs)
     (λ c κs. tt)
