@@ -81,13 +81,13 @@ pub counts-example : (deliveredBy day ≡ 2 ∷ 4 ∷ 5 ∷ 6 ∷ 8 ∷ 12 ∷ 1
 unfolding only tally
 counts-example = (refl, refl, refl, refl, refl)
 
-abbrev fates : List Met → List Disposition
-fates ms = map (λ m. m .fate) ms
+abbrev dispositions : List Met → List Disposition
+dispositions ms = map (λ m. m .disposition) ms
 
 abbrev unordered : List Entry
 unordered = e 15 1 north ∷ e 13 2 north ∷ e 31 3 south ∷ e 12 4 north ∷ e 30 5 north ∷ e 40 6 north ∷ e 31 7 north ∷ []
 
-pub behind-example : fates (walk 12 held outer inner unordered) ≡ Held ∷ Held ∷ Unchecked ∷ Skipped ∷ Unchecked ∷ Skipped ∷ Skipped ∷ []
+pub behind-example : dispositions (walk 12 held outer inner unordered) ≡ Held ∷ Held ∷ Unchecked ∷ Skipped ∷ Unchecked ∷ Skipped ∷ Skipped ∷ []
 unfolding walk ahead isVector
 behind-example = refl
 
@@ -108,7 +108,7 @@ abbrev night : List Entry
 night =
     of 48 1048575 north ∷ of 49 0 north ∷ of 49 1048575 south ∷ of 50 0 south ∷ of 50 1048575 south ∷ of 51 0 north ∷ of 60 7 north ∷ []
 
-pub second-example : fates (walk 2 held (range 49 50 ∷ range 60 60 ∷ []) (range 50 50 ∷ []) night)
+pub second-example : dispositions (walk 2 held (range 49 50 ∷ range 60 60 ∷ []) (range 50 50 ∷ []) night)
     ≡ Skipped ∷ Held ∷ Discarded ∷ Unchecked ∷ Unchecked ∷ Skipped ∷ Held ∷ []
 unfolding walk ahead isVector
 second-example = refl
