@@ -27,7 +27,7 @@ use Rattle.vector.proofs.GreatestLaws.{greatest-passes, greatest-most, greatest
 use Rattle.mesh.specs.declared.Trixel.{Trixel}
 use Rattle.mesh.proofs.Path.{Inside}
 use Rattle.region.specs.declared.Halfspace.{Halfspace}
-use Rattle.classify.specs.Shape.{square, positive, ray0, ray1, ray2, volume, eOf, fOf, DOf, GOf, ahead, reachesRay, reaches, bOf, EOf, IsGreatestE, EGreatest, within, far, byCap, beyondEdge, beyond, apart, apartBy}
+use Rattle.classify.specs.Shape.{square, positive, ray0, ray1, ray2, volume, eOf, fOf, DOf, GOf, ahead, reachesRay, reaches, bOf, EOf, within, far, byCap, beyondEdge, beyond, apart, apartBy}
 
 -- ---- the cone lemma, from the tests
 
@@ -89,7 +89,13 @@ pub E-reaches : (t : Trixel) → reaches (bOf t) (EOf t) t ≡ true
 unfolding EOf
 E-reaches t = greatest-passes (λ n. reaches (bOf t) (pos n) t) Kℕ (and-both (no-reach (bOf t) (ray0 t)) (and-both (no-reach (bOf t) (ray1 t)) (no-reach (bOf t) (ray2 t))))
 
-pub E-greatest : EGreatest
+-- E passes its test, is at most K, and no number up to K that passes is above it
+pub record IsGreatestE (t : Trixel) (E : ℤ) : Type 0 where
+  pub passes : reaches (bOf t) E t ≡ true
+  pub most : leZ E K ≡ true
+  pub above : (n : ℕ) → n ≤ Kℕ → reaches (bOf t) (pos n) t ≡ true → leZ (pos n) E ≡ true
+
+pub E-greatest : (t : Trixel) → IsGreatestE t (EOf t)
 unfolding EOf
 E-greatest t =
     let test : ℕ → Bool = λ n. reaches (bOf t) (pos n) t in

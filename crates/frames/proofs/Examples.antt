@@ -22,7 +22,7 @@ use Rattle.vector.specs.Vectors.{vec, isVector}
 use Rattle.region.specs.Building.{lastConvex, total, withHalfspace, add}
 use Rattle.region.specs.Regions.{Region}
 use Rattle.region.specs.Reader.{header, recordIn, recordsIn, read}
-use Rattle.region.specs.Writer.{fileIn, fileOf, convexesBytes, halfspacesBytes}
+use Rattle.region.specs.Writer.{fileIn, convexesBytes, halfspacesBytes}
 use Rattle.ranges.specs.Ranges.{Range, range}
 use Rattle.index.specs.declared.Entry.{Entry}
 use Rattle.index.specs.Exposures.{only}
@@ -31,6 +31,7 @@ use Rattle.frames.specs.declared.Disposition.{Disposition}
 use Rattle.frames.specs.declared.Disposition.the-variants.{Skipped, Unchecked, Held, Discarded}
 use Rattle.frames.specs.Walk.{shortened, numberOf, entriesOf, ahead, Met, met, walk, deliveredBy, testsOf}
 use Rattle.frames.specs.Answers.{framesInto, framesBy, framesList}
+use Rattle.region.specs.declared.Style.{Style}
 
 -- ---- entries of owner 0: an identifier, a number and a pointing that the test holds, that it does not, that is no vector
 
@@ -137,7 +138,7 @@ abbrev region : Region
 region = (record { n = north; d = pos 0 } ∷ []) ∷ []
 
 abbrev file : List ℕ
-file = fileOf 2 1 region
+file = fileIn Style.Plain 2 1 region
 
 abbrev index : List ℤ
 index = replicate 12289 (pos 0)

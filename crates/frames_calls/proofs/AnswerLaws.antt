@@ -1,11 +1,11 @@
 -- The answer by its checks in their order: the owner, the file's, the two lent lists' lengths and the index's, then what a search of the file's rows delivers.
 -- Assumes nothing.
-use Prim.Native.Nat.{ℕ, _+_, _*_, _≤_, _<_}
+use Prim.Native.Nat.{ℕ, _*_, _≤_, _<_}
 use native.Mathlib.Omega.{arith}
 use mathlib.Core.Path.{_≡_, refl, sym, ap, _∙_}
 use mathlib.Core.Bool.{Bool, true, false}
 use mathlib.Core.List.{List}
-use lib.Dec.{leb, ltb}
+use lib.Dec.{leb}
 use lib.ListN.{length}
 use lib.IntN.{ℤ}
 use borrow.Author.Tests.{le-leb, lt-leb}
@@ -13,7 +13,6 @@ use Rattle.answer.specs.Answer.{Answer, refused, gives, check, then, with-value
 use Rattle.answer.specs.Lent.{put, stored}
 use Rattle.answer.proofs.AnswerLaws.{value-refused}
 use Rattle.region.specs.declared.Header.{Header}
-use Rattle.region.specs.Regions.{holds}
 use Rattle.region.specs.Budgets.{budgetOf}
 use Rattle.region.specs.Reader.{File, read}
 use Rattle.region.specs.Answers.{headerOf}
@@ -23,9 +22,8 @@ use Rattle.covering_calls.proofs.DecodedLaws.{budget-same, cover-same}
 use Rattle.index.specs.Exposures.{OwnerCapacity, isOwner}
 use Rattle.index.specs.Entries.{IndexLength}
 use Rattle.index.specs.Answers.{inList}
-use Rattle.frames.specs.declared.Frames.{Frames}
 use Rattle.frames.specs.declared.FramesOf.{FramesOf}
-use Rattle.frames.specs.Walk.{Met, deliveredBy, testsOf}
+use Rattle.frames.specs.Walk.{Met, deliveredBy}
 use Rattle.frames.specs.Answers.{framesInto, walkOf, framesBy, framesAnswer, rangesAfter, numbersAfter, FramesCall}
 use Rattle.frames_walk.specs.Steps.{countsBy}
 use Rattle.frames_walk.proofs.MetLaws.{length-delivered, tests-counted}

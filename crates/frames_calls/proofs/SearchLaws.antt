@@ -5,7 +5,7 @@ use native.Mathlib.Omega.{arith}
 use native.Mathlib.Nat.{min-le-left}
 use mathlib.Core.Path.{_≡_, refl, sym, ap, subst, _∙_}
 use mathlib.Core.List.{List, [], _∷_}
-use lib.ListN.{length, take, drop, length-take}
+use lib.ListN.{length, drop, length-take}
 use lib.IntN.{ℤ}
 use Rattle.answer.specs.Lent.{put}
 use Rattle.vector.specs.declared.Vec3.{Vec3}
@@ -18,7 +18,7 @@ use Rattle.ranges.proofs.Sound.{outer-few, inner-few}
 use Rattle.covering.specs.declared.Counts.{Counts}
 use Rattle.covering.specs.Cover.{Cover, cutting, listed, countsOf, bothListed}
 use Rattle.covering.proofs.ListedLaws.{outer-back, inner-back}
-use Rattle.covering_walk.specs.Walk.{RowsOf, CoversRows}
+use Rattle.covering_walk.specs.Walk.{RowsOf}
 use Rattle.index.specs.declared.Entry.{Entry}
 use Rattle.index.specs.Exposures.{OwnerCapacity, only}
 use Rattle.index.specs.Entries.{isOwned, entriesIn}
@@ -27,7 +27,6 @@ use Rattle.frames_walk.specs.declared.Lists.{Lists}
 use Rattle.frames_walk.specs.declared.Tests.{Tests}
 use Rattle.frames_walk.specs.Steps.{countsBy, Lent, Walks}
 use Rattle.frames_walk.proofs.MetLaws.{few-counted}
-use Rattle.frames_calls.specs.declared.Searched.{Searched}
 use Rattle.frames_calls.specs.Searches.{walkBeside, Leaves}
 
 -- ---- few entries are met

@@ -2,7 +2,7 @@
 --   Leaves ..            what a search of a region leaves; SearchesRows: of every region that has these rows
 --   FileIs h rs          rs is what some file with the header h was decoded to
 --   deliveryOf t         the answer by the counts of a walk
-use Prim.Native.Nat.{ℕ, _+_, _*_, _≤_}
+use Prim.Native.Nat.{ℕ, _+_, _≤_}
 use mathlib.Core.Path.{_≡_}
 use mathlib.Core.List.{List}
 use lib.IntN.{ℤ}

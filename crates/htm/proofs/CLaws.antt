@@ -35,7 +35,8 @@ use Rattle.htm.specs.Answers.{coverInto, coverAnswer, bothLists, coverAf
 use Rattle.index.specs.declared.Entry.{Entry}
 use Rattle.index.specs.Entries.{Width, numbers, Placed}
 use Rattle.index.specs.Answers.{entryAnswer}
-use Rattle.htm_abi.specs.Values.{foundForC, statusOf, cornersList, headerList, refusalOf}
+use Rattle.htm_abi.specs.ShortLists.{refusalOf}
+use Rattle.htm_abi.specs.Values.{foundForC, statusOf, cornersList, headerList}
 use Rattle.htm.specs.CalledFromC.{entryRoom, entryInto, entryForC, entryAfterC, cornersForC, cornersAfterC, inBoth, readForC, rowsAfterC, headerAfterC, coverForC, coverAfterC, countsAfterC}
 
 -- ---- lengths are small: 32 bytes a name, 10508 a file

@@ -1,6 +1,6 @@
 -- The ranges contain what the counts say: document 02, F-4, from the laws of the cutting (ContentsLaws of covering). Assumes nothing.
 use Prim.Native.Nat.{ℕ, _≤_}
-use mathlib.Core.Path.{sym, subst, subst₂}
+use mathlib.Core.Path.{sym, subst, subst₂, _≡_}
 use Rattle.vector.proofs.DepthLaws.{depth-range}
 use Rattle.region.specs.Regions.{Region}
 use Rattle.region.specs.Budgets.{budgetOf}
@@ -9,10 +9,14 @@ use Rattle.region.proofs.ReaderLaws.{read-depth}
 use Rattle.ranges.proofs.Sound.{outer-few}
 use Rattle.covering.specs.Cover.{cutting, cover, coverOf, countsOf}
 use Rattle.covering.proofs.ContentsLaws.{full-contains, accepted-contains, outer-contains}
-use Rattle.htm.specs.Answers.{bothLists, outerIn}
-use Rattle.htm.specs.Counted.{Contents, ContentsOf, Counted, CountedOfAnswers, CountedOfCalls}
+use Rattle.htm.specs.Answers.{bothLists, outerIn, coverAnswer, coverAfter}
+use Rattle.htm.specs.Counted.{Contents, ContentsOf, CountedOfCalls}
 use Rattle.covering.proofs.ListedLaws.{outer-back}
 use Rattle.htm.proofs.AnswersKept.{covered}
+use mathlib.Core.List.{List}
+use Rattle.answer.specs.Answer.{gives}
+use Rattle.region.specs.Reader.{File, Accepted}
+use Rattle.covering.specs.declared.Counts.{Counts}
 
 -- of any depth from 1 on, budget and region
 contents : (d b : ℕ) (g : Region) → 1 ≤ d → Contents d (cutting d g) (coverOf d b g .outer) (countsOf (coverOf d b g))
@@ -23,10 +27,12 @@ contents d b g deep = record {
   in-outer = outer-contains g d (budgetOf b) deep (budget-one b);
 }
 
-pub all-counted : Counted
+pub all-counted : (f : List ℕ) (x : File) → Accepted f x → ContentsOf x (cover x .outer) (countsOf (cover x))
 all-counted f x a = contents (x .depth) (x .budget) (x .region) (depth-range (x .depth) (read-depth f x a) .0)
 
-pub answers-counted : CountedOfAnswers
+pub answers-counted :
+    (f before : List ℕ) (c : Counts) → coverAnswer f before ≡ gives c
+    → (x : File) × Accepted f x × ContentsOf x (outerIn c (coverAfter f before)) c
 unfolding coverOf
 answers-counted f before c e =
     let v = covered f before c e in

@@ -15,9 +15,10 @@ use Rattle.region.proofs.CallsBack.{file-given}
 use Rattle.covering.specs.Cover.{cover, countsOf, coverCounts, countsList}
 use Rattle.htm.specs.Answers.{coverAnswer, bothLists, coverAfter}
 use Rattle.htm.specs.CalledFromC.{inBoth, coverForC, coverAfterC, countsAfterC}
-use Rattle.htm.specs.EitherForm.{SameCover, Alike, SameCoverOfAnswers, SameCoverOfCalls}
+use Rattle.htm.specs.EitherForm.{Alike, SameCoverOfCalls}
+use Rattle.region.specs.declared.Style.{Style}
 
-pub same-cover : SameCover
+pub same-cover : (s : Style) (f h : List ℕ) → convert s f ≡ gives h → with-value cover (read h) ≡ with-value cover (read f)
 same-cover s f h e = ap (with-value cover) (converted s f h e .1)
 
 alike : (f h : List ℕ) → read h ≡ read f → Alike h f
@@ -34,7 +35,7 @@ alike f h e =
       (λ p. ap (λ a. then a (λ x. check Vector (isVector p) (gives (holds (x .region) p)))) e),
     )
 
-pub same-cover-of-answers : SameCoverOfAnswers
+pub same-cover-of-answers : (s : Style) (f h : List ℕ) → convert s f ≡ gives h → Alike h f
 same-cover-of-answers s f h e = alike f h (converted s f h e .1)
 
 pub same-cover-of-calls : SameCoverOfCalls

@@ -19,7 +19,8 @@ use Rattle.frames.specs.declared.Frames as declared
 use Rattle.frames.specs.Walk.{deliveredBy}
 use Rattle.frames.specs.Answers.{framesInto, walkOf, framesBy, framesList, frameCounts, framesAnswer, rangesAfter, numbersAfter}
 use Rattle.htm.specs.Answers.{bothLists}
-use Rattle.htm_abi.specs.Values.{statusOf, refusalOf}
+use Rattle.htm_abi.specs.ShortLists.{refusalOf}
+use Rattle.htm_abi.specs.Values.{statusOf}
 use Rattle.htm.specs.CalledFromC.{inBoth, framesIntoC, framesForC, rangesAfterC, numbersAfterC, framesAfterC, FramesCallC}
 
 module _ (o : ℕ) (l : List ℤ) (f ranges numbers counts : List ℕ) where

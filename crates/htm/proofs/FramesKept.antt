@@ -45,7 +45,7 @@ use Rattle.frames.specs.Answers.{framesInto, walkOf, framesBy, framesAnswer, ra
 use Rattle.frames.proofs.WalkLaws.{dispositionIn, walk-all, delivered-only, tallied, only-same, tally-same, only-every, only-length}
 use Rattle.htm.specs.Promise.{CoverSound}
 use Rattle.htm.specs.Answers.{coverInto, coverAnswer, bothLists, coverAfter}
-use Rattle.htm.specs.Frames.{entriesBy, outerOnly, Delivers, Frames, Delivered, FramesOfCalls}
+use Rattle.htm.specs.Frames.{entriesBy, outerOnly, Delivers, Delivered, FramesOfCalls}
 use Rattle.htm.proofs.PromiseKept.{outer-proper, inner-proper, kept}
 
 -- ---- an entry of an index
@@ -173,7 +173,8 @@ delivered-tally d b g low high l i o =
     ap (λ es. tally (λ m. isDelivered (m .disposition)) (walk d (holds g) (coverOf d b g .outer) (coverOf d b g .inner) es)) (all-own l i o)
     ∙ held-delivered d b g low high (entriesBy o l) (own-ascends l i o) (own-filed l i o)
 
-pub frames-kept : Frames
+pub frames-kept : (o : ℕ) (l : List ℤ) (f : List ℕ) (x : File) → IsIndex l → Accepted f x
+    → Delivers o l (x .region) (x .depth) (cover x .outer) (cover x .inner) (deliveredBy (walkOf o l x)) (testsOf (walkOf o l x))
 unfolding walkOf
 frames-kept o l f x i r =
     let d = depth-range (x .depth) (read-depth f x r) in

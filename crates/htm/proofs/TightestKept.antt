@@ -21,10 +21,13 @@ use Rattle.ranges.proofs.ContentsLaws.{between-outer}
 use Rattle.ranges.proofs.Tightest.{outer-feasible, outer-tightest, outer-empty}
 use Rattle.covering.specs.Cover.{cutting, cover, coverOf, countsOf}
 use Rattle.covering.proofs.CoverLaws.{Which, cutting-at-depth}
-use Rattle.htm.specs.Answers.{bothLists, outerIn}
-use Rattle.htm.specs.Tightest.{TightestFor, TightestOf, Tightest, TightestOfAnswers, TightestOfCalls}
+use Rattle.htm.specs.Answers.{bothLists, outerIn, coverAnswer, coverAfter}
+use Rattle.htm.specs.Tightest.{TightestFor, TightestOf, TightestOfCalls}
 use Rattle.covering.proofs.ListedLaws.{outer-back}
 use Rattle.htm.proofs.AnswersKept.{covered}
+use Rattle.answer.specs.Answer.{gives}
+use Rattle.region.specs.Reader.{File, Accepted}
+use Rattle.covering.specs.declared.Counts.{Counts}
 
 -- of any depth from 1 on, budget and region
 module _ (d b : ℕ) (g : Region) (deep : 1 ≤ d) where
@@ -60,10 +63,12 @@ module _ (d b : ℕ) (g : Region) (deep : 1 ≤ d) where
     empty = outer-empty B low (low + low) accepted stretch;
   }
 
-pub tightest-kept : Tightest
+pub tightest-kept : (f : List ℕ) (x : File) → Accepted f x → TightestOf x (cover x .outer)
 tightest-kept f x a = tightest-for (x .depth) (x .budget) (x .region) (depth-range (x .depth) (read-depth f x a) .0)
 
-pub tightest-answers : TightestOfAnswers
+-- Whatever the cover answers: the file is accepted, and this holds of the outer list in the lent list as the cover leaves it.
+pub tightest-answers :
+    (f before : List ℕ) (c : Counts) → coverAnswer f before ≡ gives c → (x : File) × Accepted f x × TightestOf x (outerIn c (coverAfter f before))
 tightest-answers f before c e =
     let v = covered f before c e in
     let x = v .file in

@@ -25,7 +25,8 @@ use Rattle.trial.specs.declared.Trial.{Trial}
 use Rattle.trial.specs.declared.TrialOf.{TrialOf}
 use Rattle.trial.specs.Trials.{trialOf}
 use Rattle.trial.specs.Answers.{checkSetting, roomFor, trialInto, trialAnswer, listsBy, firstAfter, secondAfter, trialList, trialCounts}
-use Rattle.htm_abi.specs.TrialValues.{trialIn, answerIn, partList, settingRefusalOr, anywayRefused}
+use Rattle.htm_abi.specs.ShortLists.{settingRefusalOr, anywayRefused}
+use Rattle.htm_abi.specs.TrialValues.{trialIn, answerIn, partList}
 use Rattle.htm_abi.specs.Values.{statusOf}
 use Rattle.htm.specs.CalledFromC.{inBoth}
 use Rattle.htm.specs.TrialFromC.{trialIntoC, trialForC, firstAfterC, secondAfterC, trialAfterC, TrialCallC, chosenForC, chosenAfterC}

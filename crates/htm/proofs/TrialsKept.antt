@@ -1,26 +1,25 @@
 -- A trial counts the same frames under both settings: what is delivered, unchecked or after a test, is what the region holds, whatever depth and budget are
 -- (FramesKept). The part handed back is the outer list of the chosen setting, which stands at the front of its buffer (`outer-front`). Assumes nothing.
-use Prim.Native.Nat.{ℕ, suc, _+_, _*_, _^_, _-_, _≤_, _<_}
+use Prim.Native.Nat.{ℕ, suc, _+_, _*_, _-_, _≤_, _<_}
 use native.Mathlib.Omega.{arith}
-use mathlib.Core.Path.{_≡_, refl, sym, ap, subst, subst₂, _∙_}
-use mathlib.Core.Bool.{Bool, true, false, cond, _&&_, _||_}
+use mathlib.Core.Path.{_≡_, refl, sym, ap, subst, _∙_}
+use mathlib.Core.Bool.{Bool, true, false, cond}
 use mathlib.Core.List.{List, [], _∷_}
 use lib.Dec.{leb}
 use lib.ListN.{length, take}
 use lib.IntN.{ℤ}
 use borrow.Author.Tests.{leb-true, leb-false, le-leb}
-use Rattle.algebra.specs.Lists.{every, tally}
-use Rattle.algebra.proofs.Tests.{and-left, and-right, split}
+use Rattle.algebra.specs.Lists.{tally}
+use Rattle.algebra.proofs.Tests.{and-left, split}
 use Rattle.answer.specs.Answer.{Answer, gives, check, then, Depth, Budget, Space, Owner}
 use Rattle.answer.specs.Lent.{stored}
 use Rattle.answer.proofs.AnswerLaws.{check-passed, check-gives, same-value, then-gives, value-gives}
 use Rattle.vector.specs.Numbers.{isDepth}
 use Rattle.vector.proofs.DepthLaws.{depth-range}
-use Rattle.region.specs.Regions.{Region, holds}
+use Rattle.region.specs.Regions.{Region}
 use Rattle.region.specs.Budgets.{isBudget, budgetOf}
 use Rattle.region.specs.Reader.{File, read, Accepted}
 use Rattle.ranges.specs.Ranges.{pairs}
-use Rattle.covering.specs.Cover.{coverOf, bothListed}
 use Rattle.covering.proofs.ListedLaws.{outer-front}
 use Rattle.index.specs.Exposures.{isOwner}
 use Rattle.index.specs.Entries.{IndexLength}
@@ -33,10 +32,9 @@ use Rattle.trial.specs.declared.Setting.{Setting}
 use Rattle.trial.specs.declared.Choice.the-variants.{First, Second}
 use Rattle.trial.specs.declared.Trial.{Trial}
 use Rattle.trial.specs.declared.TrialOf.{TrialOf}
-use Rattle.trial.specs.Trials.{isSetting, coverBy, walkBy, skyOf, choiceOf, trialOf}
-use Rattle.trial.specs.Answers.{trialInto, trialAnswer, listsBy, firstAfter, secondAfter, fitting, ofChoice, partBy, partOf, checkSetting, roomFor}
-use Rattle.htm.specs.Frames.{entriesBy}
-use Rattle.htm.specs.Trials.{heldBy, SameHeld, Trials, chosenOf, Smaller, Tries, TrialsOfCalls}
+use Rattle.trial.specs.Trials.{coverBy, walkBy, skyOf, choiceOf, trialOf, isSetting}
+use Rattle.trial.specs.Answers.{trialInto, trialAnswer, listsBy, firstAfter, secondAfter, fitting, ofChoice, partOf, checkSetting, roomFor}
+use Rattle.htm.specs.Trials.{heldBy, SameHeld, chosenOf, Smaller, Tries, TrialsOfCalls}
 use Rattle.htm.proofs.PromiseKept.{outer-proper}
 use Rattle.htm.proofs.FramesKept.{delivered-tally}
 
@@ -73,7 +71,8 @@ module _ (o : ℕ) (l : List ℤ) (g : Region) (i : IsIndex l) where
   unfolding trialOf
   same-held s t h k = record { first = under s h; second = under t k }
 
-pub trials-kept : Trials
+pub trials-kept : (o : ℕ) (l : List ℤ) (f : List ℕ) (x : File) (s t : Setting) → IsIndex l → Accepted f x → isSetting s ≡ true → isSetting t ≡ true
+    → SameHeld (heldBy o l (x .region)) (trialOf o l (x .region) s t)
 trials-kept o l f x s t i r h k =
     same-held o l (x .region) i s t (and-left (isDepth (s .depth)) (isBudget (s .budget)) h) (and-left (isDepth (t .depth)) (isBudget (t .budget)) k)
 

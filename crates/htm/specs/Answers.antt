@@ -1,6 +1,5 @@
--- What the cover, the lookups of a report and of a catalogue line and the C entry answer, and what the cover's lent list holds afterwards. Document 01,
--- 'The two lists' and 'What is sent back'; document 02, F-1 and F-3.
--- The answers of the other calls: `lookup`, `identifierOf`, `corners`, `nameAnswer` (mesh); `readAnswer`, `writeAnswer`, `pointTest` (region).
+-- What the cover, the lookups of a report and of a catalogue line and the C entry answer, and the cover's lent list afterwards. Document 01, 'The two lists' and
+-- 'What is sent back'; document 02, F-1 and F-3. The other calls: mesh/specs, region/specs/Answers.
 --   located p d            the lookup of a pointing in another form: 5, then what p is refused with, then the ordinary lookup, which refuses 8
 --   lookupReport r d       the lookup of a mount's report: 5, 12, 8
 --   locateLine l d         the lookup of a catalogue line: 5, 13, 8

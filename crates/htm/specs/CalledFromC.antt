@@ -1,5 +1,4 @@
--- The calls for a host in C: a number instead of an answer. Document 01, 'What is sent back', 'Regions' and 'The two lists';
--- document 02, F-10 to F-12.
+-- The calls for a host in C: a number instead of an answer. Document 01, 'What is sent back', 'Regions', 'The two lists'; document 02, F-10 to F-12.
 -- A refusal is minus its number, and comes before any list is written. The lookup and the identifier of a name give 0 instead: `lookupForC`
 -- (Answers), `orZero`. How an answer becomes a number, and a value the numbers of a list: htm_abi/specs/Values. The lengths of `nameAnswer` (mesh)
 -- and `writeAnswer` (region) and the identifiers of `lookupReport` and `locateLine` (Answers) go by `numberForC`, the point test by `heldForC`.
@@ -7,11 +6,9 @@
 --   inBoth n a list      what a call has to write, or its refusal; then 10 where the second lent list has fewer than n elements
 --   readForC, rowsAfterC, headerAfterC     the reader's header; the lent list and the header's afterwards (`headerList`)
 --   coverForC, coverAfterC, countsAfterC   the cover's counts; the lent list and the list of counts afterwards (`countsList`)
---   entryRoom out p, entryInto p before    the room that an entry needs; the list with its numbers at the beginning (`numbers`). Nothing needs no room, and
---                        leaves the list
---   entryForC i l out, entryAfterC         the entry at place i of the index l, that there is none, or the refusal, then 10; the lent list afterwards
---   framesForC .., rangesAfterC, numbersAfterC, framesAfterC   the counts of the frames delivered and of the tests; the range list, the list of numbers
---                        and the list of counts afterwards; FramesCallC: what the contract of that call says
+--   entryForC i l out, entryAfterC         the entry at place i of the index l, that there is none, or the refusal; 10 where an entry needs more room (`entryRoom`);
+--                        the lent list afterwards (`entryInto`)
+--   framesForC .., rangesAfterC, numbersAfterC, framesAfterC   the counts of frames and tests; the three lent lists afterwards; FramesCallC: the call's contract
 -- The entry goes by `foundForC`. The other calls on an index answer `statusOf` and `numberForC` of what its calls answer (index/specs/Answers).
 use Prim.Native.Nat.{ℕ}
 use mathlib.Core.Path.{_≡_}

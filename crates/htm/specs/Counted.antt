@@ -2,18 +2,17 @@
 --   in-full       the full trixels have `full` identifiers at the depth
 --   in-accepted   the accepted trixels, full ones and partial ones at the depth, have full + partial
 --   in-outer      the outer ranges contain full + partial + swallowed
--- of the identifiers at the depth, each counted once (`Contains`, ranges/specs/Contents). `Counted` says so of the rules, `CountedOfAnswers` of what
--- the cover answers and of the outer list that stands in the lent list afterwards, `CountedOfCalls` of values that meet the contract of the call. All are proved: proofs/Counted.
+-- of the identifiers at the depth, each counted once (`Contains`, ranges/specs/Contents). `CountedOfCalls` says
+-- so of whatever values meet the contract of `htm::cover`; of the rules and of the answers: proofs/Counted.
 use Prim.Native.Nat.{ℕ, _+_}
 use mathlib.Core.Path.{_≡_}
 use mathlib.Core.List.{List}
-use Rattle.answer.specs.Answer.{gives}
 use Rattle.region.specs.Reader.{File, Accepted}
 use Rattle.mesh.specs.Identifiers.{identifiersAt}
 use Rattle.ranges.specs.Ranges.{Range}
 use Rattle.ranges.specs.Contents.{Contains}
 use Rattle.covering.specs.declared.Counts.{Counts}
-use Rattle.covering.specs.Cover.{Found, cutting, cover, countsOf}
+use Rattle.covering.specs.Cover.{Found, cutting}
 use Rattle.htm.specs.declared.CoverOf.{CoverOf}
 use Rattle.htm.specs.Answers.{coverAnswer, coverAfter, coverGiven, outerIn}
 
@@ -25,14 +24,6 @@ pub record Contents (d : ℕ) (found : Found) (outer : List Range) (c : Counts) 
 
 abbrev pub ContentsOf : File → List Range → Counts → Type 0
 ContentsOf x outer c = Contents (x .depth) (cutting (x .depth) (x .region)) outer c
-
-abbrev pub Counted : Type 0
-Counted = (f : List ℕ) (x : File) → Accepted f x → ContentsOf x (cover x .outer) (countsOf (cover x))
-
-abbrev pub CountedOfAnswers : Type 0
-CountedOfAnswers =
-    (f before : List ℕ) (c : Counts) → coverAnswer f before ≡ gives c
-    → (x : File) × Accepted f x × ContentsOf x (outerIn c (coverAfter f before)) c
 
 -- The same by the contract of the call `htm::cover` (src/lib.rt), where it gave c and left `after` in the lent list.
 abbrev pub CountedOfCalls : Type 0

@@ -1,25 +1,17 @@
--- A cover is the same from either form of one region, and so is the point test. Document 02, F-7. Statements; they are proved in proofs/EitherForm.
---   SameCover             of the rules: a file and what it is converted to have the same cover, or the same refusal
+-- A cover is the same from either form of one region, and so is the point test. Document 02, F-7. Proved, of the rules and of the answers too: proofs/EitherForm.
 --   Alike h f             cover and point test answer the same of two files, and the cover leaves the same in the lent list; with a second list, for C, too
---   SameCoverOfAnswers    a file and what it is converted to are alike
 --   SameCoverOfCalls      of the file that a conversion left in a lent list: handed to cover or point test, it is answered as the first file is
--- The point test alone, and the reader: `SamePoints`, `SameRows` region/specs/Converting.
 use Prim.Native.Nat.{ℕ}
 use mathlib.Core.Path.{_≡_}
 use mathlib.Core.List.{List}
 use lib.ListN.{take}
-use Rattle.answer.specs.Answer.{gives, with-value}
+use Rattle.answer.specs.Answer.{gives}
 use Rattle.vector.specs.declared.Vec3.{Vec3}
 use Rattle.region.specs.declared.Style.{Style}
-use Rattle.region.specs.Reader.{read}
 use Rattle.region.specs.Converting.{convert}
 use Rattle.region.specs.Answers.{fileAnswer, fileAfter, pointTest}
-use Rattle.covering.specs.Cover.{cover}
 use Rattle.htm.specs.Answers.{coverAnswer, coverAfter}
 use Rattle.htm.specs.CalledFromC.{coverForC, coverAfterC, countsAfterC}
-
-abbrev pub SameCover : Type 0
-SameCover = (s : Style) (f h : List ℕ) → convert s f ≡ gives h → with-value cover (read h) ≡ with-value cover (read f)
 
 -- h and f are answered alike, whatever lists are lent and whatever the point is
 abbrev pub Alike : List ℕ → List ℕ → Type 0
@@ -29,9 +21,6 @@ Alike h f =
     → (coverForC h out counts ≡ coverForC f out counts)
     × (coverAfterC h out counts ≡ coverAfterC f out counts) × (countsAfterC h out counts ≡ countsAfterC f out counts))
     × ((p : Vec3) → pointTest h p ≡ pointTest f p)
-
-abbrev pub SameCoverOfAnswers : Type 0
-SameCoverOfAnswers = (s : Style) (f h : List ℕ) → convert s f ≡ gives h → Alike h f
 
 abbrev pub SameCoverOfCalls : Type 0
 SameCoverOfCalls = (s : Style) (f lent : List ℕ) (n : ℕ) → fileAnswer (convert s f) lent ≡ gives n → Alike (take n (fileAfter (convert s f) lent)) f

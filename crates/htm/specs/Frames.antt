@@ -4,10 +4,9 @@
 --   outerOnly ..        the entry e, shortened to the depth d, is in a range of os but in none of ns
 --   Delivers ..         these numbers and this count of tests are what is said above, of the owner o, the index l, the region g, and the outer
 --                       and the inner ranges os and ns at the depth d
---   Frames              of the rules: of every index and every accepted file
 --   Delivered ..        the same of an answer, and of the two lent lists afterwards
 --   FramesOfCalls       of whatever values meet the call's contract, `FramesCall`
--- All are proved: proofs/FramesKept.
+-- Proved, of the rules and of the answers too: proofs/FramesKept.
 use Prim.Native.Nat.{ℕ}
 use mathlib.Core.Path.{_≡_}
 use mathlib.Core.Bool.{Bool, not, _&&_}
@@ -22,15 +21,14 @@ use Rattle.region.specs.Budgets.{budgetOf}
 use Rattle.region.specs.Reader.{File, Accepted}
 use Rattle.ranges.specs.Ranges.{Range, inSome}
 use Rattle.covering.specs.declared.Counts.{Counts}
-use Rattle.covering.specs.Cover.{cover}
 use Rattle.index.specs.declared.Entry.{Entry}
 use Rattle.index.specs.Exposures.{only}
 use Rattle.index.specs.Entries.{isOwned, entriesIn}
 use Rattle.index.specs.HistoryCorrect.{IsIndex}
 use Rattle.frames.specs.declared.Frames as declared
 use Rattle.frames.specs.declared.FramesOf.{FramesOf}
-use Rattle.frames.specs.Walk.{shortened, deliveredBy, testsOf}
-use Rattle.frames.specs.Answers.{walkOf, FramesCall}
+use Rattle.frames.specs.Walk.{shortened}
+use Rattle.frames.specs.Answers.{FramesCall}
 use Rattle.htm.specs.Answers.{coverAnswer, coverAfter, outerIn, innerIn}
 
 abbrev pub entriesBy : ℕ → List ℤ → List Entry
@@ -42,10 +40,6 @@ outerOnly d os ns e = inSome (shortened d e) os && not (inSome (shortened d e) n
 pub record Delivers (o : ℕ) (l : List ℤ) (g : Region) (d : ℕ) (os ns : List Range) (numbers : List ℕ) (tests : ℕ) : Type 0 where
   pub exactly : map pos numbers ≡ map (λ e. e .number) (only (λ e. holds g (e .pointing)) (entriesBy o l))
   pub counted : tests ≡ tally (outerOnly d os ns) (entriesBy o l)
-
-abbrev pub Frames : Type 0
-Frames = (o : ℕ) (l : List ℤ) (f : List ℕ) (x : File) → IsIndex l → Accepted f x
-    → Delivers o l (x .region) (x .depth) (cover x .outer) (cover x .inner) (deliveredBy (walkOf o l x)) (testsOf (walkOf o l x))
 
 -- of an answer r, the range list and the list of numbers afterwards, of an index l and the lists as they were lent
 pub record Delivered (o : ℕ) (l : List ℤ) (f ranges numbers : List ℕ) (r : declared.Frames) (lists left : List ℕ) : Type 0 where

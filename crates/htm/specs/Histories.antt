@@ -2,8 +2,7 @@
 --   FramesOfHistories   the owner's entries are those of the exposures that its own accepted calls leave, and of them are delivered exactly those that the
 --                       region holds, in index order (`Delivered`, Frames)
 --   TrialsOfHistories   the same entries, and unchecked plus held is the same under both settings (`Tries`, Trials), with no premise on the index
---   FramesApart ..      F-11 of these calls too, with TrialsApart: two histories with the same calls of one owner in the same order give that
---                       owner the same frames and the same trials, in every lent list, however the other's calls differ
+--   FramesApart, TrialsApart   two histories with the same calls of one owner in the same order give that owner the same frames and trials, in every lent list
 use Prim.Native.Nat.{ℕ}
 use mathlib.Core.Path.{_≡_}
 use mathlib.Core.List.{List}

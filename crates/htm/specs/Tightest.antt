@@ -5,19 +5,17 @@
 --              in any order, overlap, be reversed, and go beyond the identifiers at the depth
 --   empty      an empty accepted set gives no ranges
 -- The rule's 'earliest among equals' plays no part: it chooses between gaps of one size, so between lists that contain equally many identifiers.
--- `Tightest` says so of the rules, `TightestOfAnswers` of the list that stands in the lent list where the cover answers, `TightestOfCalls` of values that
--- meet the contract of the call. All are proved: proofs/TightestKept.
+-- `TightestOfCalls` says so of whatever values meet the contract of `htm::cover`; of the rules and of the answers: proofs/TightestKept.
 use Prim.Native.Nat.{ℕ, _≤_}
 use mathlib.Core.Path.{_≡_}
 use mathlib.Core.Bool.{true, false}
 use mathlib.Core.List.{List, []}
-use Rattle.answer.specs.Answer.{gives}
 use Rattle.mesh.specs.Identifiers.{identifierAt, identifiersAt}
 use Rattle.region.specs.Budgets.{budgetOf}
 use Rattle.region.specs.Reader.{File, Accepted}
 use Rattle.ranges.specs.Ranges.{Range, inSome}
 use Rattle.ranges.specs.Contents.{different, Feasible}
-use Rattle.covering.specs.Cover.{cutting, cover}
+use Rattle.covering.specs.Cover.{cutting}
 use Rattle.covering.specs.declared.Counts.{Counts}
 use Rattle.htm.specs.declared.CoverOf.{CoverOf}
 use Rattle.htm.specs.Answers.{coverAnswer, coverAfter, coverGiven, outerIn}
@@ -32,15 +30,6 @@ pub record TightestFor (d budget : ℕ) (accepted outer : List Range) : Type 0 w
 abbrev pub TightestOf : File → List Range → Type 0
 TightestOf x outer = TightestFor (x .depth) (budgetOf (x .budget)) (cutting (x .depth) (x .region) .accepted) outer
 
-abbrev pub Tightest : Type 0
-Tightest = (f : List ℕ) (x : File) → Accepted f x → TightestOf x (cover x .outer)
-
--- Whatever the cover answers: the file is accepted, and this holds of the outer list in the lent list as the cover leaves it.
-abbrev pub TightestOfAnswers : Type 0
-TightestOfAnswers =
-    (f before : List ℕ) (c : Counts) → coverAnswer f before ≡ gives c → (x : File) × Accepted f x × TightestOf x (outerIn c (coverAfter f before))
-
--- The same by the contract of the call `htm::cover` (src/lib.rt), where it gave c and left `after` in the lent list.
 abbrev pub TightestOfCalls : Type 0
 TightestOfCalls =
     (f before after : List ℕ) (c : Counts) → coverGiven (CoverOf.Gives c) ≡ coverAnswer f before → after ≡ coverAfter f before

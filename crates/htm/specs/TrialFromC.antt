@@ -2,9 +2,8 @@
 -- list is written. How results and parts stand in lists: htm_abi/specs/TrialValues.
 --   trialIntoC ..       the file that is tried, or the refusal: as for `trial`, then 10 where the list of numbers has fewer than eleven elements
 --   trialForC .., firstAfterC, secondAfterC, trialAfterC   both results; the two buffers and the list of numbers afterwards (`trialList`)
---   chosenForC z ns ..  which buffer, and how many of its elements are the part that is handed back (`partList`), given the status z and the numbers ns of a
---                       trial (`answerIn`); refusal 10 where ns has fewer than eleven elements, or the list for the answer fewer than two;
---                       chosenAfterC: the list for the answer afterwards
+--   chosenForC z ns ..  which buffer, and how many of its elements are the part (`partList`), given the status z and the numbers ns of a trial (`answerIn`);
+--                       10 where ns has fewer than eleven elements, or the list for the answer fewer than two; chosenAfterC: that list afterwards
 --   ReadBack            the status and the numbers of `htm_trial` say what the trial answered, a result or a refusal
 --   PartForC            so after `htm_trial`, whatever it answered, `htm_chosen` with its status, its numbers and its two buffers tells the part of that answer
 use Prim.Native.Nat.{ℕ, _≤_}

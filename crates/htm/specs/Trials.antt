@@ -2,19 +2,16 @@
 -- spans the smaller share of the sky, the first if equal.
 --   heldBy o l g       how many entries of the owner o in the index l the region g holds
 --   SameHeld n r       under both settings of the trial r, what is delivered unchecked plus what is tested and held is n
---   Trials             of the rules: of every index, owner, accepted file and pair of good settings
 --   chosenOf c s t     the setting of the choice c; Smaller c s t g: its outer list spans no more than either, and the first is chosen if they
 --                      are equal
 --   Tries ..           of a trial's answer and the part that the second call hands back: the same, and the part has the chosen setting's outer list
---   TrialsOfAnswers    of what the calls answer; TrialsOfCalls: of values that meet their contracts
--- All are proved: proofs/TrialsKept.
-use Prim.Native.Nat.{ℕ, _+_, _≤_, _<_}
+--   TrialsOfCalls      of whatever values meet the contracts of both calls
+-- Proved, of the rules and of the answers too: proofs/TrialsKept.
+use Prim.Native.Nat.{ℕ, _+_, _≤_}
 use mathlib.Core.Path.{_≡_}
-use mathlib.Core.Bool.{true}
 use mathlib.Core.List.{List}
 use lib.IntN.{ℤ}
 use Rattle.algebra.specs.Lists.{tally}
-use Rattle.answer.specs.Answer.{gives}
 use Rattle.region.specs.Regions.{Region, holds}
 use Rattle.region.specs.Reader.{File, Accepted}
 use Rattle.ranges.specs.Ranges.{pairs}
@@ -24,7 +21,7 @@ use Rattle.trial.specs.declared.Choice.{Choice}
 use Rattle.trial.specs.declared.Choice.the-variants.{First}
 use Rattle.trial.specs.declared.Trial.{Trial}
 use Rattle.trial.specs.declared.TrialOf.{TrialOf}
-use Rattle.trial.specs.Trials.{isSetting, coverBy, skyOf, trialOf}
+use Rattle.trial.specs.Trials.{coverBy, skyOf}
 use Rattle.trial.specs.Answers.{TrialCall, partOf}
 use Rattle.htm.specs.Frames.{entriesBy}
 
@@ -34,10 +31,6 @@ heldBy o l g = tally (λ e. holds g (e .pointing)) (entriesBy o l)
 pub record SameHeld (n : ℕ) (r : Trial) : Type 0 where
   pub first : r .first .unchecked + r .first .held ≡ n
   pub second : r .second .unchecked + r .second .held ≡ n
-
-abbrev pub Trials : Type 0
-Trials = (o : ℕ) (l : List ℤ) (f : List ℕ) (x : File) (s t : Setting) → IsIndex l → Accepted f x → isSetting s ≡ true → isSetting t ≡ true
-    → SameHeld (heldBy o l (x .region)) (trialOf o l (x .region) s t)
 
 -- ---- the choice
 

@@ -9,7 +9,8 @@ use Rattle.region.specs.declared.Header.{Header}
 use Rattle.region.specs.Reader.{File, read}
 use Rattle.region.specs.Answers.{headerOf}
 use Rattle.index.specs.Exposures.{isOwner}
-use Rattle.htm_abi.specs.Values.{statusOf, refusalOf}
+use Rattle.htm_abi.specs.ShortLists.{refusalOf}
+use Rattle.htm_abi.specs.Values.{statusOf}
 
 pub own-or-space : (f : List ℕ) (a : Answer Header) → a ≡ with-value headerOf (read f) → statusOf {A = File} (then a (λ h. refused Space)) ≡ statusOf (refusalOf f)
 own-or-space f a e = ap (λ a. statusOf {A = File} (then a (λ h. refused Space))) e ∙ whichever (read f)

@@ -5,23 +5,19 @@
 --   answerIn z ns     what a trial answered that gave C the status z and left the numbers ns: the result in ns where z is 0, else the refusal of |z|
 --   whichOf r         which buffer the part is of: 1 for the first, 2 for the second, 0 after a refusal
 --   partList r first second   that, and how many elements of it are the part (`partOf`, trial/specs/Answers)
---   anywayRefused ..  the refusal of a trial for which a list is too short in any case: 18, the file's, 5 and 6 of each setting, or 10
 use Prim.Native.Nat.{ℕ, _+_}
 use mathlib.Core.Bool.{cond}
 use mathlib.Core.List.{List, [], _∷_}
 use lib.Dec.{eqb}
 use lib.ListN.{length, getD}
 use lib.IntN.{ℤ, natAbs}
-use Rattle.answer.specs.Answer.{Answer, refused, check, then, Space, Owner}
-use Rattle.region.specs.Reader.{File, read}
-use Rattle.index.specs.Exposures.{isOwner}
 use Rattle.trial.specs.declared.Setting.{Setting}
 use Rattle.trial.specs.declared.SettingResult.{SettingResult}
 use Rattle.trial.specs.declared.Choice.{Choice}
 use Rattle.trial.specs.declared.Choice.the-variants.{First, Second}
 use Rattle.trial.specs.declared.Trial.{Trial}
 use Rattle.trial.specs.declared.TrialOf.{TrialOf}
-use Rattle.trial.specs.Answers.{checkSetting, ofChoice, partOf}
+use Rattle.trial.specs.Answers.{ofChoice, partOf}
 
 abbrev pub settingOf : ℕ → ℕ → Setting
 settingOf d b = record { depth = d; budget = b }
@@ -54,11 +50,3 @@ whichOf (TrialOf.Refused n) = 0
 
 abbrev pub partList : TrialOf → List ℕ → List ℕ → List ℕ
 partList r first second = whichOf r ∷ length (partOf r first second) ∷ []
-
--- ---- a refusal. Behind the file's checks
-
-abbrev pub settingRefusalOr : Setting → Setting → Answer File
-settingRefusalOr s t = checkSetting s (checkSetting t (refused Space))
-
-abbrev pub anywayRefused : ℕ → List ℕ → Setting → Setting → Answer File
-anywayRefused o f s t = check Owner (isOwner o) (then (read f) (λ x. settingRefusalOr s t))

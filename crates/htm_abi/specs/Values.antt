@@ -7,16 +7,14 @@
 --   statusOf a      0, or minus the number of the refusal
 --   cornersList c   x, y, z of each corner
 --   headerList h    count, depth, budget
---   refusalOf f     the refusal of a file for which a lent list is too short: the file's own, or 10
 use Prim.Native.Nat.{ℕ}
 use mathlib.Core.Bool.{Bool, cond}
 use mathlib.Core.List.{List, [], _∷_, _++_}
 use lib.IntN.{ℤ, pos, negℤ}
-use Rattle.answer.specs.Answer.{Answer, refused, gives, then, Space}
+use Rattle.answer.specs.Answer.{Answer, refused, gives}
 use Rattle.vector.specs.Vectors.{three}
 use Rattle.mesh.specs.declared.Corners.{Corners}
 use Rattle.region.specs.declared.Header.{Header}
-use Rattle.region.specs.Reader.{File, read}
 use Rattle.index.specs.Entries.{Placed, found, nothing}
 
 -- ---- answers as numbers
@@ -49,8 +47,3 @@ cornersList c = three (c .v0) ++ three (c .v1) ++ three (c .v2)
 
 abbrev pub headerList : Header → List ℕ
 headerList h = h .count ∷ h .depth ∷ h .budget ∷ []
-
--- ---- a file for which a lent list is too short
-
-abbrev pub refusalOf : List ℕ → Answer File
-refusalOf f = then (read f) (λ x. refused Space)

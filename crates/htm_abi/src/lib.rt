@@ -25,9 +25,10 @@ ghost use Rattle.vector.proofs.Sizes.{Small};
 ghost use Rattle.mesh_trixels.specs.Corners.{SmallCorners};
 ghost use Rattle.index.specs.Exposures.{isOwner};
 ghost use Rattle.index.specs.Answers.{changeGiven};
-ghost use Rattle.htm_abi.specs.Values.{orZero, numberForC, statusOf, cornersList, headerList, refusalOf};
+ghost use Rattle.htm_abi.specs.Values.{orZero, numberForC, statusOf, cornersList, headerList};
 ghost use Rattle.covering.specs.Cover.{countsList, coverCounts};
 ghost use Rattle.frames.specs.Answers.{framesList, frameCounts};
+ghost use Rattle.htm_abi.specs.ShortLists.{refusalOf};
 
 pub mod trials;
 

@@ -16,8 +16,9 @@ ghost use Rattle.answer.specs.Answer.{refused};
 ghost use mathlib.Core.List.{[], _∷_};
 ghost use Rattle.answer.specs.Lent.{put};
 ghost use Rattle.trial.specs.Answers.{trialCounts, ofChoice, partBy};
-ghost use Rattle.htm_abi.specs.TrialValues.{choiceIn, resultIn, trialIn, settingRefusalOr, anywayRefused};
+ghost use Rattle.htm_abi.specs.TrialValues.{choiceIn, resultIn, trialIn};
 ghost use Rattle.trial.specs.Answers.{trialList};
+ghost use Rattle.htm_abi.specs.ShortLists.{settingRefusalOr, anywayRefused};
 
 // The choice that a number stands for.
 fn choice_in(n: u64) -> Choice

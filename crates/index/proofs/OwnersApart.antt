@@ -16,7 +16,7 @@ use Rattle.index.specs.declared.Change.{Change}
 use Rattle.index.specs.Exposures.{OwnerCapacity, isOwner, Exposure, Key, keyOf, hasOwner, hasKey, only, hasPlace, Call, adds, removes, without, giving, leaving, answered, contentFrom, contentOf, answersFrom}
 use Rattle.index.specs.Entries.{entryOf, isOwned, entriesIn}
 use Rattle.index.specs.HistoryCorrect.{Leaves}
-use Rattle.index.specs.Apart.{ownerOf, callsOf, answersTo, Ran, Apart, OwnEntries, SameEntries}
+use Rattle.index.specs.Apart.{ownerOf, callsOf, answersTo, Ran, Apart, OwnEntries}
 use Rattle.index.proofs.TallyLaws.{some-tally, only-tally}
 use Rattle.index.proofs.OrderLaws.{only-ascends}
 use Rattle.index.proofs.HistoryKept.{history-kept}
@@ -185,7 +185,8 @@ own-entries o h rs n r =
           ∙ ap (tally (λ x. f (entryOf x))) (content-alone o h []);
     }
 
-pub same-entries : SameEntries
+pub same-entries : (o : ℕ) (h g : List Call) (rs qs : List Change) (m n : List ℤ) → Ran h rs m → Ran g qs n → callsOf o h ≡ callsOf o g
+    → only (isOwned o) (entriesIn m) ≡ only (isOwned o) (entriesIn n)
 same-entries o h g rs qs m n r q e =
     let a = own-entries o h rs m r in
     let b = own-entries o g qs n q in

@@ -5,7 +5,6 @@
 --   answersTo o h rs  of the answers rs to the history h those to the calls that name the owner o
 --   Ran h rs n        the calls h one after the other, each as its contract has it, gave rs from an empty index on, and left the list n
 --   Apart             the statement
---   SameEntries       beside it: and the same entries of that owner, in the same order
 --   OwnEntries        beside it: an owner's entries are those that its own calls leave, each once, in ascending order
 use Prim.Native.Nat.{ℕ}
 use mathlib.Core.Path.{_≡_}
@@ -43,7 +42,3 @@ Apart = (o : ℕ) (h g : List Call) (rs qs : List Change) (m n : List ℤ) → R
 
 abbrev pub OwnEntries : Type 0
 OwnEntries = (o : ℕ) (h : List Call) (rs : List Change) (n : List ℤ) → Ran h rs n → Holds (contentOf OwnerCapacity (callsOf o h)) (only (isOwned o) (entriesIn n))
-
-abbrev pub SameEntries : Type 0
-SameEntries = (o : ℕ) (h g : List Call) (rs qs : List Change) (m n : List ℤ) → Ran h rs m → Ran g qs n → callsOf o h ≡ callsOf o g
-    → only (isOwned o) (entriesIn m) ≡ only (isOwned o) (entriesIn n)

@@ -16,7 +16,7 @@ use Rattle.answer.specs.Lent.{put, stored}
 use Rattle.answer.proofs.AnswerLaws.{refused-gives, check-passed, check-gives, same-value, value-gives, number-is}
 use Rattle.answer.proofs.LentLaws.{room-gives, has-room, front}
 use Rattle.mesh.specs.Identifiers.{identifierAt, depthOf, isIdentifier}
-use Rattle.mesh.specs.Names.{letterS, letterN, digit0, digits, letter, nameAt, nameOf, isDigit, areDigits, isLetter, isName, withDigits, valueOf, identifierOf, NamesInverse}
+use Rattle.mesh.specs.Names.{letterS, letterN, digit0, digits, letter, nameAt, nameOf, isDigit, areDigits, isLetter, isName, withDigits, valueOf, identifierOf}
 use Rattle.mesh.specs.Answers.{nameInto, nameAnswer, nameAfter, NamesOfCalls}
 use Rattle.mesh.proofs.NameLaws.{depth-is, is-identifier, depth-low, depth-high, depth-found, next-power, last-power, name-back}
 
@@ -139,7 +139,7 @@ identifier-then-name (c ∷ cs) i e =
     let v = same-value (valueOf (c ∷ cs)) i (check-gives Name (isName (c ∷ cs)) (gives (valueOf (c ∷ cs))) i e) in
     subst (λ x. nameOf x ≡ gives (c ∷ cs)) v (name-of-value c cs (is-name c cs t))
 
-pub names-inverse : NamesInverse
+pub names-inverse : (i : ℕ) (s : List ℕ) → (nameOf i ≡ gives s → identifierOf s ≡ gives i) × (identifierOf s ≡ gives i → nameOf i ≡ gives s)
 names-inverse i s = (name-then-identifier i s, identifier-then-name s i)
 
 -- ---- of the calls

@@ -1,9 +1,7 @@
 -- Names. Document 01, 'Pointings and the mesh'; 2.4 of document 000. A name is S or N and 1 to 31 digits 0 to 3, as bytes.
 --   nameOf i         the name of the identifier i: refusal 11 where it is none
 --   identifierOf s   the identifier of the name s: refusal 11 where it is none
---   NamesInverse     the two are inverse to each other (proofs/NamesInverse)
 use Prim.Native.Nat.{ℕ, zero, suc, _+_, _-_, _*_, _/_, _%_, _^_}
-use mathlib.Core.Path.{_≡_}
 use mathlib.Core.Bool.{Bool, true, false, cond, _&&_, _||_}
 use mathlib.Core.List.{List, [], _∷_, _++_}
 use lib.Dec.{leb, eqb}
@@ -67,6 +65,3 @@ unfoldable pub identifierOf : List ℕ → Answer ℕ
 identifierOf s = check Name (isName s) (gives (valueOf s))
 
 -- ---- both ways
-
-abbrev pub NamesInverse : Type 0
-NamesInverse = (i : ℕ) (s : List ℕ) → (nameOf i ≡ gives s → identifierOf s ≡ gives i) × (identifierOf s ≡ gives i → nameOf i ≡ gives s)

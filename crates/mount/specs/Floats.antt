@@ -10,15 +10,17 @@
 --   scaled w b        the float times 2^20, truncated toward zero
 --   component w b     the answer: check 12
 --   componentOf f v   the same of a float v of a format f, by its bits
+--   componentGiven r   what a function of the code answered
 use Prim.Native.Nat.{ℕ, _+_, _-_, _*_, _/_, _%_, _^_, max}
 use mathlib.Core.Bool.{Bool, cond, not, _&&_}
 use lib.Dec.{leb, eqb}
 use lib.IntN.{ℤ, pos, _*ℤ_}
 use lib.Ieee as Ieee
 use lib.Ieee.{Format, binary32, binary64, toBits}
-use Rattle.answer.specs.Answer.{Answer, gives, check, Float}
+use Rattle.answer.specs.Answer.{Answer, gives, check, Float, refused}
 use Rattle.vector.specs.Numbers.{signed, quot}
 use Rattle.mount.specs.declared.Width.{Width}
+use Rattle.mount.specs.declared.ComponentOf.{ComponentOf}
 
 abbrev pub single : Width
 single = record { exponent = 8; fraction = 23 }
@@ -71,3 +73,7 @@ component w b = check Float (usable w b) (gives (scaled w b))
 
 abbrev pub componentOf : Format → Ieee.Float → Answer ℤ
 componentOf f v = component (widthOf f) (toBits f v)
+
+abbrev pub componentGiven : ComponentOf → Answer ℤ
+componentGiven (ComponentOf.Gives n) = gives n
+componentGiven (ComponentOf.Refused n) = refused n

@@ -3,13 +3,11 @@
 --   threeOf x y z   the vector of three components, or the first refusal among them
 --   pointing r      the pointing of the report, or 12 where a component is refused
 --   singleReport x y z, doubleReport x y z   the report of three floats
---   componentGiven r                         what a function answered
 use lib.IntN.{ℤ}
 use lib.Ieee.{Float}
-use Rattle.answer.specs.Answer.{Answer, refused, gives, then}
+use Rattle.answer.specs.Answer.{Answer, gives, then}
 use Rattle.vector.specs.declared.Vec3.{Vec3}
 use Rattle.vector.specs.Vectors.{vec}
-use Rattle.mount.specs.declared.ComponentOf.{ComponentOf}
 use Rattle.mount.specs.declared.Report.{Report}
 use Rattle.mount.specs.declared.Report.the-variants.{Single, Double}
 use Rattle.mount.specs.Values.{componentOf}
@@ -31,7 +29,3 @@ abbrev pub doubleReport : Float → Float → Float → Report
 doubleReport x y z = Double (record { x = x; y = y; z = z })
 
 -- ---- what a function answered
-
-abbrev pub componentGiven : ComponentOf → Answer ℤ
-componentGiven (ComponentOf.Gives n) = gives n
-componentGiven (ComponentOf.Refused n) = refused n

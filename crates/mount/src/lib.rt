@@ -11,7 +11,8 @@ ghost use Rattle.mount.specs.Floats as floats;
 ghost use Rattle.mount.specs.Values.{componentOf};
 ghost use Rattle.mount.specs.Widths.{Usual};
 ghost use Rattle.mount.specs.Reports as reports;
-ghost use Rattle.mount.specs.Reports.{componentGiven, threeOf};
+ghost use Rattle.mount.specs.Floats.{componentGiven};
+ghost use Rattle.mount.specs.Reports.{threeOf};
 
 // ---- a component
 

@@ -25,12 +25,12 @@ use Rattle.region.specs.declared.Style.{Style}
 use Rattle.region.specs.Records.{kind, size, sameStyle, Styles, fits, stylesAfter}
 use Rattle.region.specs.Reader.{File, lengthOf, kindOf, payload, after, header, withRegion, convexIn, halfspaceOf, halfspaceIn, halfspacesOf, halfspacesIn, groupIn, endIn, AcceptedIn}
 use Rattle.region.specs.Writer.{begin, headerBytes, convexBytes, numbersBytes, halfspaceBytes, endBytes, halfspacesBytes, convexesBytes, payloadBytes, groupBytes, groupsBytes, regionBytes, fileIn, writeIn}
-use Rattle.region.specs.RoundTrip.{ReadIsWritten}
 use Rattle.region.proofs.ReaderLaws.{Begins, header-read, convex-says, group-says, end-says, file-leads, nothing-left, read-depth, read-budget}
 use Rattle.region.proofs.StyleLaws.{same-style, accepted-in}
 use Rattle.region.proofs.ReadBack.{with-last}
 use Rattle.region.proofs.AddLaws.{added}
 use Rattle.region.proofs.RowsBack.{accepted-rows}
+use Rattle.region.specs.Rows.{rows}
 
 -- ---- a number that is read has the bytes that it was read from
 
@@ -270,6 +270,6 @@ pub read-file : (s : Style) (f : List ℕ) (x : File) → areBytes f ≡ true �
 unfolding fileIn
 read-file s f x b e = (read-said s f x b e) .bytes
 
-pub file-back : ReadIsWritten
+pub file-back : (s : Style) (f : List ℕ) (x : File) → areBytes f ≡ true → AcceptedIn s f x → writeIn s (x .depth) (x .budget) (rows (x .region)) ≡ gives f
 unfolding writeIn
 file-back s f x b e = rw (read-depth f x (e .1), read-budget f x (e .1), accepted-rows f x (e .1)) (ap gives (read-file s f x b e))

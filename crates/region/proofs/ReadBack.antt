@@ -26,7 +26,7 @@ use Rattle.region.specs.Building.{isOffset, lastConvex, total, withConve
 use Rattle.region.specs.Bytes.{signedOf, signed, bitsOf, signedBytes}
 use Rattle.region.specs.Records.{firstOf, recordOf, Styles, fits}
 use Rattle.region.specs.Reader.{File, lengthOf, kindOf, payload, after, recordAt, headerIn, header, withRegion, convexIn, halfspaceOf, halfspaceIn, halfspacesOf, halfspacesIn, groupIn, partIn, recordIn, recordsIn, readIn, styleAt, AcceptedIn}
-use Rattle.region.specs.Writer.{headerBytes, convexBytes, numbersBytes, halfspaceBytes, endBytes, halfspacesBytes, convexesBytes, payloadBytes, groupBytes, groupsBytes, regionBytes, fileIn, fileOf, groupedOf}
+use Rattle.region.specs.Writer.{headerBytes, convexBytes, numbersBytes, halfspaceBytes, endBytes, halfspacesBytes, convexesBytes, payloadBytes, groupBytes, groupsBytes, regionBytes, fileIn}
 use Rattle.region.proofs.AddLaws.{Fine}
 use Rattle.region.proofs.StyleLaws.{in-style}
 
@@ -315,11 +315,11 @@ unfolding groupsBytes total
 groups-length [] = refl
 groups-length (c ∷ cs) = omega (arith, length-append (payloadBytes c) (groupsBytes cs), payload-length c, groups-length cs)
 
-pub file-length : (d b : ℕ) (g : Region) → length (fileOf d b g) ≡ 12 + 4 * length g + 20 * total g
+pub file-length : (d b : ℕ) (g : Region) → length (fileIn Style.Plain d b g) ≡ 12 + 4 * length g + 20 * total g
 unfolding fileIn
 file-length d b g = omega (arith, length-append (convexesBytes g) endBytes, convexes-length g)
 
-pub grouped-length : (d b : ℕ) (g : Region) → length (groupedOf d b g) ≡ 12 + 4 * length g + 16 * total g
+pub grouped-length : (d b : ℕ) (g : Region) → length (fileIn Style.Grouped d b g) ≡ 12 + 4 * length g + 16 * total g
 unfolding fileIn
 grouped-length d b g = omega (arith, length-append (groupsBytes g) endBytes, groups-length g)
 
@@ -349,11 +349,11 @@ pub record Limited (g : Region) : Type 0 where
 -- a file is short enough, and has more bytes than records
 room-for : (s : Style) (d b : ℕ) (g : Region) → Limited g → (length (fileIn s d b g) ≤ 10508) × (n : ℕ) × (length (fileIn s d b g) ≡ stepsIn s g (suc n))
 room-for Style.Plain d b g w =
-    let n : ℕ = length (fileOf d b g) - (length g + total g) - 1 in
+    let n : ℕ = length (fileIn Style.Plain d b g) - (length g + total g) - 1 in
     let l = file-length d b g in
     (omega (arith, w), n, omega (arith, all-steps g (suc n)))
 room-for Style.Grouped d b g w =
-    let n : ℕ = length (groupedOf d b g) - length g - 1 in
+    let n : ℕ = length (fileIn Style.Grouped d b g) - length g - 1 in
     let l = grouped-length d b g in
     (omega (arith, w), n, omega (arith, steps-add g (suc n)))
 

@@ -15,8 +15,9 @@ use Rattle.region.specs.Regions.{Convex, Region}
 use Rattle.region.specs.declared.Record.{Record}
 use Rattle.region.specs.Records.{recordOf}
 use Rattle.region.specs.Reader.{File, header, halfspacesOf, halfspacesIn, groupIn, recordIn, recordsIn, read}
-use Rattle.region.specs.Writer.{headerBytes, convexBytes, halfspaceBytes, endBytes, halfspacesBytes, convexesBytes, payloadBytes, groupBytes, groupsBytes, fileIn, fileOf, groupedOf, writeIn, write, writeGrouped}
+use Rattle.region.specs.Writer.{headerBytes, convexBytes, halfspaceBytes, endBytes, halfspacesBytes, convexesBytes, payloadBytes, groupBytes, groupsBytes, fileIn, writeIn, write, writeGrouped}
 use Rattle.region.specs.Converting.{convert, toGrouped, toPlain}
+use Rattle.region.specs.declared.Style.{Style}
 
 -- ---- halfspaces: good, without a vector, with an offset beyond K, with neither
 
@@ -121,10 +122,10 @@ limits = (refl, refl, refl, refl)
 abbrev two : Region
 two = (good ∷ steep ∷ []) ∷ (steep ∷ []) ∷ []
 
-pub conversions : (toGrouped (fileOf 2 0 two) ≡ gives (groupedOf 2 0 two))
-    × (toPlain (groupedOf 2 0 two) ≡ gives (fileOf 2 0 two))
-    × (toGrouped (groupedOf 2 7 two) ≡ gives (groupedOf 2 7 two))
-    × (toPlain (groupedOf 2 7 two) ≡ gives (fileOf 2 7 two))
+pub conversions : (toGrouped (fileIn Style.Plain 2 0 two) ≡ gives (fileIn Style.Grouped 2 0 two))
+    × (toPlain (fileIn Style.Grouped 2 0 two) ≡ gives (fileIn Style.Plain 2 0 two))
+    × (toGrouped (fileIn Style.Grouped 2 7 two) ≡ gives (fileIn Style.Grouped 2 7 two))
+    × (toPlain (fileIn Style.Grouped 2 7 two) ≡ gives (fileIn Style.Plain 2 7 two))
     × (toPlain (grouped ++ convexBytes) ≡ refused Mixed)
 unfolding convert fileIn convexesBytes halfspacesBytes groupsBytes payloadBytes read header recordIn recordsIn halfspacesOf halfspacesIn add lastConvex total withHalfspace isVector
 conversions = (refl, refl, refl, refl, refl)

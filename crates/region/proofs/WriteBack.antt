@@ -18,11 +18,11 @@ use Rattle.region.specs.Budgets.{isBudget}
 use Rattle.region.specs.Building.{lastConvex, total, withConvex, withHalfspace, begun, fewConvexes, add}
 use Rattle.region.proofs.RegionLaws.{convex-length, convex-rows, halfspace-length, halfspace-total, halfspace-rows}
 use Rattle.region.specs.Reader.{AcceptedIn}
-use Rattle.region.specs.RoundTrip.{WrittenIsRead}
 use Rattle.region.specs.Rows.{row, rows, rowsFrom, begins, goesOn, opened, rowIn, halfspaceAt, rowsIn, regionOf}
 use Rattle.region.specs.Writer.{fileIn, writeIn}
 use Rattle.region.proofs.AddLaws.{Fine, Added, added}
 use Rattle.region.proofs.ReadBack.{AllFine, AllFull, Limited, with-last, read-back}
+use Rattle.region.specs.declared.Style.{Style}
 
 -- ---- full convexes stay full
 
@@ -168,7 +168,9 @@ region-back rs g e =
 
 -- ---- what is written is read back
 
-pub write-back : WrittenIsRead
+pub write-back :
+    (s : Style) (d b : ℕ) (rs : List ℤ) (f : List ℕ) → writeIn s d b rs ≡ gives f
+    → (g : Region) × (rows g ≡ rs) × AcceptedIn s f (record { depth = d; budget = b; region = g })
 unfolding writeIn
 write-back s d b rs f e =
     let made = with-value (fileIn s d b) (regionOf rs) in

@@ -1,6 +1,5 @@
 -- The writer of region files of both styles. Document 01, 'Regions' and 'What is sent back': checks 5, 6, then the rows; document 02, F-7.
 --   fileIn s d b g                   the bytes of the file of style s with depth d, budget b and region g
---   fileOf d b g, groupedOf d b g    the plain one and the grouped one
 --   writeIn s d b rs                 the bytes of the file of style s of the rows rs, or the first refusal
 --   write d b rs, writeGrouped d b rs   the plain one and the grouped one, or the first refusal
 use Prim.Native.Nat.{ℕ}
@@ -65,12 +64,6 @@ regionBytes Style.Grouped g = groupsBytes g
 
 unfoldable pub fileIn : Style → ℕ → ℕ → Region → List ℕ
 fileIn s d b g = headerBytes d b ++ regionBytes s g ++ endBytes
-
-abbrev pub fileOf : ℕ → ℕ → Region → List ℕ
-fileOf d b g = fileIn Style.Plain d b g
-
-abbrev pub groupedOf : ℕ → ℕ → Region → List ℕ
-groupedOf d b g = fileIn Style.Grouped d b g
 
 unfoldable pub writeIn : Style → ℕ → ℕ → List ℤ → Answer (List ℕ)
 writeIn s d b rs = check Depth (isDepth d) (check Budget (isBudget b) (with-value (fileIn s d b) (regionOf rs)))

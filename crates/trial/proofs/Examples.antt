@@ -18,7 +18,7 @@ use Rattle.vector.specs.Vectors.{vec, isVector}
 use Rattle.region.specs.Building.{lastConvex, total, withHalfspace, add}
 use Rattle.region.specs.Regions.{Region}
 use Rattle.region.specs.Reader.{header, recordIn, recordsIn, read}
-use Rattle.region.specs.Writer.{fileIn, fileOf, convexesBytes, halfspacesBytes}
+use Rattle.region.specs.Writer.{fileIn, convexesBytes, halfspacesBytes}
 use Rattle.ranges.specs.Ranges.{Range, range}
 use Rattle.ranges.specs.Contents.{identifiers}
 use Rattle.covering.specs.Cover.{Cover}
@@ -34,6 +34,7 @@ use Rattle.trial.specs.declared.Trial.{Trial}
 use Rattle.trial.specs.declared.TrialOf.{TrialOf}
 use Rattle.trial.specs.Trials.{resultOf, spanned, choiceOf}
 use Rattle.trial.specs.Answers.{trialInto, trialList, partOf, bufferOf}
+use Rattle.region.specs.declared.Style.{Style}
 
 -- ---- the share of the sky, and the choice
 
@@ -107,7 +108,7 @@ region = (record { n = vec (pos 0) (pos 0) K; d = pos 0 } ∷ []) ∷ []
 
 -- its header's depth and budget play no part
 abbrev file : List ℕ
-file = fileOf 3 7 region
+file = fileIn Style.Plain 3 7 region
 
 abbrev index : List ℤ
 index = replicate 12289 (pos 0)

@@ -14,7 +14,7 @@ use Rattle.region.specs.Reader.{File, read}
 use Rattle.region.specs.Answers.{headerOf, headerGiven}
 use Rattle.index.specs.Exposures.{isOwner}
 use Rattle.trial.specs.declared.Setting.{Setting}
-use Rattle.htm_abi.specs.TrialValues.{settingRefusalOr, anywayRefused}
+use Rattle.htm_abi.specs.ShortLists.{settingRefusalOr, anywayRefused}
 use Rattle.htm_abi.proofs.trials.refused_anyway.Statement.{statement}
 use Rattle.htm_abi.proofs.trials.refused_anyway.Tie as tie
 
