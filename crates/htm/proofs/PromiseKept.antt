@@ -12,9 +12,15 @@ use Rattle.ranges.specs.Ranges.{Proper}
 use Rattle.ranges.specs.Lists.{outerOf, innerOf}
 use Rattle.ranges.proofs.Sound.{Has, outer-few, inner-few, inner-only, outer-separate, inner-separate, outer-all}
 use Rattle.ranges.proofs.ListLaws.{some-has, in-exactly-one, separate-proper}
-use Rattle.covering.specs.Cover.{cutting, coverOf}
-use Rattle.htm.specs.Promise.{CoverSound, Promise}
+use Rattle.covering.specs.Cover.{cutting, coverOf, cover}
+use Rattle.htm.specs.Promise.{CoverSound}
 use Rattle.covering.proofs.CoverLaws.{accepted-ascends, full-ascends, cutting-accepts, cutting-holds}
+use mathlib.Core.Path.{_≡_}
+use mathlib.Core.Bool.{true}
+use mathlib.Core.List.{List}
+use Rattle.answer.specs.Answer.{gives}
+use Rattle.vector.specs.Vectors.{isVector}
+use Rattle.region.specs.Reader.{File, Accepted}
 
 -- ---- of any depth, budget and region
 
@@ -52,6 +58,9 @@ kept d b g p l =
       inner-list = inner-proper d b g;
     }
 
-pub promise-kept : Promise
+pub promise-kept :
+    (p : Vec3) (f : List ℕ) (x : File) → isVector p ≡ true → Accepted f x
+    → (i : ℕ) × (lookup p (x .depth) ≡ gives i)
+    × CoverSound i (cover x .outer) (cover x .inner) (budgetOf (x .budget)) (holds (x .region) p)
 unfolding lookup
 promise-kept p f x v r = (identifier p (x .depth), rw (read-depth f x r, v), kept (x .depth) (x .budget) (x .region) p (vector-long p v))

@@ -5,8 +5,7 @@
 --   held-outer    where the region holds p, i is in exactly one outer range
 --   outer-list, inner-list   each list ascends, leaves at least one identifier between neighbours, and has at most the budget of ranges
 -- It holds of the rules (`rules`), of what the calls answer and of the lists in the lent list afterwards (`answers`), and of whatever values meet the contracts of
--- `htm::locate`, `htm::holds` and `htm::cover` (`calls`, by `CallsSound`). `Promise` is its part of the rules alone. Proved: `demand-three` proofs/AnswersKept,
--- `promise-kept` proofs/PromiseKept.
+-- `htm::locate`, `htm::holds` and `htm::cover` (`calls`, by `CallsSound`). Proved: `demand-three` proofs/AnswersKept.
 use Prim.Native.Nat.{ℕ, _*_, _≤_}
 use mathlib.Core.Path.{_≡_}
 use mathlib.Core.Bool.{Bool, true}
@@ -35,12 +34,6 @@ pub record CoverSound (i : ℕ) (outer inner : List Range) (budget : ℕ) (held 
   pub held-outer : held ≡ true → timesIn i outer ≡ 1
   pub outer-list : Proper budget outer
   pub inner-list : Proper budget inner
-
-abbrev pub Promise : Type 0
-Promise =
-    (p : Vec3) (f : List ℕ) (x : File) → isVector p ≡ true → Accepted f x
-    → (i : ℕ) × (lookup p (x .depth) ≡ gives i)
-    × CoverSound i (cover x .outer) (cover x .inner) (budgetOf (x .budget)) (holds (x .region) p)
 
 -- of the two lists that stand in the lent list `after`, by the counts c
 abbrev pub ListsSound : ℕ → Counts → List ℕ → ℕ → Bool → Type 0
