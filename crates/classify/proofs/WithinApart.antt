@@ -2,7 +2,7 @@
 -- Within: by the cone lemma (f·p)² ≥ G² (p·p) ≥ (G (K − 2))², and G (K − 2) > e K.
 -- Apart: if f·p ≥ e K ≥ D (K + 2) then (f·p)² ≥ D² (p·p). By the bounding cap: (b·p)² ≥ E² (p·p), by the cone lemma, against the separation lemma. By
 -- an edge: P·p ≥ 0, against the plane lemma. Assumes nothing.
-use Prim.Native.Nat.{ℕ, _+_, _*_, _/_}
+use Prim.Native.Nat.{_≤_, ℕ, _+_, _*_, _/_}
 use native.Mathlib.Omega.{arith}
 use mathlib.Core.Path.{_≡_, refl, sym, subst}
 use mathlib.Core.Bool.{Bool, true, _&&_}
@@ -10,7 +10,7 @@ use mathlib.Core.List.{[], _∷_}
 use lib.Dec.{le→leb, lt→ltb}
 use borrow.Author.Tests.{le-leb}
 use lib.IntN.{ℤ, pos, natAbs, _-ℤ_, _*ℤ_, zero-*ℤ}
-use lib.Signed.{ltZ, _≤ℤ_, _<ℤ_, leZ-yes, ltZ-yes, <ℤ-≤ℤ-trans}
+use lib.Signed.{leZ, ltZ, _≤ℤ_, _<ℤ_, leZ-yes, ltZ-yes, <ℤ-≤ℤ-trans}
 use Rattle.algebra.proofs.Ring.{_:*_}
 use Rattle.algebra.proofs.Claim.{_:≤_, nat, hyp, sq, _⊕_, _⊗_, prove}
 use Rattle.algebra.proofs.Order.{by-order, ≤ℤ-trans, nn-sq, nn-pos}
