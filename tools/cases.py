@@ -22,7 +22,7 @@ CRATES = pathlib.Path(__file__).resolve().parent.parent / 'crates'
 HOME = CRATES / 'query'
 CATALOGUE = CRATES / 'catalogue'
 ARCHIVE = CRATES / 'archive'
-LINE = 65536                                        # the longest line, without its line feed
+LINE = regions.LINE
 
 
 # ---- the answer of a line
@@ -96,9 +96,12 @@ COMMANDS = {
 }
 
 
+OF_FILES = b'line', b'rows', b'togrouped', b'toplain', b'holds', b'cover'    # the word after the name is a file in digits
+
+
 def answer(line):
     words = line.split(b' ')
-    if len(line) > LINE or b'' in words or words[0] not in COMMANDS:
+    if regions.is_long(words, 1 if words[0] in OF_FILES else None) or b'' in words or words[0] not in COMMANDS:
         return 'usage'
     try:
         return COMMANDS[words[0]](words[1:])
@@ -446,7 +449,8 @@ def group_files():
 def cases():
     groups = (document_01, document_000, depths, borders, corners_and_middles, ties, lengths, octants, anywhere, no_vectors, identifiers, names,
               trixel_corners, regions.damaged, regions.two_faults, regions.limits, regions.edges, regions.writer_rows, points, regions.planes, regions.region_shapes,
-              odd_numbers, other_shapes, long_lines, covers, mounts, lines, group_files, covers_beside_edges, regions.check_orders)
+              odd_numbers, other_shapes, long_lines, covers, mounts, lines, group_files, covers_beside_edges,
+              regions.check_orders, regions.long_files, regions.long_lines_of_files)
     for group in groups:
         yield from group()
     yield b'id N00000000000'                        # the last line, which ends without a line feed

@@ -11,7 +11,7 @@ from region_cases import file_of
 
 SHARE = 1024                                        # the most of one owner
 LAST = 2**32 - 1                                    # the greatest number
-LINE = 65536                                        # the longest line, without its line feed
+LINE = regions.LINE
 POLES = ((0, 0, K), (0, 0, -K), (K, 0, 0), (-K, 0, 0), (0, K, 0), (0, -K, 0))
 BAD = (K, K, K)                                     # no vector
 
@@ -58,7 +58,8 @@ def answers(lines, number):
     for line in lines:
         words = line.split(b' ')
         try:
-            yield 'usage' if len(line) > LINE or b'' in words else command(index, words, number)
+            long = regions.is_long(words, 2 if words[0] in (b'frames', b'trial') else None)
+            yield 'usage' if long or b'' in words else command(index, words, number)
         except Refused as r:
             yield f'refused {r.n}'
 
@@ -560,6 +561,16 @@ def trial_shapes():
     yield from among({0: [NORTH, AXES[0]], 1: [SOUTH, AXES[0]]}, shapes + odd)
 
 
+def long_files():
+    """Files that are too long: refused 1, but 18 for another owner; an odd number of digits, another byte among them, and faults behind the file. A line after
+    such a one is read from its own beginning."""
+    few, spoilt, end = regions.digits(regions.DIGITS + 2), regions.spoilt(regions.DIGITS + 2, regions.DIGITS + 1), b' 2 5 3 1'
+    frames = [b'frames 0 ' + regions.digits(2 * 32769), b'list 0', *(b'frames ' + w for w in (b'2 ' + few, b'1 ' + few + b'0', b'0 ' + spoilt, b'0 ' + few + b' 0'))]
+    trials = [b'trial 1 ' + regions.digits(2 * 32768) + end, b'list 1', b'trial 2 ' + few + end, b'trial 0 ' + few + b'0' + end, b'trial 1 ' + spoilt + end]
+    trials += [b'trial 0 ' + few + w for w in (b' 0 2049 13 5', b' 2 5 3', b' 2 5 3 4294967296')]
+    yield from among({0: [NORTH, AXES[0]], 1: [SOUTH, AXES[0]]}, frames + trials)
+
+
 def long_lists_tried(sky):
     """More ranges than the largest budget, in the first buffer or in the second."""
     region = cap(sky.direction(), 1000)
@@ -610,4 +621,5 @@ def lines(draws, direction, into_rule):
     sky = Sky(draws, direction, into_rule)
     yield from region_lines(sky)
     yield from trial_lines(sky)
+    yield from long_files()
     yield from (add(1, LAST, POLES[0]), b'list')    # the last line, which ends without a line feed

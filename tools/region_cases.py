@@ -6,11 +6,19 @@ from struct import pack
 import htm
 from htm import K
 
+LINE = 65536                                        # the longest line, without its line feed
+DIGITS = 2 * 10509                                  # so many digits of a file count: it is too long then, whatever follows
 BASE = ((K, 0, 0), (3, -K, 7), (-699845, 499889, 599867), (0, 0, -K))
 CONVEX, END = pack('<HH', 4, 2), pack('<HH', 4, 4)
 
 
 # ---- the answer of a line
+
+def is_long(words, place):
+    """Whether a line is too long; `place` is that of the word which is a file, if there is one. Of its digits, which are whole pairs or else no file, DIGITS count."""
+    more = len(words[place]) - DIGITS if place and place < len(words) else 0
+    return len(b' '.join(words)) - max(more, 0) > LINE
+
 
 def bytes_of(word):
     """The bytes that a word writes in hex, or None; - is the empty file."""
@@ -224,3 +232,35 @@ def region_shapes():
     yield from (b'rows', b'file', b'holds', b'file 9', b'file 9 ', b'file 9 64', b'file -9 64', b'file 9 64 x', b'file 9 64 2147483648', b'file 9 64 -2147483649', b'file 9 64 +1')
     yield from (b'holds ' + w for w in (b'-', b'- 1 2', b'- 1 2 3 4', b'- 1 2 x', b'0 1 2 3', b'1 2 3', b'- 1 2 2147483648'))
     yield from (b'rows ' + b'00' * 32765, b'rows ' + b'0' * 65531, b'rows ' + b'00' * 10509)
+
+
+def digits(count):
+    """So many digits, 16 different ones in turn."""
+    return (b'0123456789abcdef' * (count // 16 + 1))[:count]
+
+
+def spoilt(count, *places):
+    """So many digits, and at these places another byte."""
+    word = bytearray(digits(count))
+    for n, place in enumerate(places):
+        word[place] = b'gG/:-@'[n]
+    return bytes(word)
+
+
+def long_files():
+    """Files that are too long, up to past several blocks: refused 1, or 13 as a catalogue line, where the line has the right shape; an odd number of digits, another
+    byte at and behind the last digit that counts, and faults behind the file. A line after such a one is read from its own beginning."""
+    point, few = b' 0 0 1048576', digits(DIGITS + 2)
+    yield from (b'rows ' + digits(2 * 32767), b'rows -', b'holds ' + digits(2 * 32768) + point, b'name 15', b'cover ' + digits(2 * 32769), b'togrouped ' + digits(2 * 40000))
+    yield from (b'rows ' + digits(2 * 200000), b'lookup 0 0 1048576 2', b'toplain ' + few, b'line ' + digits(2 * 32767) + b' 12', b'line ' + few + b' 13')
+    yield from (b'holds ' + digits(DIGITS + 1) + point, b'cover ' + few + b'0')
+    yield from (b'rows ' + spoilt(DIGITS + 2, place) for place in (DIGITS, DIGITS + 1))
+    yield from (b'holds ' + spoilt(DIGITS + 3, DIGITS) + point, b'togrouped ' + spoilt(DIGITS + 2, DIGITS, DIGITS + 1))
+    yield b'rows ' + few + b' 0'
+    yield from (b'holds ' + few + w for w in (b' 0 0', b' 0 0 2147483648', b' 0 0 0'))
+
+
+def long_lines_of_files():
+    """The longest line whose file counts in part, and one byte more: numbers in an unusual dress behind the file."""
+    for n in (0, 1):
+        yield b'holds ' + digits(DIGITS + 2) + b' 0 0 ' + b'0' * (LINE - DIGITS - 6 - 5 - 7 + n) + b'1048576'

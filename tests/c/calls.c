@@ -21,7 +21,8 @@
 #define COUNTS (6 + BEHIND)
 #define FILE_BYTES (10508 + BEHIND)
 #define LISTS (8192 + BEHIND)
-#define MOST 32768 /* no command line has more bytes of a file, or more numbers */
+#define MOST 32768 /* no command line has more numbers */
+#define MOST_BYTES (1 << 18) /* no stored case has a longer file */
 
 struct text {
     const uint8_t *at;
@@ -114,11 +115,11 @@ static int digit(uint8_t c)
 }
 
 /* A file in hexadecimal digits; `-` is the one with no bytes. */
-static size_t take_file(struct text *rest, uint8_t file[MOST])
+static size_t take_file(struct text *rest, uint8_t file[MOST_BYTES])
 {
     struct text word = take_word(rest);
     size_t n = word.n / 2;
-    if (n > MOST)
+    if (n > MOST_BYTES)
         die("a file is too long", "");
     for (size_t i = 0; i < n; i++)
         file[i] = (uint8_t)(digit(word.at[2 * i]) * 16 + digit(word.at[2 * i + 1]));
@@ -402,7 +403,7 @@ static void answer_single(struct text rest)
 /* line HEX DEPTH */
 static void answer_line(struct text rest)
 {
-    static uint8_t bytes[MOST];
+    static uint8_t bytes[MOST_BYTES];
     size_t n = take_file(&rest, bytes);
     print_found(htm_lookup_line(bytes, n, (uint32_t)take_natural(&rest)));
 }
@@ -438,7 +439,7 @@ static void answer_corners(struct text rest)
 /* rows HEX */
 static void answer_rows(struct text rest)
 {
-    static uint8_t file[MOST];
+    static uint8_t file[MOST_BYTES];
     static int32_t rows[ROWS];
     uint64_t header[THREE];
     size_t bytes = take_file(&rest, file);
@@ -485,7 +486,7 @@ static void answer_grouped(struct text rest)
 
 static void print_converted(making *make, struct text rest)
 {
-    static uint8_t file[MOST];
+    static uint8_t file[MOST_BYTES];
     struct source from = {0};
     from.file = file;
     from.n = take_file(&rest, file);
@@ -507,7 +508,7 @@ static void answer_to_plain(struct text rest)
 /* holds HEX X Y Z */
 static void answer_holds(struct text rest)
 {
-    static uint8_t file[MOST];
+    static uint8_t file[MOST_BYTES];
     size_t bytes = take_file(&rest, file);
     int32_t x = take_whole(&rest), y = take_whole(&rest), z = take_whole(&rest);
     int64_t held = htm_holds(file, bytes, x, y, z);
@@ -529,7 +530,7 @@ static void print_ranges(char letter, const uint64_t *pairs, uint64_t count)
 /* cover HEX */
 static void answer_cover(struct text rest)
 {
-    static uint8_t file[MOST];
+    static uint8_t file[MOST_BYTES];
     static int32_t rows[ROWS];
     static uint64_t lists[LISTS];
     uint64_t header[THREE] = {0}, counts[COUNTS];
