@@ -109,7 +109,8 @@ fn add_convex(
 ) -> ActiveCounts
     requires { ⌜ IsAnchor r × (most ≤ 32) ⌝ }
     requires { ⌜ SomeRegionSearch r (now prepared) (now ends) i k s (now active) (now stops) ⌝ }
-    ensures { λ z. ⌜ RegionSearchOn r (now (prepared .entry)) (now (ends .entry)) i k s (now (active .entry)) (now (stops .entry)) z (now (active .exit)) (now (stops .exit)) ⌝ }
+    ensures { λ z. ⌜ RegionSearchOn r (now (prepared .entry)) (now (ends .entry)) i k s (now (active .entry)) (now (stops .entry)) z
+        (now (active .exit)) (now (stops .exit)) ⌝ }
 {
     let w = s.halfspaces;
     let c = s.convexes;
@@ -199,7 +200,8 @@ fn active_beside(
     active: &mut [i64],
     stops: &mut [u64],
 )
-    requires { ⌜ IsAnchor r × (anchorIn (drop 224 (now active)) ≡ r) × (length (now active) ≡ 229) × (length (now stops) ≡ 33) × (n ≡ countIn (now ends)) ⌝ }
+    requires { ⌜ IsAnchor r × (anchorIn (drop 224 (now active)) ≡ r) × (length (now active) ≡ 229) × (length (now stops) ≡ 33)
+        × (n ≡ countIn (now ends)) ⌝ }
     requires { ⌜ Ready (now prepared) (now ends) (countIn (now ends)) ⌝ }
     ensures { λ _. ⌜ ActiveListsIn (now (prepared .entry)) (now (ends .entry)) (now (active .exit)) (now (stops .exit)) ⌝ }
 {

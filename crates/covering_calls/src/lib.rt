@@ -62,7 +62,8 @@ fn visit_each_root(
 )
     requires { ⌜ RootNeeds depth (now prepared) (now ends) (tallyIn (now s)) (now out) ⌝ }
     requires { ⌜ ActiveListsIn (now prepared) (now ends) (now active) (now stops) ⌝ }
-    ensures { λ _. ⌜ RootsGive depth (now (prepared .entry)) (now (ends .entry)) (tallyIn (now (s .entry))) (now (out .entry)) (tallyIn (now (s .exit))) (now (out .exit)) ⌝ }
+    ensures { λ _. ⌜ RootsGive depth (now (prepared .entry)) (now (ends .entry)) (tallyIn (now (s .entry))) (now (out .entry))
+        (tallyIn (now (s .exit))) (now (out .exit)) ⌝ }
 {
     let left = depth - 1;
     let span = power(left);
@@ -89,7 +90,8 @@ fn visit_roots(
     s: &mut TallyNumbers,
 )
     requires { ⌜ RootNeeds depth (now prepared) (now ends) (tallyIn (now s)) (now out) ⌝ }
-    ensures { λ _. ⌜ RootsGive depth (now (prepared .entry)) (now (ends .entry)) (tallyIn (now (s .entry))) (now (out .entry)) (tallyIn (now (s .exit))) (now (out .exit)) ⌝ }
+    ensures { λ _. ⌜ RootsGive depth (now (prepared .entry)) (now (ends .entry)) (tallyIn (now (s .entry))) (now (out .entry))
+        (tallyIn (now (s .exit))) (now (out .exit)) ⌝ }
 {
     let active = [0i64; ACTIVE_NUMBERS];
     let stops = [0u64; ACTIVE_ENDS];
@@ -99,7 +101,9 @@ fn visit_roots(
 // No more ranges of the inner list come.
 fn end_inner(out: &mut [u64], s: &TallyNumbers) -> usize
     requires { ⌜ TallyInvariant (tallyIn (now s)) (now out) ⌝ }
-    ensures { λ n. ⌜ InnerEnded (tallyIn (now (s .entry)) .budget) (now (out .entry)) (now (out .exit)) (innerEnd (tallyIn (now (s .entry)) .budget) (stateOf (tallyIn (now (s .entry)) .inner) (drop (2 * tallyIn (now (s .entry)) .budget) (now (out .entry))))) n ⌝ }
+    ensures { λ n. ⌜ InnerEnded (tallyIn (now (s .entry)) .budget) (now (out .entry)) (now (out .exit))
+        (innerEnd (tallyIn (now (s .entry)) .budget) (stateOf (tallyIn (now (s .entry)) .inner)
+        (drop (2 * tallyIn (now (s .entry)) .budget) (now (out .entry))))) n ⌝ }
 {
     let budget = covering_tally::budget_of(s);
     ranges_lists::inner_end(&mut out[2 * budget..], covering_tally::pending(s), budget)

@@ -176,7 +176,8 @@ pub fn take_partial(out: &mut [u64], s: &mut [u64], low: u64, high: u64)
     requires { ⌜ length (now s) ≡ 13 ⌝ }
     requires { ⌜ TallyInvariant (tallyIn (now s)) (now out) ⌝ }
     requires { ⌜ Countable (tallyIn (now s)) ⌝ }
-    ensures { λ _. ⌜ TrixelAccepted (takenPartial (range low high)) (tallyIn (now (s .entry))) (now (out .entry)) (tallyIn (now (s .exit))) (now (out .exit)) ⌝ }
+    ensures { λ _. ⌜ TrixelAccepted (takenPartial (range low high)) (tallyIn (now (s .entry))) (now (out .entry)) (tallyIn (now (s .exit)))
+        (now (out .exit)) ⌝ }
 {
     push_outer(out, s, low, high);
     partial_more(s);
@@ -188,7 +189,8 @@ pub fn take_full(out: &mut [u64], s: &mut [u64], low: u64, high: u64)
     requires { ⌜ TallyInvariant (tallyIn (now s)) (now out) ⌝ }
     requires { ⌜ Countable (tallyIn (now s)) ⌝ }
     requires { ⌜ SmallRange (range low high) ⌝ }
-    ensures { λ _. ⌜ TrixelAccepted (takenFull (range low high)) (tallyIn (now (s .entry))) (now (out .entry)) (tallyIn (now (s .exit))) (now (out .exit)) ⌝ }
+    ensures { λ _. ⌜ TrixelAccepted (takenFull (range low high)) (tallyIn (now (s .entry))) (now (out .entry)) (tallyIn (now (s .exit)))
+        (now (out .exit)) ⌝ }
 {
     push_outer(out, s, low, high);
     add_inner(out, s, low, high);

@@ -214,7 +214,8 @@ pub fn visit(
 )
     requires { ⌜ Needs (now trixel) level (now prepared) (now ends) (tallyIn (now s)) (now out) ⌝ }
     requires { ⌜ ActiveListsIn (now prepared) (now ends) (now active) (now stops) ⌝ }
-    ensures { λ _. ⌜ Gives (now (prepared .entry)) (now (ends .entry)) 1 (level .left) (foundIn level (trixelIn (now (trixel .entry)))) (tallyIn (now (s .entry))) (now (out .entry)) (tallyIn (now (s .exit))) (now (out .exit)) ⌝ }
+    ensures { λ _. ⌜ Gives (now (prepared .entry)) (now (ends .entry)) 1 (level .left) (foundIn level (trixelIn (now (trixel .entry))))
+        (tallyIn (now (s .entry))) (now (out .entry)) (tallyIn (now (s .exit))) (now (out .exit)) ⌝ }
 {
     let j = classify_trixel(trixel, prepared, ends, active, stops);
     if accept_or_cut(j, level, out, s) {
@@ -238,7 +239,9 @@ fn children_by_active(
     s: &mut TallyNumbers,
 )
     requires { ⌜ CutNeeds (now trixel) j level (now prepared) (now ends) (tallyIn (now s)) (now out) ⌝ }
-    ensures { λ _. ⌜ Gives (now (prepared .entry)) (now (ends .entry)) 4 (level .left - 1) (foundBelow level (trixelIn (now (trixel .entry)))) (tallyIn (now (s .entry))) (now (out .entry)) (tallyIn (now (s .exit))) (now (out .exit)) ⌝ }
+    ensures { λ _. ⌜ Gives (now (prepared .entry)) (now (ends .entry)) 4 (level .left - 1)
+        (foundBelow level (trixelIn (now (trixel .entry)))) (tallyIn (now (s .entry))) (now (out .entry)) (tallyIn (now (s .exit)))
+        (now (out .exit)) ⌝ }
 {
     let mut active = [0i64; ACTIVE_NUMBERS];
     let mut stops = [0u64; ACTIVE_ENDS];
@@ -260,7 +263,9 @@ fn children(
 )
     requires { ⌜ CutNeeds (now trixel) j level (now prepared) (now ends) (tallyIn (now s)) (now out) ⌝ }
     requires { ⌜ ActiveListsIn (now prepared) (now ends) (now active) (now stops) ⌝ }
-    ensures { λ _. ⌜ Gives (now (prepared .entry)) (now (ends .entry)) 4 (level .left - 1) (foundBelow level (trixelIn (now (trixel .entry)))) (tallyIn (now (s .entry))) (now (out .entry)) (tallyIn (now (s .exit))) (now (out .exit)) ⌝ }
+    ensures { λ _. ⌜ Gives (now (prepared .entry)) (now (ends .entry)) 4 (level .left - 1)
+        (foundBelow level (trixelIn (now (trixel .entry)))) (tallyIn (now (s .entry))) (now (out .entry)) (tallyIn (now (s .exit)))
+        (now (out .exit)) ⌝ }
 {
     let t = trixel_in(trixel);
     let c = mesh_trixels::cut(t);

@@ -46,7 +46,8 @@ pub fn search(
     requires { ⌜ (1 ≤ depth) × (depth ≤ 12) × SomeRows count (now rows) ⌝ }
     requires { ⌜ (1 ≤ budget) × (4 * budget ≤ length (now ranges)) ⌝ }
     requires { ⌜ (IndexLength ≤ length (now index)) × (OwnerCapacity ≤ length (now numbers)) ⌝ }
-    ensures { λ r. ⌜ SearchesRows owner (now (index .entry)) depth budget (now (rows .entry)) count (now (ranges .entry)) (now (numbers .entry)) r (now (ranges .exit)) (now (numbers .exit)) ⌝ }
+    ensures { λ r. ⌜ SearchesRows owner (now (index .entry)) depth budget (now (rows .entry)) count (now (ranges .entry))
+        (now (numbers .entry)) r (now (ranges .exit)) (now (numbers .exit)) ⌝ }
 {
     let counts = covering_calls::cover(depth, rows, count, budget, ranges);
     let lists = Lists {

@@ -237,7 +237,8 @@ pub fn walk(
 ) -> Tests
     requires { ⌜ (IndexLength ≤ length (now index)) × Lent lists (now ranges) × (OwnerCapacity ≤ length (now numbers)) ⌝ }
     requires { ⌜ 5 * count ≤ 2560 ⌝ }
-    ensures { λ r. ⌜ Walks owner (now (index .entry)) lists (now (ranges .entry)) (now (rows .entry)) count (now (numbers .entry)) r (now (numbers .exit)) ⌝ }
+    ensures { λ r. ⌜ Walks owner (now (index .entry)) lists (now (ranges .entry)) (now (rows .entry)) count (now (numbers .entry)) r
+        (now (numbers .exit)) ⌝ }
 {
     let n = index_entries::count_in(index);
     let mut at = WalkState {

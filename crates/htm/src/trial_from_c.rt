@@ -1,5 +1,5 @@
-// A trial of two settings for a host in C: settings, results and parts as numbers. None has a `requires`. A list is passed as a pointer and its number of
-// elements: include/htm.h.
+// A trial of two settings for a host in C: settings, results and parts as numbers. None has a `requires`. A list is passed as a pointer and its number
+// of elements: include/htm.h.
 use answer::SPACE;
 use trial::Setting;
 use trial::TRIAL_COUNTS;

@@ -63,7 +63,8 @@ pub fn add(index: &mut [i64], owner: u32, number: u32, p: Vec3) -> Change
 
 // The entry of the exposure with this owner and number, in its place; refusals 10, 15, 16. In an index there is room wherever the owner has a place.
 fn insert(index: &mut [i64], e: Entry, owner: u32, number: u32) -> Change
-    ensures { λ r. ⌜ Done (inList (now (index .entry)) (entering (key owner number) e (entriesIn (now (index .entry))))) (now (index .entry)) (now (index .exit)) r ⌝ }
+    ensures { λ r. ⌜ Done (inList (now (index .entry)) (entering (key owner number) e (entriesIn (now (index .entry)))))
+        (now (index .entry)) (now (index .exit)) r ⌝ }
 {
     if index.len() < INDEX_LENGTH {
         return Change::Refused(SPACE);

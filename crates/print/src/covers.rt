@@ -38,7 +38,8 @@ fn accepted(
 
 // Depth and budget of a file that is accepted: they stand in its header, and no other record is read for them.
 fn header_of(file: &[u8]) -> HeaderOf
-    ensures { λ r. ⌜ ((x : File) → Accepted (now (file .entry)) x → headerGiven r ≡ gives (record { count = 0; depth = x .depth; budget = x .budget })) ⌝ }
+    ensures { λ r. ⌜ ((x : File) → Accepted (now (file .entry)) x
+        → headerGiven r ≡ gives (record { count = 0; depth = x .depth; budget = x .budget })) ⌝ }
 {
     region_records::header_in(file)
 }

@@ -120,7 +120,8 @@ fn halfspace_in(h: Halfspace, k: RegionSize, rows: &mut [i32]) -> RegionSizeOf
 // The payload of kind 3: a halfspace, in a convex.
 pub fn halfspace_payload(payload: &[u8], s: State, next: usize, rows: &mut [i32]) -> Outcome
     requires { ⌜ (16 ≤ length (now payload)) × (length (now rows) ≡ 2560) ⌝ }
-    ensures { λ r. ⌜ RecordAfterBy (λ x. halfspaceIn x (halfspaceOf (now (payload .entry)))) (s .counts) next (now (rows .entry)) r (now (rows .exit)) ⌝ }
+    ensures { λ r. ⌜ RecordAfterBy (λ x. halfspaceIn x (halfspaceOf (now (payload .entry)))) (s .counts) next (now (rows .entry)) r
+        (now (rows .exit)) ⌝ }
 {
     let h = region_records::halfspace_of(payload);
     let k = s.counts;
@@ -130,7 +131,8 @@ pub fn halfspace_payload(payload: &[u8], s: State, next: usize, rows: &mut [i32]
 // n halfspaces, one after the other, each as one of kind 3.
 fn halfspaces_in(payload: &[u8], n: usize, k: RegionSize, rows: &mut [i32]) -> RegionSizeOf
     requires { ⌜ (16 * n ≤ length (now payload)) × (length (now rows) ≡ 2560) ⌝ }
-    ensures { λ r. ⌜ SizeAfterBy (λ x. halfspacesIn x (halfspacesOf n (now (payload .entry)))) k (now (rows .entry)) (countsGiven r) (now (rows .exit)) ⌝ }
+    ensures { λ r. ⌜ SizeAfterBy (λ x. halfspacesIn x (halfspacesOf n (now (payload .entry)))) k (now (rows .entry)) (countsGiven r)
+        (now (rows .exit)) ⌝ }
 {
     let mut with = k;
     let mut i = 0;
@@ -186,7 +188,8 @@ fn may_end(k: RegionSize, following: usize) -> bool
 // The payload of kind 4, which is empty: the end, which so many bytes follow.
 pub fn end_payload(payload: &[u8], s: State, following: usize) -> Outcome
     requires { ⌜ length (now payload) ≡ 0 ⌝ }
-    ensures { λ r. ⌜ ((x : File) (next : ℕ) (left : List ℕ) → s .counts ≡ countsOf (x .region) → length left ≡ following → r ≡ outcomeOf true next (endIn x left)) ⌝ }
+    ensures { λ r. ⌜ ((x : File) (next : ℕ) (left : List ℕ)
+        → s .counts ≡ countsOf (x .region) → length left ≡ following → r ≡ outcomeOf true next (endIn x left)) ⌝ }
 {
     let k = s.counts;
     if may_end(k, following) {

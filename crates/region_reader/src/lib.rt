@@ -136,7 +136,8 @@ fn records_in(file: &[u8], style: Style, h: Header, rows: &mut [i32]) -> HeaderO
 // of five have room; or the refusal of the first failed check, and then nothing is said of `rows`.
 pub fn decode(file: &[u8], rows: &mut [i32; 5 * HALFSPACES]) -> HeaderOf
     ensures { λ r. ⌜ headerGiven r ≡ with-value headerOf (rule.read (now (file .entry))) ⌝ }
-    ensures { λ r. ⌜ ((x : File) → rule.read (now (file .entry)) ≡ gives x → now (rows .exit) ≡ put 0 (region.rows (x .region)) (now (rows .entry))) ⌝ }
+    ensures { λ r. ⌜ ((x : File) → rule.read (now (file .entry)) ≡ gives x
+        → now (rows .exit) ≡ put 0 (region.rows (x .region)) (now (rows .entry))) ⌝ }
 {
     if MAX_FILE_BYTES < file.len() {
         return HeaderOf::Refused(LONG);

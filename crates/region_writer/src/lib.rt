@@ -133,7 +133,8 @@ fn put_rows(style: Style, rows: &[i32], out: &mut [u8]) -> usize
 fn put_file(style: Style, depth: u32, budget: u32, rows: &[i32], out: &mut [u8])
     requires { ⌜ (depth ≤ 12) × (budget ≤ 2048) ⌝ }
     requires { ⌜ FileFits style (now rows) (length (now out)) ⌝ }
-    ensures { λ r. ⌜ ((g : Region) → regionOf (now (rows .entry)) ≡ gives g → now (out .exit) ≡ put 0 (fileIn style depth budget g) (now (out .entry))) ⌝ }
+    ensures { λ r. ⌜ ((g : Region) → regionOf (now (rows .entry)) ≡ gives g
+        → now (out .exit) ≡ put 0 (fileIn style depth budget g) (now (out .entry))) ⌝ }
 {
     region_records::bytes::put_kind(out, 0, Record::Header);
     region_records::bytes::put_word(out, 4, depth);
