@@ -25,6 +25,8 @@ use Rattle.htm.specs.Answers.{coverInto, coverAnswer, bothLists, coverAf
 use Rattle.htm.specs.Promise.{CoverSound, ListsSound, DemandThree}
 use Rattle.htm.specs.declared.CoverOf.{CoverOf}
 use Rattle.htm.proofs.PromiseKept.{promise-kept}
+use Rattle.answer.specs.declared.Number.{Number}
+use Rattle.answer.specs.Calls.{numberOf}
 
 -- ---- the three answers
 

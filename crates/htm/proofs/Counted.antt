@@ -45,4 +45,4 @@ answers-counted f before c e =
 pub calls-counted : CountedOfCalls
 calls-counted f before after c e left =
     let k = answers-counted f before c (sym e) in
-    (k .0, k .1, subst (λ l. Contents (cutting (k .0 .depth) (k .0 .region)) (outerIn c l) c) (sym left) (k .2))
+    (k .0, k .1, subst (λ l. ContentsOf (k .0) (outerIn c l) c) (sym left) (k .2))

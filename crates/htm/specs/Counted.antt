@@ -29,4 +29,4 @@ ContentsOf x outer c = Contents (x .depth) (cutting (x .depth) (x .region)) oute
 abbrev pub CountedOfCalls : Type 0
 CountedOfCalls =
     (f before after : List ℕ) (c : Counts) → coverGiven (CoverOf.Gives c) ≡ coverAnswer f before → after ≡ coverAfter f before
-    → (x : File) × Accepted f x × Contents (cutting (x .depth) (x .region)) (outerIn c after) c
+    → (x : File) × Accepted f x × ContentsOf x (outerIn c after) c

@@ -22,7 +22,7 @@ use Rattle.trial.specs.declared.Choice.the-variants.{First}
 use Rattle.trial.specs.declared.Trial.{Trial}
 use Rattle.trial.specs.declared.TrialOf.{TrialOf}
 use Rattle.trial.specs.Trials.{coverBy, skyOf}
-use Rattle.trial.specs.Answers.{TrialCall, partOf}
+use Rattle.trial.specs.Answers.{TrialCall, partOf, ofChoice}
 use Rattle.htm.specs.Frames.{entriesBy}
 
 abbrev pub heldBy : ℕ → List ℤ → Region → ℕ
