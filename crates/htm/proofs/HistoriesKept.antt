@@ -9,7 +9,6 @@ use Prim.Native.Nat.{_*_}
 use mathlib.Core.List.{List}
 use lib.IntN.{ℤ}
 use Rattle.index.specs.declared.Change.{Change}
-use Rattle.algebra.specs.Lists.{tally}
 use Rattle.answer.specs.Answer.{Answer, gives, check, then, with-value, Space, Owner}
 use Rattle.answer.specs.Lent.{put, stored}
 use Rattle.region.specs.Regions.{Region, holds}
@@ -19,12 +18,11 @@ use Rattle.covering.specs.Cover.{cover, bothListed}
 use Rattle.index.specs.declared.Entry.{Entry}
 use Rattle.index.specs.Entries.{IndexLength}
 use Rattle.index.specs.Exposures.{Call, OwnerCapacity, isOwner}
-use Rattle.frames.specs.Walk.{Met, walk, isUnchecked, isHeld, isDiscarded, deliveredBy}
+use Rattle.frames.specs.Walk.{Met, walk, deliveredBy}
 use Rattle.frames.specs.Answers.{framesBy, walkOf, framesAnswer, rangesAfter, numbersAfter}
 use Rattle.trial.specs.declared.Setting.{Setting}
-use Rattle.trial.specs.declared.SettingResult.{SettingResult}
 use Rattle.trial.specs.declared.Trial.{Trial}
-use Rattle.trial.specs.Trials.{coverBy, walkBy, skyOf, choiceOf, trialOf}
+use Rattle.trial.specs.Trials.{resultOf, coverBy, walkBy, skyOf, choiceOf, trialOf}
 use Rattle.trial.specs.Answers.{checkSetting, roomFor, listsBy, trialAnswer, firstAfter, secondAfter}
 use Rattle.index.specs.HistoryCorrect.{IsIndex}
 use Rattle.index.specs.Apart.{Ran}
@@ -65,22 +63,13 @@ frames-apart o h g rs qs m n r q e f ranges numbers =
       left = λ i. stored (λ x before. put 0 (deliveredBy (met (own i) x)) before) (into (long i)) numbers;
     }
 
-result-by : List Met → Region → Setting → SettingResult
-result-by ms g s = record {
-  unchecked = tally (λ m. isUnchecked (m .disposition)) ms;
-  held = tally (λ m. isHeld (m .disposition)) ms;
-  discarded = tally (λ m. isDiscarded (m .disposition)) ms;
-  outer = length (coverBy s g .outer);
-  inner = length (coverBy s g .inner);
-}
-
 trial-by : List Entry → Region → Setting → Setting → Trial
 trial-by es g s t =
     let w : Setting → List Met = λ u. walk (u .depth) (holds g) (coverBy u g .outer) (coverBy u g .inner) (take OwnerCapacity es) in
-    record { first = result-by (w s) g s; second = result-by (w t) g t; choice = choiceOf (skyOf s g) (skyOf t g) }
+    record { first = resultOf (coverBy s g) (w s); second = resultOf (coverBy t g) (w t); choice = choiceOf (skyOf s g) (skyOf t g) }
 
 pub trials-apart : TrialsApart
-unfolding trialAnswer firstAfter secondAfter trialOf walkBy result-by trial-by
+unfolding trialAnswer firstAfter secondAfter trialOf walkBy trial-by
 trials-apart o h g rs qs m n r q e f s t first second =
     let long = both-long m n (left-index h rs m r) (left-index g qs n q) in
     let own = same-entries o h g rs qs m n r q e in

@@ -1,19 +1,17 @@
 -- Number 10 comes last, and a refusal changes no lent element: an answer with its room is the answer's refusal where it has one, and what is stored
 -- for a refusal is the list as it was. Assumes nothing.
 use Prim.Native.Nat.{ℕ, _*_}
-use mathlib.Core.Path.{_≡_, refl, sym, ap, _∙_}
+use mathlib.Core.Path.{_≡_, refl, ap, _∙_}
 use mathlib.Core.Bool.{Bool, true, false}
 use mathlib.Core.List.{List}
 use lib.Dec.{leb}
 use lib.ListN.{length}
 use lib.IntN.{ℤ}
-use Rattle.answer.specs.Answer.{Answer, refused, gives, check, then, with-value, Depth, Budget, Vector, Space, Owner}
+use Rattle.answer.specs.Answer.{Answer, refused, gives, check, then, with-value, Depth, Budget, Space, Owner}
 use Rattle.answer.specs.Lent.{put, stored}
-use Rattle.answer.proofs.AnswerLaws.{refused-gives}
 use Rattle.answer.proofs.LentLaws.{first-refusal, not-stored}
 use Rattle.mesh.specs.Answers.{nameInto, nameAnswer, nameAfter}
 use Rattle.vector.specs.Numbers.{isDepth}
-use Rattle.vector.specs.Vectors.{isVector}
 use Rattle.region.specs.Budgets.{isBudget, budgetOf}
 use Rattle.region.specs.Reader.{File, read}
 use Rattle.region.specs.Answers.{headerOf, rowsInto, readInto, readAnswer, readAfter, fileInto, fileAnswer, fileAfter}
@@ -22,6 +20,7 @@ use Rattle.covering.specs.Cover.{cover, countsOf, coverCounts, countsList}
 use Rattle.index.specs.Entries.{withEntries}
 use Rattle.index.specs.Exposures.{OwnerCapacity, isOwner}
 use Rattle.index.specs.Answers.{inList, beginning, adding, removing, beginAnswer, beginAfter, addAnswer, addAfter, removeAnswer, removeAfter}
+use Rattle.index.proofs.CheckOrder.{add-refused, remove-refused}
 use Rattle.frames.specs.declared.Frames.{Frames}
 use Rattle.frames.specs.Walk.{deliveredBy}
 use Rattle.frames.specs.Answers.{framesInto, walkOf, framesBy, framesList, framesAnswer, rangesAfter, numbersAfter}
@@ -66,27 +65,16 @@ module _ (o : ℕ) (l : List ℤ) (f first second : List ℕ) (s t : Setting) wh
   trial-refused : (n : ℕ) → check Owner (isOwner o) (then (read f) (λ x. checkSetting s (checkSetting t (gives x)))) ≡ refused n → trialInto o l f s t first second ≡ refused n
   trial-refused n e = behind (isOwner o) (read f) ∙ ap (λ a. then a rooms) e
 
--- of an add and of a removal: what is asked before the list
-add-refused : {A B C : Type 0} (t u : Bool) (x : A) (a : Answer B) (f : B → C) (n : ℕ) → check Owner t (check Vector u (gives x)) ≡ refused n
-    → with-value f (check Owner t (check Vector u a)) ≡ refused n
-add-refused false u x a f n e = cc
-add-refused true false x a f n e = cc
-add-refused true true x a f n e = refused-gives n x (sym e)
-
-remove-refused : {A B C : Type 0} (t : Bool) (x : A) (a : Answer B) (f : B → C) (n : ℕ) → check Owner t (gives x) ≡ refused n → with-value f (check Owner t a) ≡ refused n
-remove-refused false x a f n e = cc
-remove-refused true x a f n e = refused-gives n x (sym e)
-
 pub space-last : SpaceLast
-unfolding trialAnswer trialForC nameAnswer readAnswer fileAnswer coverAnswer cornersForC readForC coverForC framesAnswer framesForC addAnswer removeAnswer
+unfolding trialAnswer trialForC nameAnswer readAnswer fileAnswer coverAnswer cornersForC readForC coverForC framesAnswer framesForC
 space-last = record {
   name = λ i before n. first-refusal length _ _ n;
   reader = λ f before n. first-refusal headerOf _ _ n;
   writer = λ s d b rs before n. first-refusal length _ _ n;
   converter = λ s f before n e. first-refusal length _ _ n (refusal-stays s f n e);
   cover = λ f before n. first-refusal (λ x. countsOf (cover x)) _ _ n;
-  add = λ x l n. add-refused (isOwner (x .owner)) (isVector (x .pointing)) x _ (λ _. tt) n;
-  remove = λ k l n. remove-refused (isOwner (k .owner)) k _ (λ _. tt) n;
+  add = add-refused;
+  remove = remove-refused;
   frames = λ o l f ranges numbers n e. ap (with-value (λ x. framesBy (walkOf o l x))) (frames-refused o l f ranges numbers n e);
   trial = λ o l f s t first second n e. ap (with-value (λ x. trialOf o l (x .region) s t)) (trial-refused o l f first second s t n e);
   corners-C = λ i out n e. rw e;

@@ -38,15 +38,18 @@ Stays a after before = (n : ℕ) → a ≡ refused n → after ≡ before
 
 -- ---- number 10 last
 
--- an owner, then a file; then two settings
+-- what is checked before any room: an owner and a file, then two settings; an owner and a vector
 abbrev pub ownFile : ℕ → List ℕ → Answer File
 ownFile o f = check Owner (isOwner o) (read f)
 
 abbrev pub triedFile : ℕ → List ℕ → Setting → Setting → Answer File
 triedFile o f s t = check Owner (isOwner o) (then (read f) (λ x. checkSetting s (checkSetting t (gives x))))
 
-abbrev pub asked : Exposure → Answer Exposure
-asked x = check Owner (isOwner (x .owner)) (check Vector (isVector (x .pointing)) (gives x))
+abbrev pub addable : Exposure → Answer (Unit {0})
+addable x = check Owner (isOwner (x .owner)) (check Vector (isVector (x .pointing)) (gives tt))
+
+abbrev pub removable : Key → Answer (Unit {0})
+removable k = check Owner (isOwner (k .owner)) (gives tt)
 
 pub record SpaceLast : Type 0 where
   pub name : (i : ℕ) (before : List ℕ) → Keeps (nameOf i) (nameAnswer i before)
@@ -54,8 +57,8 @@ pub record SpaceLast : Type 0 where
   pub writer : (s : Style) (d b : ℕ) (rs : List ℤ) (before : List ℕ) → Keeps (writeIn s d b rs) (fileAnswer (writeIn s d b rs) before)
   pub converter : (s : Style) (f before : List ℕ) → Keeps (read f) (fileAnswer (convert s f) before)
   pub cover : (f before : List ℕ) → Keeps (read f) (coverAnswer f before)
-  pub add : (x : Exposure) (l : List ℤ) → Keeps (asked x) (addAnswer x l)
-  pub remove : (k : Key) (l : List ℤ) → Keeps (check Owner (isOwner (k .owner)) (gives k)) (removeAnswer k l)
+  pub add : (x : Exposure) (l : List ℤ) → Keeps (addable x) (addAnswer x l)
+  pub remove : (k : Key) (l : List ℤ) → Keeps (removable k) (removeAnswer k l)
   pub frames : (o : ℕ) (l : List ℤ) (f ranges numbers : List ℕ) → Keeps (ownFile o f) (framesAnswer o l f ranges numbers)
   pub trial : (o : ℕ) (l : List ℤ) (f : List ℕ) (s t : Setting) (first second : List ℕ) → Keeps (triedFile o f s t) (trialAnswer o l f s t first second)
   pub corners-C : (i : ℕ) (out : List ℤ) → Keeps (corners i) (cornersForC i out)
