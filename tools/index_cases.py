@@ -567,8 +567,9 @@ def long_files():
     few, spoilt, end = regions.digits(regions.DIGITS + 2), regions.spoilt(regions.DIGITS + 2, regions.DIGITS + 1), b' 2 5 3 1'
     frames = [b'frames 0 ' + regions.digits(2 * 32769), b'list 0', *(b'frames ' + w for w in (b'2 ' + few, b'1 ' + few + b'0', b'0 ' + spoilt, b'0 ' + few + b' 0'))]
     trials = [b'trial 1 ' + regions.digits(2 * 32768) + end, b'list 1', b'trial 2 ' + few + end, b'trial 0 ' + few + b'0' + end, b'trial 1 ' + spoilt + end]
-    trials += [b'trial 0 ' + few + w for w in (b' 0 2049 13 5', b' 2 5 3', b' 2 5 3 4294967296')]
-    yield from among({0: [NORTH, AXES[0]], 1: [SOUTH, AXES[0]]}, frames + trials)
+    trials += [b'trial 0 ' + few + w for w in (b' 0 2049 13 5', b' 2 5 3 4294967296')]
+    most = [b'frames ' + b'0' * (LINE - regions.DIGITS - 8) + b' ' + few]      # the longest line whose file counts in part
+    yield from among({0: [NORTH, AXES[0]], 1: [SOUTH, AXES[0]]}, frames + trials + most)
 
 
 def long_lists_tried(sky):

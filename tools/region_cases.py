@@ -252,10 +252,10 @@ def long_files():
     byte at and behind the last digit that counts, and faults behind the file. A line after such a one is read from its own beginning."""
     point, few = b' 0 0 1048576', digits(DIGITS + 2)
     yield from (b'rows ' + digits(2 * 32767), b'rows -', b'holds ' + digits(2 * 32768) + point, b'name 15', b'cover ' + digits(2 * 32769), b'togrouped ' + digits(2 * 40000))
-    yield from (b'rows ' + digits(2 * 200000), b'lookup 0 0 1048576 2', b'toplain ' + few, b'line ' + digits(2 * 32767) + b' 12', b'line ' + few + b' 13')
+    yield from (b'rows ' + digits(2 * 200000), b'lookup 0 0 1048576 2', b'toplain ' + few, b'line ' + digits(2 * 32767) + b' 12')
     yield from (b'holds ' + digits(DIGITS + 1) + point, b'cover ' + few + b'0')
     yield from (b'rows ' + spoilt(DIGITS + 2, place) for place in (DIGITS, DIGITS + 1))
-    yield from (b'holds ' + spoilt(DIGITS + 3, DIGITS) + point, b'togrouped ' + spoilt(DIGITS + 2, DIGITS, DIGITS + 1))
+    yield b'holds ' + spoilt(DIGITS + 3, DIGITS - 1, DIGITS) + point
     yield b'rows ' + few + b' 0'
     yield from (b'holds ' + few + w for w in (b' 0 0', b' 0 0 2147483648', b' 0 0 0'))
 

@@ -12,9 +12,10 @@
 //                            and how many ranges its outer and its inner list have; the choice, 1 or 2, is the one whose outer list spans the smaller share
 //                            of the sky, 1 if equal. Then `|LOW HIGH` for each range of that list, identifiers at its depth. Or refused N
 //
-// The index begins empty. A line of another shape is answered `usage`. Words are parted by one blank; numbers are decimal, X Y Z with an optional minus, the
-// others without a sign, all of 32 bits. A line ends with a line feed; the last line may do without. A line of more than 65536 bytes is of another shape.
-// Where a read or a write fails, standard error says so and no line more is answered.
+// The index begins empty. A malformed line is answered `usage`. Words are parted by one blank; numbers are decimal, X Y Z with an optional minus, the
+// others without a sign, all of 32 bits. A line ends with a line feed; the last line may do without. HEX may have any length. A line has at most
+// 65536 bytes, of which HEX counts for 21018 at most; a longer one is malformed. Where a read or a write fails, standard error says so and no line more is
+// answered.
 use index::INDEX_LENGTH;
 
 fn main() {

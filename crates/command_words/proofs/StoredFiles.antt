@@ -1,16 +1,18 @@
--- What is stored of a file stands for the whole file: it is the file itself as long as that has at most FileDigits bytes, and a command reads as many bytes of it,
--- or no file, as of the whole (`read-the-same`). A file that is too long keeps at least FileDigits bytes, all digits where all of the file are, and an even number of
--- bytes was dropped. Assumes nothing.
+-- What is stored of a file stands for the whole file. It is the file itself as long as that has at most FileDigits bytes, and a command reads as
+-- many bytes of it as of the whole, or no file (`read-the-same`). Of a longer file at least FileDigits bytes are stored, all digits where all of
+-- the file are, and an even number of digits was dropped. Assumes nothing.
 use Prim.Native.Nat.{ℕ, suc, _+_, _-_, _*_, _/_, _≤_, _<_}
 use native.Mathlib.Omega.{arith}
 use mathlib.Core.Path.{_≡_, refl, sym, ap, subst, _∙_}
 use mathlib.Core.Bool.{Bool, true, false, cond, _&&_, true≢false}
 use mathlib.Core.List.{List, [], _∷_, _++_}
-use borrow.Author.Tests.{leb-true, leb-false, le-leb, eqb-true, eqb-false, eq-eqb, ne-eqb}
+use borrow.Author.Tests.{leb-true, leb-false, le-leb, lt-leb, eqb-true, eqb-false, eq-eqb, ne-eqb}
 use lib.Dec.{leb, eqb}
 use lib.ListN.{length, take, drop, set, take-append-drop, length-append, length-set, drop-of-length-le}
 use lib.Seq.{drop-set-lt, drop-at, length-take-le, append-snoc}
 use Rattle.algebra.specs.Lists.{every}
+use Rattle.answer.specs.Answer.{refused, Long}
+use Rattle.region.specs.Reader as rule
 use Rattle.command_words.specs.Numbers.{only}
 use Rattle.command_words.specs.Files.{isHex, isNoBytes, FileCapacity, upToCapacity, inPairs, bytesIn, FileDigits, grown, storedFrom, storedOf}
 use Rattle.command_words.proofs.NumberLaws.{and-false}
@@ -179,8 +181,13 @@ stored-itself w h = stands w .short h
 
 -- ---- what is read
 
+long-by : (w : List ℕ) → FileDigits ≤ length w → (t : Bool) → eqb (length w / 2 * 2) (length w) ≡ t
+    → only (t && every isHex w) (upToCapacity (length w / 2)) ≡ only (t && every isHex w) FileCapacity
+long-by w h true e = simp (sym (many (length w / 2) (omega (arith, eqb-true (length w / 2 * 2) (length w) e))))
+long-by w h false e = refl
+
 long-read : (w : List ℕ) → FileDigits ≤ length w → bytesIn w ≡ only (eqb (length w / 2 * 2) (length w) && every isHex w) FileCapacity
-long-read w h = simp (ne-eqb (length w) 1 (λ e. omega arith), le-leb 2 (length w) (omega arith), sym (many (length w / 2) (omega arith)))
+long-read w h = simp (ne-eqb (length w) 1 (λ e. omega arith), le-leb 2 (length w) (omega arith)) (long-by w h (eqb (length w / 2 * 2) (length w)) refl)
 
 even-by : (m n k : ℕ) → m ≡ n + 2 * k → (t : Bool) → eqb (n / 2 * 2) n ≡ t → t ≡ eqb (m / 2 * 2) m
 even-by m n k e true f = sym (eq-eqb (m / 2 * 2) m (omega (arith, eqb-true (n / 2 * 2) n f)))
@@ -205,3 +212,8 @@ read-the-same w = by-length (leb (length w) FileDigits) refl
     by-length : (t : Bool) → leb (length w) FileDigits ≡ t → bytesIn (storedOf w) ≡ bytesIn w
     by-length true e = ap bytesIn (stored-itself w (leb-true _ _ e))
     by-length false e = same-long w (storedOf w) (stands w) (leb-false _ _ e)
+
+-- FileCapacity bytes are too many, whatever they are
+pub too-many : (f : List ℕ) → FileCapacity ≤ length f → rule.read f ≡ refused Long
+unfolding rule.read
+too-many f h = simp (lt-leb (length f) 10508 h)

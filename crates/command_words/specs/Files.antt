@@ -4,9 +4,9 @@
 --   FileCapacity         the bytes of a file with one more than a region file may have
 --   bytesIn w            how many bytes a word writes, two digits each and none for `-`; FileCapacity where there are more
 --   lengthOf r           the same as a length; None, which no file has, for a word that writes no file
---   FileDigits           the digits of a file of FileCapacity bytes
---   grown s b            what is stored of a file when s is stored of it and b follows: every byte up to FileDigits. Then a digit stays until a second one
---                        comes and both are dropped; another byte takes the place of the first, and so there is no file
+--   FileDigits           one digit less than a file of FileCapacity bytes has
+--   grown s b            what is stored of a file when s is stored of it and b follows: FileDigits bytes as they come. Then a digit is stored
+--                        until a second one comes, and both are dropped; another byte takes the place of the first, so that there is no file
 --   storedOf w           what is stored of a whole file
 --   lineWith p s b       what is stored of a line with a file from p on when s is stored of it and b follows
 --   filePlace b p        where the file of a line begins that had one from p on when b follows: nowhere after a blank, which ends it
@@ -15,7 +15,7 @@ use Prim.Native.Nat.{ℕ, _+_, _-_, _*_, _/_, _≤_, _<_}
 use mathlib.Core.Path.{_≡_}
 use mathlib.Core.Bool.{Bool, true, false, cond, _&&_}
 use mathlib.Core.List.{List, [], _∷_, _++_}
-use lib.Dec.{leb, ltb, eqb}
+use lib.Dec.{leb, eqb}
 use lib.ListN.{length, getD, take, drop, set}
 use Rattle.algebra.specs.Lists.{every}
 use Rattle.command_words.specs.Numbers.{only}
@@ -56,7 +56,7 @@ lengthOf (NV.Is n) = n
 lengthOf NV.Not = None
 
 abbrev pub FileDigits : ℕ
-FileDigits = 21018
+FileDigits = 21017
 
 unfoldable pub past : List ℕ → ℕ → List ℕ
 past s b = cond (isHex b) (cond (leb (length s) FileDigits) (s ++ (b ∷ [])) (take FileDigits s)) (set s 0 b)

@@ -19,8 +19,8 @@ const NONE: usize = 32769;
 
 const BLANK: u8 = b' ';
 
-// The digits of a file of so many bytes.
-const FILE_DIGITS: usize = 2 * FILE_CAPACITY;
+// One digit less than a file of so many bytes has.
+const FILE_DIGITS: usize = 2 * FILE_CAPACITY - 1;
 
 // Past every place of a line.
 const NO_FILE: usize = usize::MAX;
@@ -64,8 +64,8 @@ pub fn empty_line() -> StoredLine {
     }
 }
 
-// One byte more of a line. Of a file no more digits are stored than tell that it is too long for a region file, so that a line with a file may have any length.
-// A line that is too long otherwise counts as more bytes than `line` can hold.
+// One byte more of a line. Of a file no more digits are stored than tell that it is too long for a region file, so a line with a file may have
+// any length. A line that is too long otherwise counts as more bytes than `line` can hold.
 pub fn append_byte(line: &mut [u8], stored: StoredLine, b: u8) -> StoredLine
     ensures { λ r. ⌜ Stored (filePlace b (stored .file)) (stored .bytes) b (now (line .entry)) (now (line .exit)) (r .bytes) ⌝ }
 {
@@ -91,7 +91,7 @@ fn file_after(line: &[u8], n: usize) -> usize {
     NO_FILE
 }
 
-// Whether the word after these is a file or a catalogue line in digits: after the name of the command or, for the commands of an owner, after the owner.
+// Whether the word after these is a file, or a catalogue line, in digits: after the command's name or, for some commands, after the owner.
 fn is_before_file(line: &[u8]) -> bool {
     let name = word(line, 0);
     let owner_at = after(line, 0);
@@ -130,7 +130,8 @@ fn store(line: &mut [u8], n: usize, file: usize, b: u8) -> usize
     store_past(line, n, file, b)
 }
 
-// The same where the file is too long already: of its further digits two are dropped as they come, and any other byte makes it no file.
+// The same where FILE_DIGITS of the file are stored: a digit is stored until a second one comes, and then both are dropped. Another byte takes the
+// place of the first digit, so that there is no file.
 fn store_past(line: &mut [u8], n: usize, file: usize, b: u8) -> usize
     requires { ⌜ file + FileDigits ≤ n ⌝ }
     requires { ⌜ n ≤ length (now line) ⌝ }

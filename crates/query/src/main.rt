@@ -15,10 +15,10 @@
 //   holds HEX X Y Z      whether the region of a file holds a pointing: yes or no
 //   cover HEX            the lines that program cover prints for a file, joined by `|`
 //
-// A refusal is answered `refused N`, a line of another shape `usage`. Words are parted by one blank; numbers are decimal, X Y Z with an
+// A refusal is answered `refused N`, a malformed line `usage`. Words are parted by one blank; numbers are decimal, X Y Z with an
 // optional minus. HEX is a file or a line in hexadecimal digits, or `-` for one with no bytes. The letters of hexadecimal digits are small or capital.
-// A line ends with a line feed; the last line may do without. A line of more than 65536 bytes is of another shape. Where a read or a write fails,
-// standard error says so and no line more is answered.
+// A line ends with a line feed; the last line may do without. HEX may have any length. A line has at most 65536 bytes, of which HEX counts for 21018 at most;
+// a longer one is malformed. Where a read or a write fails, standard error says so and no line more is answered.
 
 fn main() {
     let mut line = io::large_buffer();
