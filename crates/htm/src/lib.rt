@@ -1,5 +1,5 @@
-// The public face: every exported call; those for a host in C stand in from_c.rt and index_from_c.rt. Each answers by the rule that its contract
-// names, for good and bad input alike, and none has a `requires`. A refusal carries its number only (crate answer), and then every lent element keeps
+// The public face: every exported call; those for a host in C stand in from_c.rt, index_from_c.rt and trial_from_c.rt. Each answers by the rule that its
+// contract names, for good and bad input alike, and none has a `requires`. A refusal carries its number only (crate answer), and then every lent element keeps
 // its value.
 use answer::DEPTH;
 use answer::Number;
