@@ -1,7 +1,7 @@
 #!/usr/bin/env bash
 # The SQLite host's frames in PostgreSQL: on one server with a partition for each root, and spread over two more servers. The frames
 # that each delivers for some regions are compared with what the SQLite host delivers; with a wrong row they must differ. Private servers
-# on sockets in a temporary folder, which is removed at the end. `make postgres` builds the programs and runs this.
+# on sockets in a temporary folder, which is removed at the end. `make postgres` builds the programs and runs this. It ends with 3 where no server starts.
 set -euo pipefail
 export LC_ALL=C
 cd "$(dirname "$0")/../.."
@@ -41,7 +41,7 @@ one=5432 south=5433 north=5434
 start() { # NAME PORT
     (cd "$room" && server initdb -D "$room/$1" -A trust -U archive --no-sync > "$room/$1.log" &&
         server pg_ctl -s -w -D "$room/$1" -l "$room/$1/log" -o "-k $room -p $2 -c listen_addresses= -c fsync=off -c jit=off" start) ||
-        { cat "$room/$1.log" "$room/$1/log" >&2; exit 1; }
+        { cat "$room/$1.log" "$room/$1/log" >&2 || true; echo "PostgreSQL: the server does not start" >&2; exit 3; }
     PGDATABASE=postgres sql "$2" -c 'CREATE DATABASE archive'
 }
 sql() { # PORT WORDS..
