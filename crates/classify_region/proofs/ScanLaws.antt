@@ -15,7 +15,7 @@ use Rattle.mesh.specs.declared.Trixel.{Trixel}
 use Rattle.region.specs.declared.Halfspace.{Halfspace}
 use Rattle.region.specs.Regions.{Convex, Region}
 use Rattle.region.specs.Building.{total, isOffset}
-use Rattle.region.proofs.GoodRegions.{goodHalfspace, goodConvex, good}
+use Rattle.region.proofs.GoodRegions.{goodHalfspace, good}
 use Rattle.region.proofs.FilledLaws.{Filled}
 use Rattle.classify.specs.declared.Class.{Class}
 use Rattle.classify.specs.declared.Class.the-variants.{Outside, Partial, Full}

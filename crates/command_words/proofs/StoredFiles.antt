@@ -1,10 +1,10 @@
 -- What is stored of a file stands for the whole file. It is the file itself as long as that has at most FileDigits bytes, and a command reads as
 -- many bytes of it as of the whole, or no file (`read-the-same`). Of a longer file at least FileDigits bytes are stored, all digits where all of
 -- the file are, and an even number of digits was dropped. Assumes nothing.
-use Prim.Native.Nat.{ℕ, suc, _+_, _-_, _*_, _/_, _≤_, _<_}
+use Prim.Native.Nat.{ℕ, _+_, _-_, _*_, _/_, _≤_, _<_}
 use native.Mathlib.Omega.{arith}
 use mathlib.Core.Path.{_≡_, refl, sym, ap, subst, _∙_}
-use mathlib.Core.Bool.{Bool, true, false, cond, _&&_, true≢false}
+use mathlib.Core.Bool.{Bool, true, false, _&&_, true≢false}
 use mathlib.Core.List.{List, [], _∷_, _++_}
 use borrow.Author.Tests.{leb-true, leb-false, le-leb, lt-leb, eqb-true, eqb-false, eq-eqb, ne-eqb}
 use lib.Dec.{leb, eqb}
@@ -14,7 +14,7 @@ use Rattle.algebra.specs.Lists.{every}
 use Rattle.answer.specs.Answer.{refused, Long}
 use Rattle.region.specs.Reader as rule
 use Rattle.command_words.specs.Numbers.{only}
-use Rattle.command_words.specs.Files.{isHex, isNoBytes, FileCapacity, upToCapacity, inPairs, bytesIn, FileDigits, grown, storedFrom, storedOf}
+use Rattle.command_words.specs.Files.{isHex, FileCapacity, upToCapacity, bytesIn, FileDigits, grown, storedFrom, storedOf}
 use Rattle.command_words.proofs.NumberLaws.{and-false}
 use Rattle.command_words.proofs.FileLaws.{many, grown-short, grown-first, grown-second, grown-other}
 

@@ -10,7 +10,7 @@ use mathlib.Core.List.{List, [], _∷_, _++_}
 use lib.Dec.{lit<, ltb}
 use lib.IntN.{pos, natAbs}
 use borrow.Author.Tests.{ltb-true, ltb-false}
-use Rattle.algebra.proofs.Ring.{con, _:+_, _:*_}
+use Rattle.algebra.proofs.Ring.{_:+_, _:*_}
 use Rattle.algebra.proofs.Claim.{_:≡_, ring}
 use Rattle.algebra.proofs.Inequalities.{`1}
 use Rattle.algebra.proofs.Tests.{split}
@@ -32,7 +32,7 @@ use Rattle.classify.proofs.ClassLaws.{full-region, outside-region}
 use Rattle.ranges.specs.Ranges.{Range}
 use Rattle.ranges.proofs.Sound.{In, Has, SpacedBy}
 use Rattle.ranges.proofs.ListLaws.{Between, between-widen, between-append, between-spaced, has-left, has-right, has-cases, row, has-row, row-has, between-row, own, row-own}
-use Rattle.covering.specs.Cover.{Found, descendants, leftOut, takenFull, takenPartial, cutInto, four, parted, visit, visitRoot, cutting, cover, coverOf, SeenBound}
+use Rattle.covering.specs.Cover.{Found, descendants, leftOut, takenFull, takenPartial, cutInto, four, parted, visit, visitRoot, cutting, coverOf, SeenBound}
 
 pub by-class : (c : Class) {X : Type 0} → (c ≡ Outside → X) → (c ≡ Partial → X) → (c ≡ Full → X) → X
 by-class Outside f g h = f refl

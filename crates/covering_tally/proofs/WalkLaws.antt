@@ -1,6 +1,6 @@
 -- The cutting as it goes on: a range that is accepted is pushed onto the outer list, at the front of the lent list, and a full one onto the inner list
 -- behind it, and neither touches the other's part. What several trixels find one after the other is what they find together. Assumes nothing.
-use Prim.Native.Nat.{ℕ, zero, suc, _+_, _-_, _*_, _^_, _≤_}
+use Prim.Native.Nat.{ℕ, zero, suc, _+_, _-_, _*_, _≤_}
 use native.Mathlib.Omega.{arith}
 use mathlib.Core.Path.{_≡_, refl, sym, ap, subst, _∙_}
 use mathlib.Core.List.{List, [], _∷_, _++_, foldl, append-assoc, append-nil}

@@ -1,6 +1,6 @@
 -- A trixel that was stored with its first ray, and its other two rays: they are read back, and each of the first three children has a ray of the trixel as
 -- its first one, since it has two normals of the trixel as its second and third. Assumes nothing.
-use Prim.Native.Nat.{ℕ, _≤_, _<_}
+use Prim.Native.Nat.{ℕ, _≤_}
 use mathlib.Core.Path.{_≡_, refl, sym, ap, subst, _∙_}
 use mathlib.Core.List.{List}
 use lib.ListN.{length}

@@ -1,7 +1,7 @@
 -- The walk over entries in order, beside two lists that ascend: every entry gets the disposition of the ranges that its identifier is in, since what
 -- the walk has left behind has no identifier that still comes. So what is delivered and tested is known entry by entry. Assumes nothing.
 use Prim.Native.Nat.{ℕ, suc, _-_, _/_, _^_, _≤_}
-use mathlib.Core.Path.{_≡_, refl, sym, ap, _∙_}
+use mathlib.Core.Path.{_≡_, refl, ap, _∙_}
 use mathlib.Core.Bool.{Bool, true, false, cond, _&&_, false≢true}
 use mathlib.Core.List.{List, [], _∷_, map}
 use native.Mathlib.Omega.{arith}
@@ -23,7 +23,7 @@ use Rattle.index.proofs.OrderLaws.{eqZ-eq}
 use Rattle.vector.specs.Numbers.{eqZ}
 use Rattle.index.specs.HistoryCorrect as index
 use Rattle.frames.specs.declared.Disposition.{Disposition}
-use Rattle.frames.specs.Walk.{whole, shortened, numberOf, ahead, begins, dispositionOf, Met, met, walk, isDelivered, isTested, deliveredBy, testsOf}
+use Rattle.frames.specs.Walk.{whole, shortened, numberOf, ahead, begins, dispositionOf, Met, met, walk, isDelivered, deliveredBy}
 use Rattle.frames.proofs.AheadLaws.{ahead-ascends, ahead-same, ahead-begins}
 
 -- ---- identifiers that do not fall

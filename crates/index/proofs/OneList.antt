@@ -2,7 +2,7 @@
 -- Assumes nothing.
 use Prim.Native.Nat.{ℕ, suc}
 use mathlib.Core.Path.{_≡_, sym, ap, subst, _∙_, refl}
-use mathlib.Core.Bool.{Bool, true, false, cond, _&&_, _||_, true≢false, false≢true, and-false}
+use mathlib.Core.Bool.{Bool, true, false, cond, _&&_, true≢false, false≢true}
 use mathlib.Core.List.{List, [], _∷_}
 use native.Mathlib.Omega.{arith}
 use borrow.Author.Tests.{lt-ltb, ltb-true}
@@ -14,7 +14,7 @@ use Rattle.algebra.proofs.Tests.{and-left, and-right, and-both, or-cases, or-ne
 use Rattle.vector.specs.declared.Vec3.{Vec3}
 use Rattle.vector.specs.Numbers.{eqZ}
 use Rattle.index.specs.declared.Entry.{Entry}
-use Rattle.index.specs.Entries.{byNumber, precedes}
+use Rattle.index.specs.Entries.{precedes}
 use Rattle.index.specs.HistoryCorrect.{Ascends}
 use Rattle.index.proofs.TallyLaws.{some-tally}
 use Rattle.index.proofs.OrderLaws.{eqZ-eq, eqZ-refl, goes-on, precedes-all, tail-ascends}

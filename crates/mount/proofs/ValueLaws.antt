@@ -16,7 +16,7 @@ use lib.Ieee.Fits.{down-pos}
 use lib.Ieee.Nearest.{div-same}
 use borrow.Author.Tests.{le-leb, lt-leb, leb-true, leb-false}
 use Rattle.answer.specs.Answer as answer
-use Rattle.answer.specs.Answer.{Answer, refused, gives, check}
+use Rattle.answer.specs.Answer.{Answer, gives, check}
 use Rattle.vector.specs.Numbers.{signed}
 use Rattle.mount.specs.Floats.{widthOf, negative, field, fraction, denominator, usable, component, componentOf}
 use Rattle.mount.specs.Values as values

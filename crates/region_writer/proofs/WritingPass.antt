@@ -21,7 +21,7 @@ use Rattle.vector.proofs.VectorLaws.{vector-small}
 use Rattle.region.specs.declared.Halfspace.{Halfspace}
 use Rattle.region.specs.declared.Style.{Style}
 use Rattle.region.specs.Regions.{Region}
-use Rattle.region.specs.Building.{lastConvex, total, withConvex, withHalfspace}
+use Rattle.region.specs.Building.{lastConvex, withConvex}
 use Rattle.region.specs.Rows.{begins, opened, rowIn, halfspaceAt, rowsIn, regionOf}
 use Rattle.region.specs.Writer.{begin, convexesBytes, groupsBytes, regionBytes}
 use Rattle.region.proofs.AddLaws.{Added}

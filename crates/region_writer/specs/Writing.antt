@@ -18,7 +18,7 @@ use Rattle.region.specs.declared.Halfspace.{Halfspace}
 use Rattle.region.specs.declared.Record.{Record}
 use Rattle.region.specs.declared.Style.{Style}
 use Rattle.region.specs.Regions.{Region}
-use Rattle.region.specs.Building.{lastConvex, total}
+use Rattle.region.specs.Building.{lastConvex}
 use Rattle.region.specs.Rows.{rowIn, regionOf}
 use Rattle.region.specs.Writer.{begin, numbersBytes, halfspaceBytes, regionBytes}
 use Rattle.region_writer.specs.declared.WriteCursor.{WriteCursor}

@@ -3,7 +3,6 @@ use lib.Dec.{lit≤}
 use lib.IntN.{pos}
 use borrow.Author.Needs.{needs}
 use Rattle.vector.specs.Vectors.{vec}
-use Rattle.classify_active.specs.declared.anchor.Anchor.{Anchor}
 use Rattle.classify_active.specs.Anchor.{IsAnchor}
 use Rattle.classify_active.proofs.ActiveRegionLaws.{active-lists-none}
 use Rattle.covering_calls.proofs.visit_roots.Statement.{statement}

@@ -1,13 +1,12 @@
 -- `frames_calls::frames_in` checks the lengths of the lists, and searches. Assumes nothing.
 use Prim.Native.Nat.{ℕ, _*_, _≤_, _<_}
 use native.Mathlib.Omega.{arith}
-use mathlib.Core.Path.{_≡_, sym, ap, subst, _∙_}
+use mathlib.Core.Path.{_≡_, sym, subst}
 use lib.ListN.{length}
 use borrow.Author.Needs.{needs}
 use denote.Ref.{now}
 use Rattle.region.specs.Budgets.{budgetOf}
 use Rattle.region.proofs.BudgetLaws.{budget-one}
-use Rattle.covering_calls.specs.Decoded.{Decoded}
 use Rattle.covering_calls.proofs.DecodedLaws.{some-rows, depth-fits}
 use Rattle.frames.specs.declared.FramesOf.{FramesOf}
 use Rattle.frames.specs.Answers.{FramesCall}

@@ -4,9 +4,7 @@ use native.Mathlib.Omega.{arith}
 use mathlib.Core.Path.{_≡_, sym, ap, subst, _∙_}
 use borrow.Author.Needs.{needs}
 use denote.Ref.{now}
-use Rattle.answer.specs.Answer.{gives, with-value}
-use Rattle.region.specs.Reader as reader
-use Rattle.region.specs.Answers.{headerOf, headerGiven}
+use Rattle.region.specs.Answers.{headerGiven}
 use Rattle.region.proofs.BudgetLaws.{budget-one}
 use Rattle.covering_walk.specs.Walk.{CoversRows}
 use Rattle.covering_calls.specs.Decoded.{Decoded}

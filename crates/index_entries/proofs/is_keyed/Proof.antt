@@ -4,8 +4,6 @@ use mathlib.Core.Path.{_≡_, sym, _∙_}
 use mathlib.Core.Bool.{true, false}
 use borrow.Author.Tests.{eq-eqb, ne-eqb}
 use lib.IntN.{pos}
-use mir.Syntax.{w64}
-use mir.Val.{ofZ}
 use Rattle.algebra.proofs.Tests.{and-then, and-else}
 use Rattle.vector.specs.Numbers.{eqZ}
 use Rattle.index.specs.Entries.{isOwned}

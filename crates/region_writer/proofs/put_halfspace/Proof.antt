@@ -2,7 +2,7 @@
 -- the numbers. Assumes nothing.
 use Prim.Native.Nat.{_+_}
 use native.Mathlib.Omega.{arith}
-use mathlib.Core.Path.{_≡_, refl, sym, ap, _∙_}
+use mathlib.Core.Path.{refl, sym, ap, _∙_}
 use Rattle.region.specs.declared.Record.{Record}
 use Rattle.region.specs.Writer.{begin, numbersBytes}
 use Rattle.answer.specs.Lent.{put}

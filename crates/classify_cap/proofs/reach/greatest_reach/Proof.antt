@@ -3,7 +3,6 @@
 use mathlib.Core.Path.{_≡_, sym, subst, _∙_}
 use Prim.Native.Nat.{ℕ, min, _/_, _^_, _≤_}
 use native.Mathlib.Omega.{arith}
-use borrow.Author.Needs.{needs}
 use Rattle.vector.specs.Numbers.{Kℕ}
 use Rattle.vector.proofs.GreatestLaws.{greatest-most}
 use Rattle.classify_prepared.specs.declared.TrixelRays.{TrixelRays}

@@ -1,12 +1,10 @@
 -- `htm::index_from_c::htm_frames` checks that the counts have room, and delivers. Assumes nothing.
 use native.Mathlib.Omega.{arith}
-use mathlib.Core.Path.{_≡_, sym, ap, _∙_}
+use mathlib.Core.Path.{sym, ap, _∙_}
 use borrow.Author.Needs.{needs}
 use denote.Ref.{now}
 use Rattle.algebra.proofs.Sized.{held}
-use Rattle.answer.specs.Answer.{Answer}
-use Rattle.frames.specs.declared.Frames as declared
-use Rattle.frames.specs.Answers.{framesGiven, framesAnswer}
+use Rattle.frames.specs.Answers.{framesGiven}
 use Rattle.htm.proofs.FramesCLaws.{short-frames, long-frames}
 use Rattle.htm.proofs.index_from_c.htm_frames.Statement.{statement}
 use Rattle.htm.proofs.index_from_c.htm_frames.Tie as tie

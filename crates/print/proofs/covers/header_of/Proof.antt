@@ -1,6 +1,5 @@
 -- `print::covers::header_of` meets its contract. Assumes nothing.
 use mathlib.Core.Path.{_∙_}
-use denote.Ref.{now}
 use Rattle.print.proofs.HeaderLaws.{header-accepted}
 use Rattle.print.proofs.covers.header_of.Statement.{statement}
 use Rattle.print.proofs.covers.header_of.Tie as tie
