@@ -8,6 +8,7 @@ pub mod Counting
 pub mod Filters
 pub mod Inequalities
 pub mod Moved
+pub mod Moves
 pub mod Order
 pub mod Plane
 pub mod Ring

@@ -158,6 +158,13 @@ fits-wider h = subst (SFits w64) (sym (toZ-ofZ h)) (record { sfits = lt-trans (h
 pub same-wider : {z : ℤ} → SFits w32 z → toZ w64 (ofZ w64 (toZ w32 (ofZ w32 z))) ≡ z
 same-wider h = toZ-ofZ (fits-wider h) ∙ toZ-ofZ h
 
+-- a signed number of 64 bits that fits 32 and is cast to them, alike
+pub fits-narrower : {n : ℕ} {z : ℤ} → Upto n z → T (ltb n (2 ^ 31)) → SFits w32 (toZ w64 (ofZ w64 z))
+fits-narrower {z = z} h t = let f = sfits w32 h t in subst (SFits w32) (sym (stored-same z (lt-trans (f .sfits) (lit< tt)))) f
+
+pub same-narrower : {n : ℕ} {z : ℤ} → Upto n z → T (ltb n (2 ^ 31)) → toZ w32 (ofZ w32 (toZ w64 (ofZ w64 z))) ≡ z
+same-narrower {z = z} h t = toZ-ofZ (fits-narrower h t) ∙ stored-same z (lt-trans (sfits w32 h t .sfits) (lit< tt))
+
 -- an operation whose result on the bits is y, and on the numbers is z
 kept : {y z : ℤ} {n : ℕ} → y ≡ z → Upto n z → T (ltb n (2 ^ 63)) → Is (ofZ w64 y) z n
 kept {z} {n} e h t = subst (λ v. Is (ofZ w64 v) z n) (sym e) (held h t)

@@ -1,10 +1,10 @@
 -- Lists that are put into a lent list one after the other stand there as one list, since what follows them is still as it was; so does a list that is
 -- copied element by element. Assumes nothing.
-use Prim.Native.Nat.{ℕ, _+_, _≤_, _<_}
+use Prim.Native.Nat.{ℕ, suc, _+_, _≤_, _<_}
 use native.Mathlib.Omega.{arith}
 use native.Mathlib.Numerals.{add-one}
-use mathlib.Core.Path.{_≡_, sym, ap, ap₂, _∙_}
-use mathlib.Core.List.{List, [], _∷_, _++_, append-assoc}
+use mathlib.Core.Path.{_≡_, refl, sym, ap, ap₂, _∙_}
+use mathlib.Core.List.{List, [], _∷_, _++_, append-assoc, append-nil}
 use lib.ListN.{length, take, drop, set, getD, length-append, length-drop, take-append-drop}
 use lib.Seq.{length-take-le, take-at, drop-at, drop-drop, sets-eq, paste, paste-zero, paste-suc}
 use Rattle.answer.specs.Lent.{put}
@@ -65,12 +65,33 @@ module _ {X : Type 0} where
   pub put-next : (k : ℕ) (a b before : List X) {xs ys : List X} {m : ℕ} → xs ≡ put k a before → ys ≡ put m b xs → m ≡ k + length a → k ≤ length before → ys ≡ put k (a ++ b) before
   put-next k a b before {m = m} e f p h = f ∙ ap (put m b) e ∙ put-put k m a b before p h
 
-  -- an element that is stored; two, one after the other
+  -- an element that is stored
   pub set-put : (k : ℕ) (a : X) (before : List X) → k < length before → set before k a ≡ put k (a ∷ []) before
   set-put k a before h = sets-eq (a ∷ []) before k (omega arith) ∙ append-assoc (take k before) (a ∷ []) (drop (k + 1) before)
 
-  pub set-set-put : (k : ℕ) (a b : X) (before : List X) → k + 2 ≤ length before → set (set before k a) (k + 1) b ≡ put k (a ∷ b ∷ []) before
-  set-set-put k a b before h = ap (λ j. set (set before k a) j b) (add-one k) ∙ sets-eq (a ∷ b ∷ []) before k h ∙ append-assoc (take k before) (a ∷ b ∷ []) (drop (k + 2) before)
+  -- elements that are stored one after the other: the first at place k, the next at k + 1, k + 2 and so on
+  abbrev storedFrom : ℕ → ℕ → List X → List X → List X
+  storedFrom k j [] l = l
+  storedFrom k j (x ∷ xs) l = storedFrom k (suc j) xs (set l (k + j) x)
+
+  abbrev pub storedAt : ℕ → List X → List X → List X
+  storedAt k [] l = l
+  storedAt k (x ∷ xs) l = storedFrom k 1 xs (set l k x)
+
+  stored-from : (k : ℕ) (xs a before l : List X) → l ≡ put k a before → k + (length a + length xs) ≤ length before → storedFrom k (length a) xs l ≡ put k (a ++ xs) before
+  stored-from k [] a before l e h = e ∙ ap (λ b. put k b before) (sym (append-nil a))
+  stored-from k (x ∷ xs) a before l e h =
+      let m = put-length k a before (omega arith) in
+      let n : length (a ++ (x ∷ [])) ≡ suc (length a) = omega (arith, length-append a (x ∷ [])) in
+      let g : set l (k + length a) x ≡ put k (a ++ (x ∷ [])) before =
+      ap (λ b. set b (k + length a) x) e ∙ set-put (k + length a) x (put k a before) (omega (arith, m)) ∙ put-put k (k + length a) a (x ∷ []) before refl (omega arith) in
+      ap (λ j. storedFrom k j xs (set l (k + length a) x)) (sym n)
+      ∙ stored-from k xs (a ++ (x ∷ [])) before (set l (k + length a) x) g (omega (arith, n))
+      ∙ ap (λ b. put k b before) (append-assoc a (x ∷ []) xs)
+
+  pub stored-put : (k : ℕ) (xs before : List X) → k + length xs ≤ length before → storedAt k xs before ≡ put k xs before
+  stored-put k [] before h = sym (put-none k before)
+  stored-put k (x ∷ xs) before h = stored-from k xs (x ∷ []) before (set before k x) (set-put k x before (omega arith)) (omega arith)
 
   -- ---- a copy, element by element: the first elements of `from` at the beginning of `before`
 

@@ -19,6 +19,9 @@ ghost use Rattle.classify_cap.specs.Middle.{IsBoundingCap};
 // No halfspace is beyond it.
 const NEVER: i64 = 17592186044416;
 
+// Half of it: a clearance up to here leaves room for the margin.
+const WIDEST_CLEARANCE: i64 = NEVER / 2;
+
 // An anchor beside which halfspaces are settled: a middle b, E there as `reach`, and how far beyond it a halfspace must be.
 pub struct Anchor {
     pub b: Vec3,
@@ -39,7 +42,7 @@ pub fn anchor_of(t: Trixel, m: BoundingCap) -> Anchor
             margin: NEVER,
         };
     }
-    if m.clearance <= 8796093022208 {
+    if m.clearance <= WIDEST_CLEARANCE {
         return Anchor {
             b: b,
             reach: m.reach,

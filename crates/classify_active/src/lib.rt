@@ -48,7 +48,7 @@ pub struct ActiveCounts {
 }
 
 // A halfspace of class c is stored as number w where it is active, that is partial.
-pub fn store_active(active: &mut [i64], w: usize, q: PreparedHalfspace, c: Class) -> usize
+fn store_active(active: &mut [i64], w: usize, q: PreparedHalfspace, c: Class) -> usize
     requires { ⌜ 7 * w + 7 ≤ length (now active) ⌝ }
     ensures { λ r. ⌜ r ≡ activeStoredCount c w ⌝ }
     ensures { λ _. ⌜ now (active .exit) ≡ activeStoredList c w q (now (active .entry)) ⌝ }
@@ -243,7 +243,7 @@ pub fn find_active(
 }
 
 // How many halfspaces are known to be active.
-pub fn active_count(stops: &ActiveEnds) -> usize
+fn active_count(stops: &ActiveEnds) -> usize
     ensures { λ w. ⌜ w ≡ activeCount (now (stops .entry)) ⌝ }
 {
     stops[32] as usize

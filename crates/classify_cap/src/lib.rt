@@ -19,6 +19,9 @@ pub mod reach;
 
 const NEVER: i64 = 4611686018427387904;
 
+// Twice K: a clearance is so many times a number that is above the root of the rest.
+const TWO_K: u64 = 2 * limits::UNSIGNED_K;
+
 // The middle b of a trixel: whether it is ahead of the rays, and then E as `reach`, b·b − E² as `rest`, and the bound beyond which a halfspace is settled
 // as `clearance`.
 pub struct BoundingCap {
@@ -57,7 +60,7 @@ fn root_above(s: u64) -> u64
     ensures { λ r. ⌜ r ≡ rootAbove s ⌝ }
 {
     let mut r: u64 = 256;
-    while r < 2097152 {
+    while r < TWO_K {
         if s < r * r {
             return r;
         }
@@ -79,7 +82,7 @@ fn clearance_of(rest: i64, reach: u64) -> i64
     if reach < r {
         return NEVER;
     }
-    (2097152 * r) as i64
+    (TWO_K * r) as i64
 }
 
 // The cap where b is not ahead of every ray: E is not needed.

@@ -14,6 +14,21 @@ ghost use Rattle.vector.proofs.Sizes.{AtMost};
 ghost use Rattle.classify_prepared.specs.Measures.{IsRay, OwnRays};
 ghost use Rattle.classify_cap.specs.Reach.{reachAll, greatestReach, Bounded, OnAxes, Spanned};
 
+// The square of K: how long a ray of a root is.
+const K_SQUARE: u64 = K * K;
+
+// The square of K over 2^10, in which near_root counts, and how much of it may be lacking where one step is enough.
+const UPPER_K_SQUARE: u64 = K_SQUARE / 1024;
+
+const NEAR: u64 = 16 * K;
+
+const TWO_K: u64 = 2 * K;
+
+const UP_TO_TWO_K: u64 = TWO_K - 1;
+
+// What a product with a ray is divided by before it is squared.
+const UPPER: u64 = 2147483648;
+
 // Where E lies: `low` is reached, and no number from `high` up to K is.
 pub struct Span {
     pub low: u64,
@@ -106,10 +121,10 @@ fn on_axis(r: Vec3) -> bool
     requires { ⌜ AtMost (2 ^ 41) r ⌝ }
     ensures { λ t. ⌜ (t ≡ true → natAbs (vectors.dot r r) ≡ 2 ^ 80) ⌝ }
 {
-    if vector_units::largest(r) != 1099511627776 {
+    if vector_units::largest(r) != K_SQUARE {
         return false;
     }
-    vector_units::size(r.x) + vector_units::size(r.y) + vector_units::size(r.z) == 1099511627776
+    vector_units::size(r.x) + vector_units::size(r.y) + vector_units::size(r.z) == K_SQUARE
 }
 
 // Whether all three rays do.
@@ -134,7 +149,7 @@ fn square_by(x: u64, y: Ray) -> u64
     requires { ⌜ x ≤ 3 * 2 ^ 61 ⌝ }
     requires { ⌜ IsRay (y .r) y ⌝ }
 {
-    let u = x / 2147483648;
+    let u = x / UPPER;
     u * u / (y.height + 5)
 }
 
@@ -144,10 +159,10 @@ fn near_root(q: u64) -> u64
     requires { ⌜ q ≤ 2 ^ 30 ⌝ }
     ensures { λ r. ⌜ r < 2 ^ 46 ⌝ }
 {
-    let e = 1073741824 - q;
+    let e = UPPER_K_SQUARE - q;
     let f = e / 2048;
-    let n = K - (1024 * e + f * f + 2097151) / 2097152;
-    if e < 16777216 {
+    let n = K - (1024 * e + f * f + UP_TO_TWO_K) / TWO_K;
+    if e < NEAR {
         return n;
     }
     vector_roots::newton(1024 * q, vector_roots::newton(1024 * q, n))
@@ -165,7 +180,7 @@ fn near_reach(x0: u64, x1: u64, x2: u64, s: TrixelRays) -> u64
         lesser(square_by(x0, r0), square_by(x1, r1)),
         square_by(x2, r2),
     );
-    near_root(lesser(1073741824, q))
+    near_root(lesser(UPPER_K_SQUARE, q))
 }
 
 // E, where each x is b·r for its ray r, and positive. Where a ray is 2^40 long x² ≥ E² (r·r) is x ≥ 2^40 E.
@@ -179,7 +194,7 @@ pub fn greatest_reach(x0: u64, x1: u64, x2: u64, s: TrixelRays) -> u64
         return bisected(x0, x1, x2, s, p);
     }
     if on_axes(s) {
-        return lesser(K, lesser(lesser(x0, x1), x2) / 1099511627776);
+        return lesser(K, lesser(lesser(x0, x1), x2) / K_SQUARE);
     }
     let n = near_reach(x0, x1, x2, s);
     let above = tested(x0, x1, x2, s, p, n + 1);

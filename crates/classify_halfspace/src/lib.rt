@@ -21,6 +21,9 @@ ghost use Rattle.classify_halfspace.specs.Halfspaces.{enclosed, prepared
 ghost use Rattle.classify_prepared.specs.Measures.{SoundHalfspace, Rest, RaysOf};
 ghost use Rattle.classify_cap.specs.Middle.{IsBoundingCap};
 
+// From here on m² is above every product of two rests: 2^42 less what the upper bits of m may lack.
+const LARGE: u64 = 4398046510080;
+
 // Whether m² > p q, in two words.
 fn square_passes_exactly(m: u64, p: u64, q: u64) -> bool
     ensures { λ t. ⌜ t ≡ ltb (p * q) (m * m) ⌝ }
@@ -34,7 +37,7 @@ fn square_passes(m: u64, p: u64, q: u64) -> bool
     requires { ⌜ (p ≤ 3 * 2 ^ 40) × (q ≤ 3 * 2 ^ 40) ⌝ }
     ensures { λ t. ⌜ t ≡ ltb (p * q) (m * m) ⌝ }
 {
-    if m >= 4398046510080 {
+    if m >= LARGE {
         return true;
     }
     let a = m / 1024;
@@ -62,7 +65,7 @@ fn square_exceeds(x: i64, p: i64, q: i64) -> bool
 }
 
 // Whether b is ahead of the rays, D·E − c > 0 and (D·E − c)² > (f·f − D²)(b·b − E²), with c = f·b.
-pub fn far(q: PreparedHalfspace, t: Trixel, m: BoundingCap) -> bool
+fn far(q: PreparedHalfspace, t: Trixel, m: BoundingCap) -> bool
     requires { ⌜ SoundHalfspace q ⌝ }
     requires { ⌜ IsBoundingCap t m ⌝ }
     ensures { λ r. ⌜ r ≡ ahead (bOf t) t && rule.far (q .f) (q .low) (bOf t) (EOf t) ⌝ }
@@ -81,7 +84,7 @@ pub fn far(q: PreparedHalfspace, t: Trixel, m: BoundingCap) -> bool
 
 // Whether b is ahead of the rays and its cap by E lies in that of f and G, by a test that is enough: with M = f·b − G·E and S = b·b − E² it asks that
 // both are positive, S·G ≤ M·E and (f·f − D²) S < M².
-pub fn encloses(q: PreparedHalfspace, t: Trixel, m: BoundingCap) -> bool
+fn encloses(q: PreparedHalfspace, t: Trixel, m: BoundingCap) -> bool
     requires { ⌜ SoundHalfspace q ⌝ }
     requires { ⌜ IsBoundingCap t m ⌝ }
     ensures { λ r. ⌜ r ≡ ahead (bOf t) t && enclosed (q .f) (q .low) (q .high) (bOf t) (EOf t) ⌝ }

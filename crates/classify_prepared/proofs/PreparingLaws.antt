@@ -5,8 +5,8 @@ use native.Mathlib.Omega.{arith}
 use mathlib.Core.Path.{_≡_, refl, sym, ap, subst, subst₂, _∙_}
 use mathlib.Core.Bool.{true}
 use mathlib.Core.List.{List, [], _∷_, _++_, append-assoc}
-use lib.ListN.{length, getD, take, drop, set, length-set}
-use lib.Seq.{drop-drop, sets-eq}
+use lib.ListN.{length, getD, drop, set, length-set}
+use lib.Seq.{drop-drop}
 use lib.IntN.{ℤ, pos, natAbs}
 use Rattle.algebra.proofs.Tests.{and-left, and-right}
 use Rattle.answer.specs.Lent.{put}
@@ -36,21 +36,6 @@ region-good c cs e = (and-left (goodConvex c) (every goodConvex cs) e, and-right
 pub convex-good : (h : Halfspace) (hs : Convex) → goodConvex (h ∷ hs) ≡ true → (goodHalfspace h ≡ true) × (goodConvex hs ≡ true)
 unfolding goodConvex every
 convex-good h hs e = (and-left (goodHalfspace h) (every goodHalfspace hs) e, and-right (goodHalfspace h) (every goodHalfspace hs) e)
-
--- ---- seven stores
-
-pub seven-stored : (xs : List ℤ) (at : ℕ) (a b c d e f g : ℤ) → at + 7 ≤ length xs
-    → set (set (set (set (set (set (set xs at a) (at + 1) b) (at + 2) c) (at + 3) d) (at + 4) e) (at + 5) f) (at + 6) g ≡ put at (a ∷ b ∷ c ∷ d ∷ e ∷ f ∷ g ∷ []) xs
-seven-stored xs at a b c d e f g h =
-    let e1 : at + 1 ≡ suc at = omega arith in
-    let e2 : at + 2 ≡ suc (suc at) = omega arith in
-    let e3 : at + 3 ≡ suc (suc (suc at)) = omega arith in
-    let e4 : at + 4 ≡ suc (suc (suc (suc at))) = omega arith in
-    let e5 : at + 5 ≡ suc (suc (suc (suc (suc at)))) = omega arith in
-    let e6 : at + 6 ≡ suc (suc (suc (suc (suc (suc at))))) = omega arith in
-    (λ i. set (set (set (set (set (set (set xs at a) (e1 i) b) (e2 i) c) (e3 i) d) (e4 i) e) (e5 i) f) (e6 i) g)
-    ∙ sets-eq (a ∷ b ∷ c ∷ d ∷ e ∷ f ∷ g ∷ []) xs at h
-    ∙ append-assoc (take at xs) (a ∷ b ∷ c ∷ d ∷ e ∷ f ∷ g ∷ []) (drop (at + 7) xs)
 
 -- ---- row by row
 

@@ -97,16 +97,19 @@ fn upper_square(a: i64) -> u64
     n * n
 }
 
+// What the squares of a ray are divided by to be its height.
+const HEIGHT: u64 = 4294967296;
+
 // The height of r: its three upper squares, divided by 2^32.
 fn height(r: Vec3) -> u64
     requires { ⌜ AtMost (2 ^ 41) r ⌝ }
     ensures { λ h. ⌜ h ≡ heightOf r ⌝ }
 {
-    (upper_square(r.x) + upper_square(r.y) + upper_square(r.z)) / 4294967296
+    (upper_square(r.x) + upper_square(r.y) + upper_square(r.z)) / HEIGHT
 }
 
 // The ray r, with its height.
-pub fn ray_of(r: Vec3) -> Ray
+fn ray_of(r: Vec3) -> Ray
     requires { ⌜ AtMost (2 ^ 41) r ⌝ }
     ensures { λ y. ⌜ IsRay r y ⌝ }
 {

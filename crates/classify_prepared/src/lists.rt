@@ -2,7 +2,6 @@
 use crate::PreparedHalfspace;
 use limits::CONVEXES;
 use limits::HALFSPACES;
-use vector::Vec3;
 ghost use mathlib.Core.Path.{_≡_};
 ghost use Prim.Native.Nat.{_+_, _*_, _≤_, _<_};
 ghost use lib.ListN.{length, getD, drop, set};
@@ -44,16 +43,11 @@ pub fn store(prepared: &mut [i64], k: usize, q: PreparedHalfspace)
     ensures { λ _. ⌜ now (prepared .exit) ≡ put k (seven q) (now (prepared .entry)) ⌝ }
 {
     let f = q.f;
-    let x = f.x;
-    let y = f.y;
-    let z = f.z;
     let d = q.d;
     let low = q.low;
     let high = q.high;
     let rest = q.rest;
-    prepared[k] = x;
-    prepared[k + 1] = y;
-    prepared[k + 2] = z;
+    vector_products::store(prepared, k, f);
     prepared[k + 3] = d;
     prepared[k + 4] = low;
     prepared[k + 5] = high;
@@ -104,11 +98,7 @@ pub fn prepared_at(prepared: &[i64], k: usize) -> PreparedHalfspace
     ensures { λ r. ⌜ r ≡ preparedIn (now (prepared .entry)) k ⌝ }
 {
     PreparedHalfspace {
-        f: Vec3 {
-            x: prepared[k],
-            y: prepared[k + 1],
-            z: prepared[k + 2],
-        },
+        f: vector_products::vec_in(prepared, k),
         d: prepared[k + 3],
         low: prepared[k + 4],
         high: prepared[k + 5],

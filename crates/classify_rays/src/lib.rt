@@ -74,6 +74,9 @@ fn reaches_exactly(x: u64, r: Vec3, g: u64) -> bool
     !wide::less(given, wanted)
 }
 
+// What a product with a ray is divided by in the filter.
+const UPPER: u64 = 2147483648;
+
 // Whether x² ≥ g² (r·r) for the ray r of height h, by a filter. With p = g² / 2^10 and q = x / 2^31 it is sure where (p + 1)(h + 5) ≤ q², and sure not
 // to be where (q + 1)² ≤ p h.
 fn filtered(x: u64, h: u64, g: u64) -> FilterResult
@@ -81,7 +84,7 @@ fn filtered(x: u64, h: u64, g: u64) -> FilterResult
     ensures { λ r. ⌜ r ≡ filterReach x h g ⌝ }
 {
     let p = g * g / 1024;
-    let q = x / 2147483648;
+    let q = x / UPPER;
     if product_within(p + 1, h + 5, q) {
         return FilterResult::Yes;
     }
@@ -107,7 +110,7 @@ pub fn reaches(x: u64, y: Ray, g: u64) -> bool
 
 // Whether f·r > 0 and (f·r)² ≥ g² (r·r) for the ray r. The same two tests as in `reaches`, so that the filter stands in the scan itself and the test in
 // two words does not.
-pub fn passes(f: Vec3, g: i64, y: Ray) -> bool
+fn passes(f: Vec3, g: i64, y: Ray) -> bool
     requires { ⌜ Small f ⌝ }
     requires { ⌜ Upto (2 ^ 21) g ⌝ }
     requires { ⌜ IsRay (y .r) y ⌝ }

@@ -5,7 +5,7 @@ ghost use mathlib.Core.Path.{_≡_};
 ghost use mathlib.Core.List.{[], _∷_};
 ghost use Rattle.command_words.specs.Numbers.{UpTo, naturalFrom, naturalIn, wholeIn, plain, negated};
 ghost use Rattle.command_words.specs.Files.{FileDigits, hexValue, letterValue, bytesIn, lengthOf, filePlace, Pushed, Stored};
-ghost use Prim.Native.Nat.{_+_, _≤_};
+ghost use Prim.Native.Nat.{_+_, _-_, _^_, _≤_};
 ghost use lib.ListN.{length};
 
 // The bytes of a file that are read: one more than a region file may have.
@@ -18,6 +18,13 @@ pub const WORD_CAPACITY: usize = 32768;
 const NONE: usize = 32769;
 
 const BLANK: u8 = b' ';
+
+// The largest numbers of 32 bits: without a sign, with one, and after a minus.
+const LARGEST_NATURAL: u64 = u32::MAX as u64;
+
+const LARGEST: u64 = i32::MAX as u64;
+
+const LARGEST_NEGATIVE: u64 = LARGEST + 1;
 
 // One digit less than a file of so many bytes has.
 const FILE_DIGITS: usize = 2 * FILE_CAPACITY - 1;
@@ -195,7 +202,7 @@ fn end(line: &[u8], at: usize) -> usize
 }
 
 // A number up to `most`.
-pub fn natural_of(word: &[u8], most: u64) -> Natural
+fn natural_of(word: &[u8], most: u64) -> Natural
     ensures { λ r. ⌜ r ≡ naturalIn most (now (word .entry)) ⌝ }
     ensures { λ r. ⌜ UpTo most r ⌝ }
 {
@@ -213,16 +220,16 @@ pub fn natural_of(word: &[u8], most: u64) -> Natural
 }
 
 // A number of 32 bits, with a minus or with no sign.
-pub fn whole_of(word: &[u8]) -> Whole
+fn whole_of(word: &[u8]) -> Whole
     ensures { λ r. ⌜ r ≡ wholeIn (now (word .entry)) ⌝ }
 {
     if word.len() == 0 {
         return Whole::Not;
     }
     if word[0] == b'-' {
-        return negative(natural_of(&word[1..], 2147483648));
+        return negative(natural_of(&word[1..], LARGEST_NEGATIVE));
     }
-    positive(natural_of(word, 2147483647))
+    positive(natural_of(word, LARGEST))
 }
 
 // One digit more at the end of n.
@@ -246,7 +253,7 @@ fn with_digit(n: u64, byte: u8, most: u64) -> Natural
 }
 
 fn positive(n: Natural) -> Whole
-    requires { ⌜ UpTo 2147483647 n ⌝ }
+    requires { ⌜ UpTo (2 ^ 31 - 1) n ⌝ }
     ensures { λ r. ⌜ r ≡ plain n ⌝ }
 {
     match n {
@@ -256,7 +263,7 @@ fn positive(n: Natural) -> Whole
 }
 
 fn negative(n: Natural) -> Whole
-    requires { ⌜ UpTo 2147483648 n ⌝ }
+    requires { ⌜ UpTo (2 ^ 31) n ⌝ }
     ensures { λ r. ⌜ r ≡ negated n ⌝ }
 {
     match n {
@@ -267,14 +274,14 @@ fn negative(n: Natural) -> Whole
 
 // A number of 32 bits with no sign.
 pub fn natural_at(line: &[u8], at: usize) -> NaturalAt {
-    let Natural::Is(n) = natural_of(word(line, at), 4294967295) else {
+    let Natural::Is(n) = natural_of(word(line, at), LARGEST_NATURAL) else {
         return NaturalAt::Not;
     };
     NaturalAt::Is(n as u32, after(line, at))
 }
 
 // A number of 32 bits with a minus or with no sign.
-pub fn whole_at(line: &[u8], at: usize) -> WholeAt {
+fn whole_at(line: &[u8], at: usize) -> WholeAt {
     let Whole::Is(n) = whole_of(word(line, at)) else {
         return WholeAt::Not;
     };
@@ -346,7 +353,7 @@ pub fn bits_of(word: &[u8], digits: usize) -> Natural {
 }
 
 // The value of a digit; 256 for another byte, so that two bytes give at most 255 only if both are digits.
-pub fn digit(byte: u8) -> u32
+fn digit(byte: u8) -> u32
     ensures { λ r. ⌜ r ≡ hexValue byte ⌝ }
     ensures { λ r. ⌜ r ≤ 256 ⌝ }
 {

@@ -2,9 +2,9 @@
 -- covering_tally/specs/Tally.
 --   foundIn l t        what is found in the trixel t of the level l; foundBelow l t: in its four children; firstFound k l t: in the first k of them
 --   Gives ..           what the cutting of k trixels gives, each `left` levels above the depth: after whatever was found before there is `found`, for
---                      every region that was prepared to xs and es
+--                      every region whose prepared halfspaces and ends of convexes these lists are
 --   Needs, CutNeeds    what the cutting of a trixel needs, and that of the children of a trixel which is seen already
---   AcceptedOrCut ..   a trixel of the class of j: if b it is left out or accepted, else it is partial, and seen, and is to be cut
+--   AcceptedOrCut ..   a trixel as it was classified: if b it is left out or accepted, else it is partial, and seen, and is to be cut
 --   Dividing ..        the first k children are cut
 --   RootNeeds ..       the same of the eight roots, and RootsGive what they give; Finishes: of the end of the inner list
 --   LevelFits ..       how large identifiers and counts get: `span` is 4 to the power `left`
@@ -73,22 +73,24 @@ pub record Divisible (l : Level) : Type 0 where
 
 -- ---- what a cutting needs, and what it gives
 
-pub record Needs (ks : List ℤ) (l : Level) (xs : List ℤ) (es : List ℕ) (s : Tally) (out : List ℕ) : Type 0 where
-  pub trixel : StoredTrixel ks
-  pub ready : Ready xs es (countIn es)
+pub record Needs (stored : List ℤ) (l : Level) (prepared : List ℤ) (ends : List ℕ) (s : Tally) (out : List ℕ) : Type 0 where
+  pub trixel : StoredTrixel stored
+  pub ready : Ready prepared ends (countIn ends)
   pub invariant : TallyInvariant s out
   pub level : LevelFits (l .id) (l .left) (l .span) (s .seen)
 
-pub record CutNeeds (ks : List ℤ) (j : ClassifiedTrixel) (l : Level) (xs : List ℤ) (es : List ℕ) (s : Tally) (out : List ℕ) : Type 0 where
-  pub trixel : StoredTrixel ks
-  pub rays : OtherRays (trixelIn ks) j
-  pub ready : Ready xs es (countIn es)
+pub record CutNeeds (stored : List ℤ) (classified : ClassifiedTrixel) (l : Level) (prepared : List ℤ) (ends : List ℕ)
+    (s : Tally) (out : List ℕ) : Type 0 where
+  pub trixel : StoredTrixel stored
+  pub rays : OtherRays (trixelIn stored) classified
+  pub ready : Ready prepared ends (countIn ends)
   pub invariant : TallyInvariant s out
   pub divisible : Divisible l
   pub level : ChildrenFit (l .id) (l .left - 1) (l .span / 4) (s .seen)
 
-pub record Gives (xs : List ℤ) (es : List ℕ) (k left : ℕ) (found : Region → Found) (s : Tally) (out : List ℕ) (s′ : Tally) (out′ : List ℕ) : Type 0 where
-  pub adds : (g : Region) → Prepared g xs es (countIn es) → Adds (found g) s out s′ out′
+pub record Gives (prepared : List ℤ) (ends : List ℕ) (k left : ℕ) (found : Region → Found)
+    (s : Tally) (out : List ℕ) (s′ : Tally) (out′ : List ℕ) : Type 0 where
+  pub adds : (g : Region) → Prepared g prepared ends (countIn ends) → Adds (found g) s out s′ out′
   pub invariant : TallyInvariant s′ out′
   pub budget : s′ .budget ≡ s .budget
   pub seen : 3 * s′ .seen + k ≤ 3 * s .seen + k * 4 ^ suc left
@@ -104,35 +106,38 @@ pub record ToCut (c : Class) (l : Level) (s : Tally) (out : List ℕ) (s′ : Ta
   pub tally : s′ ≡ oneMore s
   pub list : out′ ≡ out
 
-pub record AcceptedOrCut (b : Bool) (j : ClassifiedTrixel) (l : Level) (s : Tally) (out : List ℕ) (s′ : Tally) (out′ : List ℕ) : Type 0 where
-  pub done : b ≡ true → Done (j .class) l s out s′ out′
-  pub cut : b ≡ false → ToCut (j .class) l s out s′ out′
+pub record AcceptedOrCut (b : Bool) (classified : ClassifiedTrixel) (l : Level)
+    (s : Tally) (out : List ℕ) (s′ : Tally) (out′ : List ℕ) : Type 0 where
+  pub done : b ≡ true → Done (classified .class) l s out s′ out′
+  pub cut : b ≡ false → ToCut (classified .class) l s out s′ out′
 
-pub record Dividing (ks : List ℤ) (j : ClassifiedTrixel) (l : Level) (xs : List ℤ) (es : List ℕ) (ys : List ℤ) (ms : List ℕ) (s₀ : Tally) (out₀ : List ℕ)
+pub record Dividing (stored : List ℤ) (classified : ClassifiedTrixel) (level : Level) (prepared : List ℤ) (ends : List ℕ)
+    (beside : List ℤ) (stops : List ℕ) (s₀ : Tally) (out₀ : List ℕ)
     (t : Trixel) (c : Cut) (r : Vec3) (k : ℕ) (s : Tally) (out : List ℕ) : Type 0 where
-  pub needs : CutNeeds ks j l xs es s₀ out₀
-  pub active : ActiveListsIn xs es ys ms
-  pub trixel : t ≡ trixelIn ks
-  pub parts : CutParts t c r j
+  pub needs : CutNeeds stored classified level prepared ends s₀ out₀
+  pub active : ActiveListsIn prepared ends beside stops
+  pub trixel : t ≡ trixelIn stored
+  pub parts : CutParts t c r classified
   pub few : k ≤ 4
-  pub gives : Gives xs es k (l .left - 1) (firstFound k l t) s₀ out₀ s out
+  pub gives : Gives prepared ends k (level .left - 1) (firstFound k level t) s₀ out₀ s out
 
 -- ---- the roots, and the lists
 
 -- the roots are cut: all that the cutting finds is noted
 abbrev pub RootsCut : List ℤ → List ℕ → ℕ → List ℕ → Tally → List ℕ → Type 0
-RootsCut xs es depth before s after = (g : Region) → Prepared g xs es (countIn es) → TallyHolds (s .budget) before (cutting depth g) s after
+RootsCut prepared ends depth before s after =
+    (g : Region) → Prepared g prepared ends (countIn ends) → TallyHolds (s .budget) before (cutting depth g) s after
 
-pub record RootNeeds (depth : ℕ) (xs : List ℤ) (es : List ℕ) (s : Tally) (out : List ℕ) : Type 0 where
+pub record RootNeeds (depth : ℕ) (prepared : List ℤ) (ends : List ℕ) (s : Tally) (out : List ℕ) : Type 0 where
   pub low : 1 ≤ depth
   pub high : depth ≤ 12
-  pub ready : Ready xs es (countIn es)
+  pub ready : Ready prepared ends (countIn ends)
   pub fresh : s ≡ noTally (s .budget)
   pub budget : 1 ≤ s .budget
   pub list : 4 * s .budget ≤ length out
 
-pub record RootsGive (depth : ℕ) (xs : List ℤ) (es : List ℕ) (s : Tally) (out : List ℕ) (s′ : Tally) (out′ : List ℕ) : Type 0 where
-  pub cut : RootsCut xs es depth out s′ out′
+pub record RootsGive (depth : ℕ) (prepared : List ℤ) (ends : List ℕ) (s : Tally) (out : List ℕ) (s′ : Tally) (out′ : List ℕ) : Type 0 where
+  pub cut : RootsCut prepared ends depth out s′ out′
   pub invariant : TallyInvariant s′ out′
   pub budget : s′ .budget ≡ s .budget
 
@@ -144,8 +149,8 @@ pub record Finishes (s : Tally) (out : List ℕ) (c : Counts) (out′ : List ℕ
 
 -- the lists stand in the lent list, and the counts are theirs
 abbrev pub Covers : List ℤ → List ℕ → ℕ → ℕ → List ℕ → Counts → List ℕ → Type 0
-Covers xs es b depth before c after =
-    (g : Region) → Prepared g xs es (countIn es)
+Covers prepared ends b depth before c after =
+    (g : Region) → Prepared g prepared ends (countIn ends)
     → (c ≡ countsOf (listed b (cutting depth g))) × (after ≡ bothListed b (listed b (cutting depth g)) before)
 
 -- the list begins with the n rows of the region g, which is as the region of an accepted file is

@@ -39,7 +39,7 @@ pub struct ClassifiedTrixel {
 }
 
 // The trixel of a list.
-pub fn trixel_in(xs: &TrixelNumbers) -> Trixel
+fn trixel_in(xs: &TrixelNumbers) -> Trixel
     ensures { λ t. ⌜ t ≡ trixelIn (now (xs .entry)) ⌝ }
 {
     Trixel {
@@ -137,29 +137,34 @@ fn find_active(
 }
 
 // A trixel is left out or accepted by its class, where it needs not be cut; whether it is so. Else it is seen.
-fn accept_or_cut(j: ClassifiedTrixel, level: Level, out: &mut [u64], s: &mut TallyNumbers) -> bool
-    requires { ⌜ TallyInvariant (tallyIn (now s)) (now out) ⌝ }
-    requires { ⌜ LevelFits (level .id) (level .left) (level .span) (tallyIn (now s) .seen) ⌝ }
-    ensures { λ b. ⌜ AcceptedOrCut b j level (tallyIn (now (s .entry))) (now (out .entry)) (tallyIn (now (s .exit))) (now (out .exit)) ⌝ }
+fn accept_or_cut(
+    classified: ClassifiedTrixel,
+    level: Level,
+    out: &mut [u64],
+    tally: &mut TallyNumbers,
+) -> bool
+    requires { ⌜ TallyInvariant (tallyIn (now tally)) (now out) ⌝ }
+    requires { ⌜ LevelFits (level .id) (level .left) (level .span) (tallyIn (now tally) .seen) ⌝ }
+    ensures { λ b. ⌜ AcceptedOrCut b classified level (tallyIn (now (tally .entry))) (now (out .entry)) (tallyIn (now (tally .exit))) (now (out .exit)) ⌝ }
 {
-    let c = j.class;
+    let class = classified.class;
     let id = level.id;
     let span = level.span;
-    match c {
+    match class {
         Class::Outside => {
-            covering_tally::seen_more(s);
+            covering_tally::seen_more(tally);
             true
         }
         Class::Full => {
-            covering_tally::take_full(out, s, id * span, id * span + (span - 1));
+            covering_tally::take_full(out, tally, id * span, id * span + (span - 1));
             true
         }
         Class::Partial => {
             if level.left == 0 {
-                covering_tally::take_partial(out, s, id, id);
+                covering_tally::take_partial(out, tally, id, id);
                 return true;
             }
-            covering_tally::seen_more(s);
+            covering_tally::seen_more(tally);
             false
         }
     }
@@ -177,31 +182,38 @@ fn child_level(level: Level, k: u64) -> Level
     }
 }
 
-// Stores child number k of t, which has the cut c. The first ray of child 0, 1 or 2 is the first, second or third ray of t.
-fn store_child(sub: &mut TrixelNumbers, k: u64, t: Trixel, c: Cut, r: Vec3, j: ClassifiedTrixel)
-    requires { ⌜ CutParts t c r j × (k < 4) ⌝ }
-    ensures { λ _. ⌜ StoredChild k t (now (sub .exit)) ⌝ }
+// Stores child number k of a trixel with its cut. The first ray of child 0, 1 or 2 is the first, second or third ray of the trixel.
+fn store_child(
+    child: &mut TrixelNumbers,
+    k: u64,
+    parent: Trixel,
+    cut: Cut,
+    ray: Vec3,
+    classified: ClassifiedTrixel,
+)
+    requires { ⌜ CutParts parent cut ray classified × (k < 4) ⌝ }
+    ensures { λ _. ⌜ StoredChild k parent (now (child .exit)) ⌝ }
 {
     if k == 0 {
-        store_trixel(sub, mesh_trixels::child0(t, c), r);
+        store_trixel(child, mesh_trixels::child0(parent, cut), ray);
         return;
     }
     if k == 1 {
-        let second = j.second;
-        store_trixel(sub, mesh_trixels::child1(t, c), second);
+        let second = classified.second;
+        store_trixel(child, mesh_trixels::child1(parent, cut), second);
         return;
     }
     if k == 2 {
-        let third = j.third;
-        store_trixel(sub, mesh_trixels::child2(t, c), third);
+        let third = classified.third;
+        store_trixel(child, mesh_trixels::child2(parent, cut), third);
         return;
     }
-    let last = mesh_trixels::child3(t, c);
-    store_trixel(sub, last, classify_prepared::first_ray(last));
+    let last = mesh_trixels::child3(parent, cut);
+    store_trixel(child, last, classify_prepared::first_ray(last));
 }
 
 // The trixel of a level. The region was prepared to `prepared` and `ends`; the halfspaces that are active beside an anchor, if some are known, stand in
-// `active` and `stops`. The lists are in `out`, s is the tally.
+// `active` and `stops`. The two lists are in `out`.
 pub fn visit(
     trixel: &TrixelNumbers,
     level: Level,
@@ -210,79 +222,99 @@ pub fn visit(
     active: &ActiveHalfspaces,
     stops: &ActiveEnds,
     out: &mut [u64],
-    s: &mut TallyNumbers,
+    tally: &mut TallyNumbers,
 )
-    requires { ⌜ Needs (now trixel) level (now prepared) (now ends) (tallyIn (now s)) (now out) ⌝ }
+    requires { ⌜ Needs (now trixel) level (now prepared) (now ends) (tallyIn (now tally)) (now out) ⌝ }
     requires { ⌜ ActiveListsIn (now prepared) (now ends) (now active) (now stops) ⌝ }
     ensures { λ _. ⌜ Gives (now (prepared .entry)) (now (ends .entry)) 1 (level .left) (foundIn level (trixelIn (now (trixel .entry))))
-        (tallyIn (now (s .entry))) (now (out .entry)) (tallyIn (now (s .exit))) (now (out .exit)) ⌝ }
+        (tallyIn (now (tally .entry))) (now (out .entry)) (tallyIn (now (tally .exit))) (now (out .exit)) ⌝ }
 {
-    let j = classify_trixel(trixel, prepared, ends, active, stops);
-    if accept_or_cut(j, level, out, s) {
+    let classified = classify_trixel(trixel, prepared, ends, active, stops);
+    if accept_or_cut(classified, level, out, tally) {
         return;
     }
     if classify_active::wants_active(ends, stops) {
-        children_by_active(trixel, j, level, prepared, ends, out, s);
+        children_by_active(trixel, classified, level, prepared, ends, out, tally);
         return;
     }
-    children(trixel, j, level, prepared, ends, active, stops, out, s);
+    children(
+        trixel,
+        classified,
+        level,
+        prepared,
+        ends,
+        active,
+        stops,
+        out,
+        tally,
+    );
 }
 
 // The four children of a trixel, by the halfspaces that are active beside it.
 fn children_by_active(
     trixel: &TrixelNumbers,
-    j: ClassifiedTrixel,
+    classified: ClassifiedTrixel,
     level: Level,
     prepared: &PreparedHalfspaces,
     ends: &ConvexEnds,
     out: &mut [u64],
-    s: &mut TallyNumbers,
+    tally: &mut TallyNumbers,
 )
-    requires { ⌜ CutNeeds (now trixel) j level (now prepared) (now ends) (tallyIn (now s)) (now out) ⌝ }
+    requires { ⌜ CutNeeds (now trixel) classified level (now prepared) (now ends) (tallyIn (now tally)) (now out) ⌝ }
     ensures { λ _. ⌜ Gives (now (prepared .entry)) (now (ends .entry)) 4 (level .left - 1)
-        (foundBelow level (trixelIn (now (trixel .entry)))) (tallyIn (now (s .entry))) (now (out .entry)) (tallyIn (now (s .exit)))
+        (foundBelow level (trixelIn (now (trixel .entry)))) (tallyIn (now (tally .entry))) (now (out .entry)) (tallyIn (now (tally .exit)))
         (now (out .exit)) ⌝ }
 {
     let mut active = [0i64; ACTIVE_NUMBERS];
     let mut stops = [0u64; ACTIVE_ENDS];
     find_active(trixel, prepared, ends, &mut active, &mut stops);
-    children(trixel, j, level, prepared, ends, &active, &stops, out, s);
+    children(
+        trixel,
+        classified,
+        level,
+        prepared,
+        ends,
+        &active,
+        &stops,
+        out,
+        tally,
+    );
 }
 
 // The four children of a trixel of a level, one after the other.
 fn children(
     trixel: &TrixelNumbers,
-    j: ClassifiedTrixel,
+    classified: ClassifiedTrixel,
     level: Level,
     prepared: &PreparedHalfspaces,
     ends: &ConvexEnds,
     active: &ActiveHalfspaces,
     stops: &ActiveEnds,
     out: &mut [u64],
-    s: &mut TallyNumbers,
+    tally: &mut TallyNumbers,
 )
-    requires { ⌜ CutNeeds (now trixel) j level (now prepared) (now ends) (tallyIn (now s)) (now out) ⌝ }
+    requires { ⌜ CutNeeds (now trixel) classified level (now prepared) (now ends) (tallyIn (now tally)) (now out) ⌝ }
     requires { ⌜ ActiveListsIn (now prepared) (now ends) (now active) (now stops) ⌝ }
     ensures { λ _. ⌜ Gives (now (prepared .entry)) (now (ends .entry)) 4 (level .left - 1)
-        (foundBelow level (trixelIn (now (trixel .entry)))) (tallyIn (now (s .entry))) (now (out .entry)) (tallyIn (now (s .exit)))
+        (foundBelow level (trixelIn (now (trixel .entry)))) (tallyIn (now (tally .entry))) (now (out .entry)) (tallyIn (now (tally .exit)))
         (now (out .exit)) ⌝ }
 {
-    let t = trixel_in(trixel);
-    let c = mesh_trixels::cut(t);
-    let r = first_ray_in(trixel);
-    let mut sub = [0i64; TRIXEL];
+    let parent = trixel_in(trixel);
+    let cut = mesh_trixels::cut(parent);
+    let ray = first_ray_in(trixel);
+    let mut child = [0i64; TRIXEL];
     let mut k: u64 = 0;
     while k < 4 {
-        store_child(&mut sub, k, t, c, r, j);
+        store_child(&mut child, k, parent, cut, ray, classified);
         visit(
-            &sub,
+            &child,
             child_level(level, k),
             prepared,
             ends,
             active,
             stops,
             out,
-            s,
+            tally,
         );
         k += 1;
     }

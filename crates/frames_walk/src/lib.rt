@@ -59,12 +59,15 @@ fn shortened(e: Entry, span: u64) -> u64
     whole(e.id) / span
 }
 
+// So many numbers have 32 bits.
+const NUMBERS: u64 = 4294967296;
+
 // The number of an entry, where it has 32 bits; else 0.
 fn number_of(e: Entry) -> u32
     ensures { λ r. ⌜ r ≡ numberOf e ⌝ }
 {
     let n = whole(e.number);
-    if n < 4294967296 { n as u32 } else { 0 }
+    if n < NUMBERS { n as u32 } else { 0 }
 }
 
 // The place of the first of n ranges, from place k on, that does not end below an identifier.

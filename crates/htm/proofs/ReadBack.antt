@@ -20,7 +20,7 @@ use Rattle.trial.specs.Answers.{trialGiven, trialList, trialCounts, ofChoice}
 use Rattle.htm_abi.specs.Values.{statusOf}
 use Rattle.htm_abi.specs.TrialValues.{choiceIn, trialIn, answerIn, partList}
 use Rattle.htm.specs.TrialFromC.{trialForC, firstAfterC, secondAfterC, trialAfterC, chosenForC, ReadBack, PartForC}
-use Rattle.htm.proofs.RefusalNumbers.{Numbered, trial-numbered}
+use Rattle.htm.proofs.RefusalNumbers.{Nonzero, trial-nonzero}
 
 choice-back : (c : Choice) → choiceIn (ofChoice c 1 2) ≡ c
 choice-back First = refl
@@ -37,7 +37,7 @@ refusal-back : (n : ℕ) (ns : List ℕ) → ltb 0 n ≡ true → answerIn (neg�
 refusal-back zero ns e = absurd (omega (arith, ltb-true 0 0 e))
 refusal-back (suc n) ns e = ap (λ b. cond b (TrialOf.Gives (trialIn ns)) (TrialOf.Refused (suc n))) (ne-eqb (suc n) 0 (λ z. omega arith))
 
-answer-back : (r : TrialOf) (ns : List ℕ) → Numbered (trialGiven r) → answerIn (statusOf (trialGiven r)) (left (trialGiven r) ns) ≡ r
+answer-back : (r : TrialOf) (ns : List ℕ) → Nonzero (trialGiven r) → answerIn (statusOf (trialGiven r)) (left (trialGiven r) ns) ≡ r
 answer-back (TrialOf.Gives t) ns e = ap TrialOf.Gives (read-list t ns)
 answer-back (TrialOf.Refused n) ns e = refusal-back n ns (e .number n refl)
 
@@ -45,7 +45,7 @@ pub read-back : ReadBack
 unfolding trialAfterC
 read-back o l f s t first second numbers r e =
     ap (λ a. answerIn (statusOf a) (left a numbers)) (sym e)
-    ∙ answer-back r numbers (subst Numbered (sym e) (trial-numbered o l f s t first second numbers))
+    ∙ answer-back r numbers (subst Nonzero (sym e) (trial-nonzero o l f s t first second numbers))
 
 -- ---- the part
 

@@ -28,77 +28,77 @@ use Rattle.trial.specs.Answers.{checkSetting, roomFor, trialInto, trialCounts}
 use Rattle.htm.specs.TrialFromC.{trialIntoC, trialForC}
 
 -- an answer that is given, or refused with a number that is not 0
-pub record Numbered {A : Type 0} (a : Answer A) : Type 0 where
+pub record Nonzero {A : Type 0} (a : Answer A) : Type 0 where
   pub number : (n : ℕ) → a ≡ refused n → ltb 0 n ≡ true
 
 -- ---- answers one after the other
 
 module _ {A : Type 0} where
-  given : (x : A) → Numbered (gives x)
+  given : (x : A) → Nonzero (gives x)
   given x = record { number = λ n e. refused-gives n x (sym e) }
 
-  refuses : (n : ℕ) → ltb 0 n ≡ true → Numbered {A = A} (refused n)
+  refuses : (n : ℕ) → ltb 0 n ≡ true → Nonzero {A = A} (refused n)
   refuses n h = record { number = λ m e. let same : n ≡ m = cc in subst (λ k. ltb 0 k ≡ true) same h }
 
-  checked : (n : ℕ) → ltb 0 n ≡ true → (t : Bool) (a : Answer A) → Numbered a → Numbered (check n t a)
+  checked : (n : ℕ) → ltb 0 n ≡ true → (t : Bool) (a : Answer A) → Nonzero a → Nonzero (check n t a)
   checked n h true a k = k
   checked n h false a k = refuses n h
 
-  either : (t : Bool) (a b : Answer A) → Numbered a → Numbered b → Numbered (cond t a b)
+  either : (t : Bool) (a b : Answer A) → Nonzero a → Nonzero b → Nonzero (cond t a b)
   either true a b h k = h
   either false a b h k = k
 
-  stops : (t : Bool) (a b : Answer A) → Numbered a → Numbered b → Numbered {A = A} (elim t [ true ↦ a | false ↦ b ])
+  stops : (t : Bool) (a b : Answer A) → Nonzero a → Nonzero b → Nonzero {A = A} (elim t [ true ↦ a | false ↦ b ])
   stops true a b h k = h
   stops false a b h k = k
 
 module _ {A B : Type 0} where
-  next : (a : Answer A) (f : A → Answer B) → Numbered a → ((x : A) → Numbered (f x)) → Numbered (then a f)
+  next : (a : Answer A) (f : A → Answer B) → Nonzero a → ((x : A) → Nonzero (f x)) → Nonzero (then a f)
   next (refused n) f h k = refuses n (h .number n refl)
   next (gives x) f h k = k x
 
-  changed : (f : A → B) (a : Answer A) → Numbered a → Numbered (with-value f a)
+  changed : (f : A → B) (a : Answer A) → Nonzero a → Nonzero (with-value f a)
   changed f (refused n) h = refuses n (h .number n refl)
   changed f (gives x) h = given (f x)
 
 -- ---- the reader of a file
 
-first-of : (n len : ℕ) (rs : List Record) → Numbered (firstOf n len rs)
+first-of : (n len : ℕ) (rs : List Record) → Nonzero (firstOf n len rs)
 first-of n len [] = refuses Kind refl
 first-of n len (r ∷ rs) = either (is n len r) (gives r) (firstOf n len rs) (given r) (first-of n len rs)
 
-record-at : (rest : List ℕ) → Numbered (recordAt rest)
+record-at : (rest : List ℕ) → Nonzero (recordAt rest)
 record-at rest = checked Torn refl (whole rest) _ (first-of (kindOf rest) (lengthOf rest) (known (lengthOf rest)))
 
-header-in : (r : Record) (s : List ℕ) → Numbered (headerIn r s)
+header-in : (r : Record) (s : List ℕ) → Nonzero (headerIn r s)
 header-in Record.Header s = checked Depth refl (isDepth (word s 0)) _ (checked Budget refl (isBudget (word s 2)) _ (given _))
 header-in Record.Convex s = refuses Order refl
 header-in Record.Halfspace s = refuses Order refl
 header-in Record.End s = refuses Order refl
 header-in (Record.Group n) s = refuses Order refl
 
-header-numbered : (rest : List ℕ) → Numbered (header rest)
+header-nonzero : (rest : List ℕ) → Nonzero (header rest)
 unfolding header
-header-numbered rest = next (recordAt rest) _ (record-at rest) (λ r. header-in r (payload rest))
+header-nonzero rest = next (recordAt rest) _ (record-at rest) (λ r. header-in r (payload rest))
 
-convex-in : (x : File) → Numbered (convexIn x)
+convex-in : (x : File) → Nonzero (convexIn x)
 convex-in x =
     checked Order refl (cond (begun (x .region)) (filled (x .region)) true) _
     (checked Crowd refl (fewConvexes (withConvex (x .region))) _ (given _))
 
-halfspace-in : (x : File) (h : Halfspace) → Numbered (halfspaceIn x h)
+halfspace-in : (x : File) (h : Halfspace) → Nonzero (halfspaceIn x h)
 unfolding add
 halfspace-in x h =
     checked Order refl (begun (x .region)) _
     (changed (withRegion x) (add (x .region) h)
     (checked Crowd refl (belowLimits (x .region)) _ (checked Vector refl (isVector (h .n)) _ (checked Offset refl (isOffset (h .d)) _ (given _)))))
 
-halfspaces-in : (x : File) (c : Convex) → Numbered (halfspacesIn x c)
+halfspaces-in : (x : File) (c : Convex) → Nonzero (halfspacesIn x c)
 unfolding halfspacesIn
 halfspaces-in x [] = given x
 halfspaces-in x (h ∷ hs) = next (halfspaceIn x h) _ (halfspace-in x h) (λ y. halfspaces-in y hs)
 
-part-in : (x : File) (r : Record) (s following : List ℕ) → Numbered (partIn x r s following)
+part-in : (x : File) (r : Record) (s following : List ℕ) → Nonzero (partIn x r s following)
 part-in x Record.Header s following = refuses Order refl
 part-in x Record.Convex s following = convex-in x
 part-in x Record.Halfspace s following = halfspace-in x (halfspaceOf s)
@@ -107,11 +107,11 @@ part-in x (Record.Group n) s following =
     let c = halfspacesOf n s in
     next (convexIn x) _ (convex-in x) (λ y. checked Crowd refl (leb (total (y .region) + length c) mostInAll) _ (halfspaces-in y c))
 
-record-in : (k : Styles) (x : File) (rest : List ℕ) → Numbered (recordIn k x rest)
+record-in : (k : Styles) (x : File) (rest : List ℕ) → Nonzero (recordIn k x rest)
 unfolding recordIn
 record-in k x rest = next (recordAt rest) _ (record-at rest) (λ r. checked Mixed refl (fits k r) _ (part-in x r (payload rest) (after rest)))
 
-records-in : (k : Styles) (n : ℕ) (x : File) (rest : List ℕ) → Numbered (recordsIn k n x rest)
+records-in : (k : Styles) (n : ℕ) (x : File) (rest : List ℕ) → Nonzero (recordsIn k n x rest)
 unfolding recordsIn
 records-in k zero x rest = refuses Torn refl
 records-in k (suc n) x rest =
@@ -119,26 +119,26 @@ records-in k (suc n) x rest =
     next (recordIn k x rest) _ (record-in k x rest)
     (λ y. stops (eqb (kindOf rest) 4) (gives y) (recordsIn styles n y (after rest)) (given y) (records-in styles n y (after rest)))
 
-pub read-numbered : (f : List ℕ) → Numbered (read f)
+pub read-nonzero : (f : List ℕ) → Nonzero (read f)
 unfolding read
-read-numbered f =
-    checked Long refl (leb (length f) 10508) _ (next (header f) _ (header-numbered f) (λ x. records-in Styles.either (length f) x (after f)))
+read-nonzero f =
+    checked Long refl (leb (length f) 10508) _ (next (header f) _ (header-nonzero f) (λ x. records-in Styles.either (length f) x (after f)))
 
 -- ---- a trial for C
 
 module _ (o : ℕ) (l : List ℤ) (f : List ℕ) (s t : Setting) (first second numbers : List ℕ) where
-  rooms : (x : File) → Numbered (roomFor s first (roomFor t second (inList l (gives x))))
+  rooms : (x : File) → Nonzero (roomFor s first (roomFor t second (inList l (gives x))))
   rooms x =
       checked Space refl (leb (4 * budgetOf (s .budget)) (length first)) _
       (checked Space refl (leb (4 * budgetOf (t .budget)) (length second)) _ (checked Space refl (leb IndexLength (length l)) _ (given x)))
 
-  setting : (u : Setting) {a : Answer File} → Numbered a → Numbered (checkSetting u a)
+  setting : (u : Setting) {a : Answer File} → Nonzero a → Nonzero (checkSetting u a)
   setting u h = checked Depth refl (isDepth (u .depth)) _ (checked Budget refl (isBudget (u .budget)) _ h)
 
-  pub trial-numbered : Numbered (trialForC o l f s t first second numbers)
+  pub trial-nonzero : Nonzero (trialForC o l f s t first second numbers)
   unfolding trialForC
-  trial-numbered =
+  trial-nonzero =
       changed _ (trialIntoC o l f s t first second numbers)
       (next (trialInto o l f s t first second) _
-      (checked Owner refl (isOwner o) _ (next (read f) _ (read-numbered f) (λ x. setting s (setting t (rooms x)))))
+      (checked Owner refl (isOwner o) _ (next (read f) _ (read-nonzero f) (λ x. setting s (setting t (rooms x)))))
       (λ x. checked Space refl (leb trialCounts (length numbers)) _ (given x)))

@@ -9,8 +9,7 @@ use Prim.Native.Nat.{ℕ}
 use mathlib.Core.Path.{_≡_}
 use mathlib.Core.List.{List}
 use lib.IntN.{ℤ}
-use Rattle.answer.specs.Answer.{Answer, refused, gives, check, then, Vector, Owner}
-use Rattle.vector.specs.Vectors.{isVector}
+use Rattle.answer.specs.Answer.{Answer, refused, gives, check, then, Owner}
 use Rattle.mesh.specs.Identifiers.{corners}
 use Rattle.mesh.specs.Names.{nameOf}
 use Rattle.mesh.specs.Answers.{nameAnswer, nameAfter}
@@ -21,7 +20,7 @@ use Rattle.region.specs.Converting.{convert}
 use Rattle.region.specs.Answers.{readAnswer, readAfter, fileAnswer, fileAfter}
 use Rattle.index.specs.Exposures.{isOwner, Exposure, Key}
 use Rattle.index.specs.Entries.{nothing}
-use Rattle.index.specs.Answers.{beginAnswer, beginAfter, addAnswer, addAfter, removeAnswer, removeAfter}
+use Rattle.index.specs.Answers.{addable, removable, beginAnswer, beginAfter, addAnswer, addAfter, removeAnswer, removeAfter}
 use Rattle.frames.specs.Answers.{framesAnswer, rangesAfter, numbersAfter}
 use Rattle.trial.specs.declared.Setting.{Setting}
 use Rattle.trial.specs.Answers.{checkSetting, trialAnswer, firstAfter, secondAfter}
@@ -44,12 +43,6 @@ ownFile o f = check Owner (isOwner o) (read f)
 
 abbrev pub triedFile : ℕ → List ℕ → Setting → Setting → Answer File
 triedFile o f s t = check Owner (isOwner o) (then (read f) (λ x. checkSetting s (checkSetting t (gives x))))
-
-abbrev pub addable : Exposure → Answer (Unit {0})
-addable x = check Owner (isOwner (x .owner)) (check Vector (isVector (x .pointing)) (gives tt))
-
-abbrev pub removable : Key → Answer (Unit {0})
-removable k = check Owner (isOwner (k .owner)) (gives tt)
 
 pub record SpaceLast : Type 0 where
   pub name : (i : ℕ) (before : List ℕ) → Keeps (nameOf i) (nameAnswer i before)

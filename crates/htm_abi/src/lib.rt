@@ -82,7 +82,7 @@ pub fn status(answer: Change) -> i64
 }
 
 // A corner, from element `at` on.
-pub fn put_corner(out: &mut [i32], at: usize, v: Vec3)
+fn put_corner(out: &mut [i32], at: usize, v: Vec3)
     requires { ⌜ at + 3 ≤ length (now out) ⌝ }
     requires { ⌜ Small v ⌝ }
     ensures { λ _. ⌜ now (out .exit) ≡ put at (three v) (now (out .entry)) ⌝ }

@@ -1,6 +1,5 @@
 -- The order of the checks of an add and of a removal, whatever list is lent. Document 02, F-10 and F-11. What is asked of the call itself comes
 -- before the list: 18 before 8 before 10 for an add, 18 before 10 for a removal. A list that is too short is 10, before 15, 16 and 17. Assumes nothing.
---   addable x, removable k         what is asked of the call itself: 18, 8; 18
 --   add-refused, remove-refused    what is refused there is refused so of every list
 --   add-short, remove-short        where nothing is refused there, a list that is too short is 10
 use Prim.Native.Nat.{ℕ}
@@ -15,13 +14,7 @@ use Rattle.vector.specs.Vectors.{isVector}
 use Rattle.index.specs.declared.Entry.{Entry}
 use Rattle.index.specs.Exposures.{isOwner, Exposure, Key, keyOf, answered}
 use Rattle.index.specs.Entries.{IndexLength, entryOf, entriesIn, entering, withdrawing}
-use Rattle.index.specs.Answers.{inList, adding, removing, addAnswer, removeAnswer}
-
-abbrev pub addable : Exposure → Answer (Unit {0})
-addable x = check Owner (isOwner (x .owner)) (check Vector (isVector (x .pointing)) (gives tt))
-
-abbrev pub removable : Key → Answer (Unit {0})
-removable k = check Owner (isOwner (k .owner)) (gives tt)
+use Rattle.index.specs.Answers.{inList, addable, removable, adding, removing, addAnswer, removeAnswer}
 
 -- ---- two checks, and one, before the rest
 

@@ -1,5 +1,6 @@
 -- What the calls answer, and what they leave in the lent list. Document 02, F-10 and F-11. An owner is checked before all else. A list of fewer than
 -- IndexLength elements is no index, and refused as space, 10; of any other the entries are those that `entriesIn` reads, also where no history leaves it.
+--   addable x, removable k                  what is asked of the call itself, before the list: 18, 8; 18
 --   adding x l, removing k l, beginning l   the entries after the call, or its refusal: 18, 8, 10, 15, 16; 18, 10, 17; 10
 --   addAnswer, removeAnswer, beginAnswer    what the call answers: that it was done, or its refusal
 --   addAfter, removeAfter, beginAfter       the list afterwards: the entries in the place of the old ones, or all as it was after a refusal
@@ -23,6 +24,12 @@ use Rattle.index.specs.Entries.{IndexLength, entryOf, countIn, entriesIn
 -- what is answered on a list that is long enough
 abbrev pub inList : {A : Type 0} → List ℤ → Answer A → Answer A
 inList l a = check Space (leb IndexLength (length l)) a
+
+abbrev pub addable : Exposure → Answer (Unit {0})
+addable x = check Owner (isOwner (x .owner)) (check Vector (isVector (x .pointing)) (gives tt))
+
+abbrev pub removable : Key → Answer (Unit {0})
+removable k = check Owner (isOwner (k .owner)) (gives tt)
 
 abbrev pub adding : Exposure → List ℤ → Answer (List Entry)
 adding x l = check Owner (isOwner (x .owner)) (check Vector (isVector (x .pointing)) (inList l (entering (keyOf x) (entryOf x) (entriesIn l))))

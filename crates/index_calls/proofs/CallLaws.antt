@@ -23,7 +23,8 @@ use Rattle.index.specs.Exposures.{IndexCapacity, OwnerCapacity, Exposure, Key, 
 use Rattle.index.specs.Entries.{Width, IndexLength, numbers, entryAt, precedes, isOwned, isKeyed, countIn, entriesFrom, entriesIn, written, withEntries, inserted, withdrawn, hasRoom, entering, withdrawing, Placed, nothing, placed}
 use Rattle.index.specs.Answers.{inList, beginning, adding, removing, beginAnswer, beginAfter, addAnswer, addAfter, removeAnswer, removeAfter, countAnswer, entryAnswer, changeGiven}
 use Rattle.index.proofs.WrittenLaws.{length-entries}
-use Rattle.index_entries.specs.Steps.{leading, staying, raised, lowered}
+use Rattle.algebra.proofs.Moves.{lowered}
+use Rattle.index_entries.specs.Steps.{leading, staying, raised}
 use Rattle.index_entries.proofs.EntryLaws.{entry-drop}
 use Rattle.index_entries.proofs.MovedLaws.{one-more, one-less}
 use Rattle.index_entries.proofs.SearchLaws.{inserted-at, withdrawn-at, found}
@@ -136,7 +137,7 @@ module _ (l : List ℤ) (n : ℕ) (long : IndexLength ≤ length l) (is : n ≡ 
         let b : some (isKeyed k) (entriesIn l) ≡ false = sym (searched k i s) ∙ le-ltb i n h in
         record { answer = rw (a, b) refl; list = rw (a, b) refl }
 
-    pub is-removed : (u : List ℤ) → i < n → n ≤ IndexCapacity → u ≡ lowered (1 + Width * i) l (Width * (n - 1 - i)) → Done (inList l (withdrawing k (entriesIn l))) l (set u 0 (toZ w64 (n - 1))) Made
+    pub is-removed : (u : List ℤ) → i < n → n ≤ IndexCapacity → u ≡ lowered Width (1 + Width * i) l (Width * (n - 1 - i)) → Done (inList l (withdrawing k (entriesIn l))) l (set u 0 (toZ w64 (n - 1))) Made
     unfolding withEntries
     is-removed u h f x =
         let a : leb IndexLength (length l) ≡ true = le-leb IndexLength (length l) long in

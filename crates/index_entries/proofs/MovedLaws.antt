@@ -10,7 +10,8 @@ use lib.Seq.{take-add, drop-drop}
 use Rattle.answer.specs.Lent.{put}
 use Rattle.index.specs.declared.Entry.{Entry}
 use Rattle.index.specs.Entries.{Width, numbers, entryAt, entriesFrom, written}
-use Rattle.index_entries.specs.Steps.{raised, lowered}
+use Rattle.algebra.proofs.Moves.{lowered}
+use Rattle.index_entries.specs.Steps.{raised}
 use Rattle.index_entries.proofs.EntryLaws.{first}
 use Rattle.index_entries.proofs.ShiftLaws.{put-raised}
 
@@ -82,7 +83,7 @@ less′ (suc i) q (suc n) l s h =
     ∙ ap (λ x. f ++ x) (less′ i q n m (omega arith) (omega (arith, length-drop Width l)))
 
 pub one-less : (n i m : ℕ) (l : List ℤ) (v : ℤ) → i < n → m ≡ Width * (n - 1 - i) → 1 + Width * n ≤ length l
-    → set (lowered (1 + Width * i) l m) 0 v ≡ v ∷ written (take i (entriesFrom n (drop 1 l)) ++ drop (suc i) (entriesFrom n (drop 1 l))) (drop 1 l)
+    → set (lowered Width (1 + Width * i) l m) 0 v ≡ v ∷ written (take i (entriesFrom n (drop 1 l)) ++ drop (suc i) (entriesFrom n (drop 1 l))) (drop 1 l)
 unfolding lowered
 one-less zero i m l v h s f = absurd (omega arith)
 one-less (suc n) i m [] v h s f = absurd (omega arith)

@@ -1,53 +1,17 @@
--- Elements that move down by the width of an entry, one after the other: after k turns the list is `lowered` by k. Entries that move up, the last one first:
--- with i left, the list is `raised` from there on. Assumes nothing.
+-- Entries that move up, the last one first: with i left, the list is `raised` from there on. Assumes nothing.
 use Prim.Native.Nat.{ℕ, _+_, _*_, _-_, _≤_, _<_}
 use mathlib.Core.Path.{_≡_, sym, ap, ap₂, _∙_}
 use mathlib.Core.List.{List, _++_, append-assoc}
 use native.Mathlib.Omega.{arith}
-use native.Mathlib.Numerals.{add-one}
-use lib.ListN.{length, getD, take, drop, set, length-drop, length-append, List·getD-append}
+use lib.ListN.{length, getD, take, drop, length-append, List·getD-append}
 use lib.IntN.{ℤ, pos}
-use lib.Seq.{paste, paste-zero, paste-suc, length-paste-head, length-take-le, getD-append-add, getD-drop, getD-take, take-append-le, take-take, take-add, drop-at, drop-drop}
+use lib.Seq.{paste, paste-zero, length-take-le, getD-take, take-append-le, take-take, take-add, drop-at, drop-drop}
 use Rattle.answer.specs.Lent.{put}
 use Rattle.index.specs.declared.Entry.{Entry}
 use Rattle.vector.specs.Vectors.{vec}
 use Rattle.index.specs.Entries.{entry, Width, numbers, entryAt}
-use Rattle.index_entries.specs.Steps.{raised, lowered}
+use Rattle.index_entries.specs.Steps.{raised}
 use Rattle.index_entries.proofs.EntryLaws.{numbers-at}
-
--- ---- down, the first one first
-
-pub lowered-start : (at : ℕ) (l : List ℤ) → l ≡ lowered at l 0
-unfolding lowered
-lowered-start at l = paste-zero l at (drop (at + Width) l)
-
-module _ (at : ℕ) (l : List ℤ) (k : ℕ) (fits : at + k + Width < length l) where
-  lowered-read : getD (lowered at l k) (at + k + Width) (pos 0) ≡ getD (drop (at + Width) l) k (pos 0)
-  unfolding lowered
-  lowered-read =
-      let s : List ℤ = drop (at + Width) l in
-      let e : length (take at l ++ take k s) ≡ at + k = length-paste-head l at s k (omega arith) (omega (arith, length-drop (at + Width) l)) in
-      let f : at + k + Width ≡ at + Width + k = omega arith in
-      ap (λ m. getD (lowered at l k) (m + Width) (pos 0)) (sym e)
-      ∙ getD-append-add (take at l ++ take k s) (drop (at + k) l) Width (pos 0)
-      ∙ getD-drop (at + k) l Width (pos 0)
-      ∙ ap (λ m. getD l m (pos 0)) f
-      ∙ sym (getD-drop (at + Width) l k (pos 0))
-
-  lowered-more : set (lowered at l k) (at + k) (getD (lowered at l k) (at + k + Width) (pos 0)) ≡ lowered at l (k + 1)
-  unfolding lowered
-  lowered-more =
-      ap (set (lowered at l k) (at + k)) lowered-read
-      ∙ paste-suc l at (drop (at + Width) l) k (pos 0) (omega arith) (omega (arith, length-drop (at + Width) l))
-      ∙ ap (paste l at (drop (at + Width) l)) (sym (add-one k))
-
-pub lowered-step : (at : ℕ) (l : List ℤ) (k : ℕ) (m : List ℤ) → m ≡ lowered at l k → at + k + Width < length l → set m (at + k) (getD m (at + k + Width) (pos 0)) ≡ lowered at l (k + 1)
-lowered-step at l k m e h = ap (λ x. set x (at + k) (getD x (at + k + Width) (pos 0))) e ∙ lowered-more at l k h
-
-pub lowered-end : (at : ℕ) (l : List ℤ) (k count : ℕ) (m : List ℤ) → m ≡ lowered at l k → k ≡ count → m ≡ lowered at l count
-lowered-end at l k count m e f = e ∙ ap (lowered at l) f
-
--- ---- up, one entry after the other, the last one first
 
 pub raised-start : (at : ℕ) (l : List ℤ) (k : ℕ) → k ≡ 0 → l ≡ raised at l k
 unfolding raised

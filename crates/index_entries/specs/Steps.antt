@@ -2,7 +2,6 @@
 --   leading f xs    how many elements at the front of xs pass the test f
 --   staying f xs    how many elements stand before those at the end of xs that pass the test f
 --   raised at l k   the list l, where k elements, from number `at` on, have moved up by the width of an entry
---   lowered at l k  the list l, where k elements, from number `at` on, are those that stand further on by the width of an entry
 use Prim.Native.Nat.{ℕ, suc, _+_}
 use mathlib.Core.Bool.{Bool, cond}
 use mathlib.Core.List.{List, [], _∷_}
@@ -23,6 +22,3 @@ module _ {A : Type 0} where
 
 unfoldable pub raised : ℕ → List ℤ → ℕ → List ℤ
 raised at l k = paste l (at + Width) (drop at l) k
-
-unfoldable pub lowered : ℕ → List ℤ → ℕ → List ℤ
-lowered at l k = paste l at (drop (at + Width) l) k

@@ -19,7 +19,7 @@ pub const MAX_DEPTH: u32 = 12;
 // The largest budget, and the one that 0 means.
 pub const MAX_BUDGET: u32 = 2048;
 
-pub const DEFAULT_BUDGET: usize = 16;
+const DEFAULT_BUDGET: usize = 16;
 
 // The limits of a region: convexes, halfspaces in a convex, halfspaces in all.
 pub const CONVEXES: usize = 64;

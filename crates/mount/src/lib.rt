@@ -69,7 +69,7 @@ fn component(bits: u64, w: Width) -> ComponentOf
 }
 
 // The component of an f32. Every NaN is refused, whatever its bits.
-pub fn of_single(s: f32) -> ComponentOf
+fn of_single(s: f32) -> ComponentOf
     ensures { λ r. ⌜ componentGiven r ≡ componentOf s ⌝ }
 {
     if s != s {
@@ -85,7 +85,7 @@ pub fn of_single(s: f32) -> ComponentOf
 }
 
 // The component of an f64.
-pub fn of_double(d: f64) -> ComponentOf
+fn of_double(d: f64) -> ComponentOf
     ensures { λ r. ⌜ componentGiven r ≡ componentOf d ⌝ }
 {
     if d != d {

@@ -4,19 +4,20 @@ use answer::Number;
 ghost use Prim.Native.Nat.{_≤_};
 ghost use mathlib.Core.Path.{_≡_};
 ghost use lib.IntN.{natAbs};
+ghost use Rattle.print.specs.Lost.{lost};
 
 pub mod covers;
 pub mod regions;
 
-pub const SIZE: usize = 65536;
+const SIZE: usize = 65536;
 
 pub type Buffer = [u8; SIZE];
 
 // Past every place of the buffer, and past its end.
-pub const LOST: usize = 65537;
+pub const LOST: usize = SIZE + 1;
 
 pub fn byte(out: &mut Buffer, at: usize, b: u8) -> usize
-    ensures { λ r. ⌜ (at ≡ 65537 → r ≡ 65537) ⌝ }
+    ensures { λ r. ⌜ (at ≡ lost → r ≡ lost) ⌝ }
 {
     if at < SIZE {
         out[at] = b;
@@ -105,7 +106,7 @@ pub fn least(n: u64, most: usize) -> usize
 }
 
 // A refusal, and one that is a line of its own.
-pub fn refusal(out: &mut Buffer, at: usize, number: u32) -> usize {
+fn refusal(out: &mut Buffer, at: usize, number: u32) -> usize {
     let end = text(out, at, b"refused ");
     digits(out, end, number as u64)
 }
@@ -121,7 +122,7 @@ pub fn usage(out: &mut Buffer, at: usize) -> usize {
 
 // Writes what was collected. The place is then the buffer's beginning, or LOST.
 pub fn flush(out: &Buffer, at: usize) -> usize
-    ensures { λ r. ⌜ (at ≡ 65537 → r ≡ 65537) ⌝ }
+    ensures { λ r. ⌜ (at ≡ lost → r ≡ lost) ⌝ }
 {
     let all: &[u8] = out;
     if all.len() < at {

@@ -9,6 +9,19 @@ ghost use mathlib.Core.Path.{_≡_};
 ghost use Prim.Native.Nat.{_%_, _^_};
 ghost use lib.Ieee.{binary32, binary64, ofBits};
 
+// The bits of infinity in double precision, and the bit of the sign. What is above infinity without its sign is a NaN.
+const DOUBLE_INFINITY: u64 = 2047 << 52;
+
+const DOUBLE_SIGN: u64 = 1 << 63;
+
+// The same in single precision.
+const SINGLE_INFINITY: u32 = 255 << 23;
+
+const SINGLE_SIGN: u32 = 1 << 31;
+
+// So many patterns of single precision there are.
+const SINGLES: u64 = 1 << 32;
+
 enum BitsAt {
     Is(u64, usize),
     Not,
@@ -77,7 +90,7 @@ fn bits_at(line: &[u8], at: usize, digits: usize) -> BitsAt {
 fn double_of(bits: u64) -> f64
     ensures { λ r. ⌜ r ≡ ofBits binary64 bits ⌝ }
 {
-    if 0x7ff0000000000000 < bits % 0x8000000000000000 {
+    if DOUBLE_INFINITY < bits % DOUBLE_SIGN {
         return 0.0 / 0.0;
     }
     f64::from_bits(bits)
@@ -87,8 +100,8 @@ fn double_of(bits: u64) -> f64
 fn single_of(bits: u64) -> f32
     ensures { λ r. ⌜ r ≡ ofBits binary32 (bits % 2 ^ 32) ⌝ }
 {
-    let pattern = (bits % 0x100000000) as u32;
-    if 0x7f800000 < pattern % 0x80000000 {
+    let pattern = (bits % SINGLES) as u32;
+    if SINGLE_INFINITY < pattern % SINGLE_SIGN {
         return 0.0 / 0.0;
     }
     f32::from_bits(pattern)

@@ -1,50 +1,14 @@
--- Elements that move down by two places: moved one by one they are `shifted`; from a high on, they join two ranges into one, and from a low on, they
--- take a range away. By recursion over the ranges before that place. Assumes nothing.
+-- Elements that are `lowered` by two places: from a high on, they join two ranges into one, and from a low on, they take a range away. By recursion over the ranges before that place. Assumes nothing.
 use Prim.Native.Nat.{ℕ, zero, suc, _+_, _*_, _-_, _≤_, _<_}
-use mathlib.Core.Path.{_≡_, sym, ap, _∙_, refl}
+use mathlib.Core.Path.{_≡_, ap, _∙_, refl}
 use mathlib.Core.List.{List, [], _∷_, _++_}
 use native.Mathlib.Omega.{arith}
-use native.Mathlib.Numerals.{add-one}
-use lib.ListN.{length, getD, take, drop, set, length-drop}
-use lib.Seq.{paste, paste-zero, paste-suc, length-paste-head, getD-append-add, getD-drop}
+use lib.ListN.{length, take, drop}
+use Rattle.algebra.proofs.Moves.{lowered}
 use Rattle.ranges.specs.Lists.{joinAt, without}
 use Rattle.ranges.specs.Ranges.{rangesIn}
-use Rattle.ranges_stored.specs.Stored.{written, shifted}
+use Rattle.ranges_stored.specs.Stored.{written}
 use Rattle.ranges_stored.proofs.StoredLaws.{double, double-is, drop-two, laid, laid-put}
-
--- ---- one element after the other
-
-pub shifted-start : (at : ℕ) (l : List ℕ) → l ≡ shifted at l 0
-unfolding shifted
-shifted-start at l = paste-zero l at (drop (at + 2) l)
-
-module _ (at : ℕ) (l : List ℕ) (k : ℕ) (fits : at + k + 2 < length l) where
-  shifted-read : getD (shifted at l k) (at + k + 2) 0 ≡ getD (drop (at + 2) l) k 0
-  unfolding shifted
-  shifted-read =
-      let s : List ℕ = drop (at + 2) l in
-      let e : length (take at l ++ take k s) ≡ at + k = length-paste-head l at s k (omega arith) (omega (arith, length-drop (at + 2) l)) in
-      let f : at + k + 2 ≡ at + 2 + k = omega arith in
-      ap (λ m. getD (shifted at l k) (m + 2) 0) (sym e)
-      ∙ getD-append-add (take at l ++ take k s) (drop (at + k) l) 2 0
-      ∙ getD-drop (at + k) l 2 0
-      ∙ ap (λ m. getD l m 0) f
-      ∙ sym (getD-drop (at + 2) l k 0)
-
-  shifted-more : set (shifted at l k) (at + k) (getD (shifted at l k) (at + k + 2) 0) ≡ shifted at l (k + 1)
-  unfolding shifted
-  shifted-more =
-      ap (set (shifted at l k) (at + k)) shifted-read
-      ∙ paste-suc l at (drop (at + 2) l) k 0 (omega arith) (omega (arith, length-drop (at + 2) l))
-      ∙ ap (paste l at (drop (at + 2) l)) (sym (add-one k))
-
-pub shifted-step : (at : ℕ) (l : List ℕ) (k : ℕ) (m : List ℕ) → m ≡ shifted at l k → at + k + 2 < length l → set m (at + k) (getD m (at + k + 2) 0) ≡ shifted at l (k + 1)
-shifted-step at l k m e h = ap (λ x. set x (at + k) (getD x (at + k + 2) 0)) e ∙ shifted-more at l k h
-
-pub shifted-end : (at : ℕ) (l : List ℕ) (k count : ℕ) (m : List ℕ) → m ≡ shifted at l k → k ≡ count → m ≡ shifted at l count
-shifted-end at l k count m e f = e ∙ ap (shifted at l) f
-
--- ---- what it does to the ranges
 
 front : (p : ℕ) (l m : List ℕ) → 2 * p ≤ length l → take (double p) l ++ drop (double p) m ≡ laid (rangesIn p l) m
 unfolding double rangesIn laid
@@ -67,11 +31,11 @@ join′ zero q p (x ∷ y ∷ z ∷ w ∷ l) e h =
 join′ (suc i) q zero (x ∷ y ∷ z ∷ w ∷ l) e h = absurd (omega arith)
 join′ (suc i) q (suc p) (x ∷ y ∷ z ∷ w ∷ l) e h = ap (λ k. x ∷ y ∷ k) (join′ i q p (z ∷ w ∷ l) (omega arith) (omega arith))
 
-pub shifted-joins : (n i at m : ℕ) (l : List ℕ) → i + 1 < n → 2 * n ≤ length l → at ≡ 2 * i + 1 → m + at + 2 ≡ 2 * n → shifted at l m ≡ written (joinAt i (rangesIn n l)) l
-unfolding shifted
-shifted-joins zero i at m l h k e f = absurd (omega arith)
-shifted-joins (suc zero) i at m l h k e f = absurd (omega arith)
-shifted-joins (suc (suc p)) i at m l h k e f =
+pub lowered-joins : (n i at m : ℕ) (l : List ℕ) → i + 1 < n → 2 * n ≤ length l → at ≡ 2 * i + 1 → m + at + 2 ≡ 2 * n → lowered 2 at l m ≡ written (joinAt i (rangesIn n l)) l
+unfolding lowered
+lowered-joins zero i at m l h k e f = absurd (omega arith)
+lowered-joins (suc zero) i at m l h k e f = absurd (omega arith)
+lowered-joins (suc (suc p)) i at m l h k e f =
     let a : at ≡ suc (double i) = omega (arith, double-is i) in
     let b : m ≡ suc (double (p - i)) = omega (arith, double-is (p - i)) in
     let c : at + 2 ≡ suc (suc (suc (double i))) = omega arith in
@@ -90,10 +54,10 @@ remove′ zero q p (x ∷ y ∷ l) e h =
 remove′ (suc i) q zero (x ∷ y ∷ l) e h = absurd (omega arith)
 remove′ (suc i) q (suc p) (x ∷ y ∷ l) e h = ap (λ k. x ∷ y ∷ k) (remove′ i q p l (omega arith) (omega arith))
 
-pub shifted-removes : (n i m : ℕ) (l : List ℕ) → i < n → 2 * n ≤ length l → m + 2 * i + 2 ≡ 2 * n → shifted (2 * i) l m ≡ written (without i (rangesIn n l)) l
-unfolding shifted
-shifted-removes zero i m l h k f = absurd (omega arith)
-shifted-removes (suc p) i m l h k f =
+pub lowered-removes : (n i m : ℕ) (l : List ℕ) → i < n → 2 * n ≤ length l → m + 2 * i + 2 ≡ 2 * n → lowered 2 (2 * i) l m ≡ written (without i (rangesIn n l)) l
+unfolding lowered
+lowered-removes zero i m l h k f = absurd (omega arith)
+lowered-removes (suc p) i m l h k f =
     let a : 2 * i ≡ double i = omega (arith, double-is i) in
     let b : m ≡ double (p - i) = omega (arith, double-is (p - i)) in
     let c : 2 * i + 2 ≡ suc (suc (double i)) = omega arith in

@@ -17,13 +17,11 @@
 --   stateOf p l      the inner list that p and the lent list l say
 --   Stores ..        p and `after` say s, and `after` is `before` with the closed ranges of s, as many as p counts, at its front
 -- And for one step of the code:
---   shifted at l k   the list l, where k elements, from number `at` on, are those two places further on
-use Prim.Native.Nat.{ℕ, _+_, _-_, _≤_, _<_}
+use Prim.Native.Nat.{ℕ, _-_, _≤_, _<_}
 use mathlib.Core.Path.{_≡_}
 use mathlib.Core.Bool.{false, cond}
 use mathlib.Core.List.{List, [], map}
 use lib.ListN.{length, getD, drop}
-use lib.Seq.{paste}
 use Rattle.ranges_stored.specs.declared.MinHint.{MinHint}
 use Rattle.ranges_stored.specs.declared.Pending.{Pending}
 use Rattle.answer.specs.Lent.{put}
@@ -78,6 +76,3 @@ stateOf p l = cond (p .some) (growing (rangesIn (p .n) l) (range (p .low) (p .hi
 pub record Stores (s : Inner) (before after : List ℕ) (p : Pending) : Type 0 where
   pub state : stateOf p after ≡ s
   pub stored : Writes (closed s) before after (p .n)
-
-unfoldable pub shifted : ℕ → List ℕ → ℕ → List ℕ
-shifted at l k = paste l at (drop (at + 2) l) k

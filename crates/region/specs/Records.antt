@@ -1,5 +1,5 @@
 -- Records of a region file by kind and length, and the two styles of a file. Document 01, 'Regions' and 'What is sent back', 3; document 02, F-7.
---   shape r               the kind and the length in bytes of a record r: a header, a convex, a halfspace, the end, or a group of n halfspaces
+--   layout r              the kind and the length in bytes of a record r: a header, a convex, a halfspace, the end, or a group of n halfspaces
 --   kind r, size r        each of the two
 --   recordOf n len        the record of kind n and length len, or the refusal 3
 --   sameStyle s t         s and t are the same style, plain (kinds 2 and 3) or grouped (kind 5)
@@ -16,22 +16,22 @@ use Rattle.region.specs.declared.Style.{Style}
 use Rattle.region.specs.Building.{mostInConvex}
 
 -- the table of kinds and lengths
-pub record Shape : Type 0 where
+pub record Layout : Type 0 where
   pub kind : ℕ
   pub size : ℕ
 
-abbrev pub shape : Record → Shape
-shape Record.Header = record { kind = 1; size = 8 }
-shape Record.Convex = record { kind = 2; size = 4 }
-shape Record.Halfspace = record { kind = 3; size = 20 }
-shape Record.End = record { kind = 4; size = 4 }
-shape (Record.Group n) = record { kind = 5; size = 4 + 16 * n }
+abbrev pub layout : Record → Layout
+layout Record.Header = record { kind = 1; size = 8 }
+layout Record.Convex = record { kind = 2; size = 4 }
+layout Record.Halfspace = record { kind = 3; size = 20 }
+layout Record.End = record { kind = 4; size = 4 }
+layout (Record.Group n) = record { kind = 5; size = 4 + 16 * n }
 
 abbrev pub kind : Record → ℕ
-kind r = shape r .kind
+kind r = layout r .kind
 
 abbrev pub size : Record → ℕ
-size r = shape r .size
+size r = layout r .size
 
 -- a group has 1 to 100 halfspaces
 abbrev pub allowed : Record → Bool

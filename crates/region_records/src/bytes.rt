@@ -22,16 +22,15 @@ pub fn put_word(out: &mut [u8], at: usize, n: u32)
     out[at + 1] = (n / 256) as u8;
 }
 
+// So many numbers have 32 bits.
+const WORDS: i64 = 4294967296;
+
 // The 32 bits of a number with a sign.
 fn bits_of(z: i64) -> u32
     requires { ⌜ Upto Kℕ z ⌝ }
     ensures { λ r. ⌜ r ≡ bitsOf z ⌝ }
 {
-    if z < 0 {
-        (4294967296 + z) as u32
-    } else {
-        z as u32
-    }
+    if z < 0 { (WORDS + z) as u32 } else { z as u32 }
 }
 
 // Signed 32 bits at place `at`.

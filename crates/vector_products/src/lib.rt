@@ -95,13 +95,18 @@ fn within(a: i64) -> bool
     -K <= a && a <= K
 }
 
+// The squares of K - 2 and K + 2, between which the square length of a pointing lies.
+const SHORTEST_SQUARE: u64 = ((K - 2) * (K - 2)) as u64;
+
+const LONGEST_SQUARE: u64 = ((K + 2) * (K + 2)) as u64;
+
 // Whether the length of p is within K ± 2.
 fn is_long(p: Vec3) -> bool
     requires { ⌜ AtMost (2 ^ 22) p ⌝ }
     ensures { λ t. ⌜ t ≡ between ((K -ℤ pos 2) *ℤ (K -ℤ pos 2)) ((K +ℤ pos 2) *ℤ (K +ℤ pos 2)) (rule.dot p p) ⌝ }
 {
     let s = square_length(p);
-    1048574 * 1048574 <= s && s <= 1048578 * 1048578
+    SHORTEST_SQUARE <= s && s <= LONGEST_SQUARE
 }
 
 // The vector whose numbers begin at number k.

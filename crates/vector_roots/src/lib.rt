@@ -5,6 +5,34 @@ ghost use Prim.Native.Nat.{_+_, _-_, _*_, _/_, _^_, _≤_, _<_};
 ghost use lib.Dec.{leb, ltb};
 ghost use Rattle.vector.specs.Numbers.{root};
 
+const K: u64 = 1048576;
+
+// About the length of the sum of two near vectors.
+const TWO_K: u64 = 2 * K;
+
+// The same of three.
+const THREE_K: u64 = 3 * K;
+
+// The squares of both, and a number between them.
+const TWO_K_SQUARE: u64 = TWO_K * TWO_K;
+
+const THREE_K_SQUARE: u64 = THREE_K * THREE_K;
+
+const BETWEEN_SQUARES: u64 = 5 * K * K;
+
+// What a step from 2K toward the root divides by, and what rounds the quotient up.
+const FOUR_K: u64 = 2 * TWO_K;
+
+const UP_TO_FOUR_K: u64 = FOUR_K - 1;
+
+// The same for a step from 3K.
+const SIX_K: u64 = 2 * THREE_K;
+
+const UP_TO_SIX_K: u64 = SIX_K - 1;
+
+// No root is so large.
+const ABOVE_ROOTS: u64 = 8 * K;
+
 // The square root of s, rounded down: a guess, or Newton's step from it, or the step after, where that is the root.
 pub fn isqrt(s: u64) -> u64
     requires { ⌜ s < 2 ^ 46 ⌝ }
@@ -38,7 +66,7 @@ pub fn newton(s: u64, n: u64) -> u64
 fn guess(s: u64) -> u64
     ensures { λ r. ⌜ (2 ^ 19 ≤ r) × (r ≤ 2 ^ 22) ⌝ }
 {
-    if s < 5497558138880 {
+    if s < BETWEEN_SQUARES {
         near_two(s)
     } else {
         near_three(s)
@@ -49,24 +77,24 @@ fn guess(s: u64) -> u64
 pub fn near_two(s: u64) -> u64
     ensures { λ r. ⌜ (2 ^ 19 ≤ r) × (r ≤ 2 ^ 21) ⌝ }
 {
-    if s >= 4398046511104 {
-        return 2097152;
+    if s >= TWO_K_SQUARE {
+        return TWO_K;
     }
-    let e = 4398046511104 - s;
-    let f = e / 4194304;
-    2097152 - (e + f * f + 4194303) / 4194304
+    let e = TWO_K_SQUARE - s;
+    let f = e / FOUR_K;
+    TWO_K - (e + f * f + UP_TO_FOUR_K) / FOUR_K
 }
 
 // The same for s a little below (3K)².
 fn near_three(s: u64) -> u64
     ensures { λ r. ⌜ (2 ^ 19 ≤ r) × (r ≤ 2 ^ 22) ⌝ }
 {
-    if s >= 9895604649984 {
-        return 3145728;
+    if s >= THREE_K_SQUARE {
+        return THREE_K;
     }
-    let e = 9895604649984 - s;
-    let f = e / 6291456;
-    3145728 - (e + f * f + 6291455) / 6291456
+    let e = THREE_K_SQUARE - s;
+    let f = e / SIX_K;
+    THREE_K - (e + f * f + UP_TO_SIX_K) / SIX_K
 }
 
 // Whether r is the root of s: r² ≤ s < (r + 1)², where (r + 1)² is r² + 2r + 1.
@@ -84,7 +112,7 @@ fn bisected(s: u64) -> u64
     ensures { λ r. ⌜ r < 2 ^ 23 ⌝ }
 {
     let mut low: u64 = 0;
-    let mut high: u64 = 8388608;
+    let mut high: u64 = ABOVE_ROOTS;
     while low + 1 < high {
         let middle = (low + high) / 2;
         if middle * middle <= s {

@@ -1,6 +1,6 @@
 // Unsigned numbers of two words. The squares that classifying compares pass 64 bits. The rules stand in specs/.
 ghost use mathlib.Core.Path.{_≡_};
-ghost use Prim.Native.Nat.{_+_, _*_, _^_, _<_, _≤_};
+ghost use Prim.Native.Nat.{_+_, _-_, _*_, _^_, _<_, _≤_};
 ghost use lib.Dec.{ltb};
 ghost use Rattle.wide.specs.Value.{valueOf};
 
@@ -9,10 +9,13 @@ pub struct Wide {
     pub lo: u64,
 }
 
+// So many values has half a word: what a word is divided by into its halves.
+const HALF: u64 = 1 << 32;
+
 // A product of two halves of a word. A function of its own, so that its caller's needs are linear.
 fn mul32(a: u64, b: u64) -> u64
     requires { ⌜ (a < 2 ^ 32) × (b < 2 ^ 32) ⌝ }
-    ensures { λ r. ⌜ (r ≡ a * b) × (r ≤ 18446744065119617025) ⌝ }
+    ensures { λ r. ⌜ (r ≡ a * b) × (r ≤ (2 ^ 32 - 1) * (2 ^ 32 - 1)) ⌝ }
 {
     a * b
 }
@@ -21,18 +24,18 @@ fn mul32(a: u64, b: u64) -> u64
 pub fn product(u: u64, v: u64) -> Wide
     ensures { λ r. ⌜ valueOf r ≡ u * v ⌝ }
 {
-    let u0 = u % 0x1_0000_0000;
-    let u1 = u / 0x1_0000_0000;
-    let v0 = v % 0x1_0000_0000;
-    let v1 = v / 0x1_0000_0000;
+    let u0 = u % HALF;
+    let u1 = u / HALF;
+    let v0 = v % HALF;
+    let v1 = v / HALF;
     let p00 = mul32(u0, v0);
     let p10 = mul32(u1, v0);
     let p01 = mul32(u0, v1);
     let p11 = mul32(u1, v1);
-    let t = p10 + p00 / 0x1_0000_0000;
-    let w = t % 0x1_0000_0000 + p01;
-    let hi = p11 + t / 0x1_0000_0000 + w / 0x1_0000_0000;
-    let lo = w % 0x1_0000_0000 * 0x1_0000_0000 + p00 % 0x1_0000_0000;
+    let t = p10 + p00 / HALF;
+    let w = t % HALF + p01;
+    let hi = p11 + t / HALF + w / HALF;
+    let lo = w % HALF * HALF + p00 % HALF;
     Wide { hi: hi, lo: lo }
 }
 
@@ -41,7 +44,7 @@ pub fn sum(a: Wide, b: Wide) -> Wide
     requires { ⌜ valueOf a + valueOf b < 2 ^ 128 ⌝ }
     ensures { λ r. ⌜ valueOf r ≡ valueOf a + valueOf b ⌝ }
 {
-    let room = 0xFFFF_FFFF_FFFF_FFFF - b.lo;
+    let room = u64::MAX - b.lo;
     if a.lo <= room {
         return Wide {
             hi: a.hi + b.hi,

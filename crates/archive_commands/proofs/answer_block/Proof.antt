@@ -12,6 +12,13 @@ Inv-loop block index₀ line₀ out₀ state₀ i₀ i-end index line out state 
 abbrev μ-loop : tie.MeasureT-loop
 μ-loop block index₀ line₀ out₀ state₀ i₀ i-end index line out state i = length block - i
 
+-- Named anchors: the states that the proofs below read from, each named with a later state that leads back to it.
+abbrev at-loop-before-answer-byte-arg : tie.After-answer-byte-arg Inv-loop μ-loop → tie.At-loop Inv-loop μ-loop
+at-loop-before-answer-byte-arg c = c .before .before .before
+
+abbrev at-loop-before-answer-byte : tie.After-answer-byte Inv-loop μ-loop → tie.At-loop Inv-loop μ-loop
+at-loop-before-answer-byte c = at-loop-before-answer-byte-arg (c .before .before .before)
+
 pub answer-block-spec : {M : Type 1} → statement M
 answer-block-spec =
     tie.close
@@ -23,7 +30,7 @@ answer-block-spec =
     (λ c κs. tt)
     (λ c. omega arith)
     (λ c. omega arith)
-    (λ c. (omega arith, c .before .answer-byte .kept .1 .0 ∙ c .before .before .before .before .before .before .before .loop .inv .1))
+    (λ c. (omega arith, c .before .answer-byte .kept .1 .0 ∙ at-loop-before-answer-byte (c .before) .loop .inv .1))
     (λ c κs. tt)
     (λ c. c .before .before .before .before .loop .inv .1)
     (λ c. tt))

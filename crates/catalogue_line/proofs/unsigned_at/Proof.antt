@@ -16,6 +16,10 @@ use Rattle.catalogue_line.proofs.ReadingLaws.{inside, digit-inside, no-
 use Rattle.catalogue_line.proofs.unsigned_at.Statement.{statement}
 use Rattle.catalogue_line.proofs.unsigned_at.Tie as tie
 
+-- Named anchors: the states that the proofs below read from, each named with a later state that leads back to it.
+abbrev start-before-is-digit : tie.After-is-digit → tie.Start
+start-before-is-digit c = c .before .before .before
+
 not-whole : tie.Need-returns
 not-whole c =
     let b = c .before .before in
@@ -52,7 +56,7 @@ module _ (c : tie.Else2) where
 no-dot : tie.Need-returns-2
 no-dot c =
     let e = c .before .before in
-    sym (no-point (e .before .before .before .before .args .negative) (line e) (at e) (λ q. c .if2 .taken (c .before .byte-at2 .ensures ∙ q)))
+    sym (no-point (start-before-is-digit (e .before) .args .negative) (line e) (at e) (λ q. c .if2 .taken (c .before .byte-at2 .ensures ∙ q)))
 
 -- and what the digits are
 read : (c : tie.After-digits) → let e = c .before .before .before in Reads (getD (line e) (at e) 0 - digit0) (at e + 2) (line e) (c .digits .result)
@@ -62,13 +66,13 @@ none : tie.Need-returns-3
 none c =
     let d = c .before .before in
     let e = d .before .before .before in
-    sym (no-digits-there (e .before .before .before .before .args .negative) (line e) (at e) (bit e) (dotted (d .before)) (omega (arith, c .if3 .taken, read d .next)))
+    sym (no-digits-there (start-before-is-digit (e .before) .args .negative) (line e) (at e) (bit e) (dotted (d .before)) (omega (arith, c .if3 .taken, read d .next)))
 
 some : tie.Need-returns-4
 some c =
     let d = c .before .before .before in
     let e = d .before .before .before in
-    decimal-there (e .before .before .before .before .args .negative) (line e) (at e) (bit e) (dotted (d .before)) (d .digits .result) (read d) (omega (arith, c .before .if3 .left, read d .next))
+    decimal-there (start-before-is-digit (e .before) .args .negative) (line e) (at e) (bit e) (dotted (d .before)) (d .digits .result) (read d) (omega (arith, c .before .if3 .left, read d .next))
     (toZ-ofZ (sfits w64 (c .scaled .ensures .1) tt) ∙ c .scaled .ensures .0)
 
 pub unsigned-at-spec : {M : Type 1} → statement M

@@ -16,6 +16,13 @@ Inv-loop r xs from end ys₀ w most i₀ m₀ ys i m = (length ys ≡ length ys�
 abbrev μ-loop : tie.MeasureT-loop
 μ-loop r xs from end ys₀ w most i₀ m₀ ys i m = end - i
 
+-- Named anchors: the states that the proofs below read from, each named with a later state that leads back to it.
+abbrev at-loop-before-prepared-at : tie.After-prepared-at Inv-loop μ-loop → tie.At-loop Inv-loop μ-loop
+at-loop-before-prepared-at c = c .before .before .before
+
+abbrev at-loop-before-else2 : tie.Else2 Inv-loop μ-loop → tie.At-loop Inv-loop μ-loop
+at-loop-before-else2 c = at-loop-before-prepared-at (c .before .before .before)
+
 -- the halfspace is sound
 sound : (c : tie.After-prepared-at Inv-loop μ-loop) → SoundHalfspace (c .prepared-at .result)
 sound c =
@@ -27,7 +34,7 @@ sound c =
 returns-2 : tie.Need-returns-2 Inv-loop μ-loop
 returns-2 c v a =
     let k = c .before .before in
-    let l = c .before .before .before .before .before .before in
+    let l = at-loop-before-prepared-at (k .before) in
     let p = l .loop .inv .1 v a in
     (p .stored, p .stores, next-outside _ _ _ _ _ _ (next-halfspace _ _ _ _ _ _ (l .before .pre .0 .0) _ _ _ p (omega arith)) (k .before .prepared-at .ensures) (k .settled-class .ensures) (c .before .is-outside .ensures) (c .if2 .taken))
 
@@ -36,7 +43,7 @@ loop-again : tie.Need-loop-again Inv-loop μ-loop
 loop-again c =
     let o = c .before .before .before .before in
     let k = o .before in
-    let l = k .before .before .before .before in (
+    let l = at-loop-before-prepared-at (k .before) in (
       c .before .store-active .kept .0 ∙ l .loop .inv .0,
       λ v a.
           next-stored _ _ _ _ _ _ (next-halfspace _ _ _ _ _ _ (l .before .pre .0 .0) _ _ _ (l .loop .inv .1 v a) (omega arith)) (k .before .prepared-at .ensures) (k .settled-class .ensures) (o .is-outside .ensures)
@@ -56,9 +63,9 @@ active-in-convex-spec =
     (λ c κs. let l = c .before .before in let s = l .before in next-halfspace _ _ _ _ _ _ (s .pre .0 .0) _ _ _ (l .loop .inv .1 (s .pre .1 .0) (s .pre .1 .1)) (omega arith) .room)
     (λ c κs. (sound c, c .before .before .before .before .pre .0 .0))
     (λ c κs. tt)
-    (λ c. c .before .before .before .before .before .before .loop .inv .0)
+    (λ c. at-loop-before-prepared-at (c .before .before .before) .loop .inv .0)
     returns-2
-    (λ c κs. let l = c .before .before .before .before .before .before .before in omega (arith, l .loop .inv .0))
+    (λ c κs. let l = at-loop-before-else2 (c .before) in omega (arith, l .loop .inv .0))
     (λ c. omega arith)
     (λ c. omega arith)
     loop-again

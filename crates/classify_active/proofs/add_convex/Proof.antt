@@ -6,11 +6,18 @@ use Rattle.classify_active.proofs.ActiveRegionLaws.{end-read, some-conv
 use Rattle.classify_active.proofs.add_convex.Statement.{statement}
 use Rattle.classify_active.proofs.add_convex.Tie as tie
 
+-- Named anchors: the states that the proofs below read from, each named with a later state that leads back to it.
+abbrev start-before-shared-slice-known2 : tie.After-shared-slice-known2 → tie.Start
+start-before-shared-slice-known2 c = c .before .before .before
+
+abbrev active-in-convex-before-o : tie.After-o → tie.After-active-in-convex
+active-in-convex-before-o c = c .before .before .before
+
 -- the next place for an end
 place : tie.Need-slice-write-stops
 place c =
-    let o = c .before .before .before .before .before in
-    let s = o .before .before .before .before .before in
+    let o = active-in-convex-before-o (c .before .before) in
+    let s = start-before-shared-slice-known2 (o .before .before) in
     let a = s .pre .1 .3 in
     let f = add-active _ _ _ _ _ (s .pre .1 .1) a (o .active-in-convex .ensures) (c .before .before .o .given .1) (omega arith) .0 in
     omega (arith, a .wide)
@@ -21,7 +28,7 @@ add-convex-spec =
     (tie.spec
     (λ c. let s = c .before .before in let h = end-read _ _ _ _ _ (s .pre .1 .1) (s .pre .1 .3) in omega arith)
     (λ c. let s = c .before .before .before in end-read _ _ _ _ _ (s .pre .1 .1) (s .pre .1 .3))
-    (λ c κs. let s = c .before .before .before .before in let a = s .pre .1 .3 in ((s .pre .0 .0, a .few, a .long, s .pre .0 .1), some-convex _ _ _ _ _ (s .pre .1 .1) a))
+    (λ c κs. let s = start-before-shared-slice-known2 (c .before) in let a = s .pre .1 .3 in ((s .pre .0 .0, a .few, a .long, s .pre .0 .1), some-convex _ _ _ _ _ (s .pre .1 .1) a))
     (λ c. search needs)
     (λ c. search needs)
     (λ c. search needs)
@@ -37,5 +44,5 @@ add-convex-spec =
     (λ c. search needs)
     (λ c. search needs)
     (λ c n g h a e.
-    let o = c .before .before .before .before .before in
+    let o = active-in-convex-before-o (c .before .before) in
     add-active _ _ _ _ g h a (o .active-in-convex .ensures) (c .before .before .o .given .1) (omega arith) .1))

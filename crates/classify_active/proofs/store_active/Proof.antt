@@ -5,9 +5,13 @@ use Rattle.classify_active.specs.Active.{activeStoredCount, activeStored
 use Rattle.classify_active.proofs.store_active.Statement.{statement}
 use Rattle.classify_active.proofs.store_active.Tie as tie
 
+-- Named anchors: the states that the proofs below read from, each named with a later state that leads back to it.
+abbrev start-before-store-arg : tie.After-store-arg → tie.Start
+start-before-store-arg c = c .before .before .before
+
 returns-3 : tie.Need-returns-3
 returns-3 c =
-    let s = c .before .before .before .before .before .args in
+    let s = start-before-store-arg (c .before .before) .args in
     let told = c .before .before .before .enum-told3 .given .1 in
     (ap (λ k. activeStoredCount k (s .w)) (sym told), c .before .store .ensures ∙ ap (λ k. activeStoredList k (s .w) (s .q) (s .active .now)) (sym told))
 

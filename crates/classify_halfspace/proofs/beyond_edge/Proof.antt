@@ -18,6 +18,10 @@ use Rattle.classify_halfspace.proofs.EdgeLaws.{normal-rest, edge-is}
 use Rattle.classify_halfspace.proofs.beyond_edge.Statement.{statement}
 use Rattle.classify_halfspace.proofs.beyond_edge.Tie as tie
 
+-- Named anchors: the states that the proofs below read from, each named with a later state that leads back to it.
+abbrev start-before-dot : tie.After-dot → tie.Start
+start-before-dot c = c .before .before .before
+
 -- P is within ±K
 normal-small : (c : tie.After-vec-in) → Small (c .vec-in .result)
 normal-small c = subst Small (sym (c .vec-in .ensures)) (c .before .before .pre .1 .1)
@@ -33,7 +37,7 @@ normal c = subst Rest (sym (c .dot2 .ensures .0)) (normal-rest (normal-small (c 
 beyond-requires : tie.Need-square-exceeds-requires
 beyond-requires c κs =
     let z = is-sub (lit 0 tt) (held (along (c .before .before)) tt) tt in
-    let p = rest-prepared (c .before .before .before .before .before .pre .0) in
+    let p = rest-prepared (start-before-dot (c .before .before) .pre .0) in
     let q = normal (c .before) in
     (rw (z .eq) (upto-mono (lit≤ tt) (z .size)), (rw (held (p .size) tt .eq) p, rw (held (q .size) tt .eq) q))
 

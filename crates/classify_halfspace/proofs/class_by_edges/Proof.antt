@@ -12,6 +12,13 @@ use Rattle.classify_halfspace.proofs.EdgeLaws.{first-beyond, second-bey
 use Rattle.classify_halfspace.proofs.class_by_edges.Statement.{statement}
 use Rattle.classify_halfspace.proofs.class_by_edges.Tie as tie
 
+-- Named anchors: the states that the proofs below read from, each named with a later state that leads back to it.
+abbrev start-before-beyond-edge2 : tie.After-beyond-edge2 → tie.Start
+start-before-beyond-edge2 c = c .before .before .before
+
+abbrev start-before-then3 : tie.Then3 → tie.Start
+start-before-then3 c = start-before-beyond-edge2 (c .before .before .before)
+
 -- an edge that was asked, as the trixel has it
 module _ (s : tie.Start) {b x : Bool} where
   edge : {p r : Vec3} → r ≡ p → b ≡ beyondEdge (s .args .q .f) (s .args .q .low) r → b ≡ x → beyondEdge (s .args .q .f) (s .args .q .low) p ≡ x
@@ -25,13 +32,13 @@ returns c =
 
 returns-2 : tie.Need-returns-2
 returns-2 c =
-    let s = c .before .before .before .before .before .before in
+    let s = start-before-beyond-edge2 (c .before .before .before) in
     c .class-apart2 .ensures ∙ ap classApart (held (sound-offset (s .pre .1)) tt .eq)
     ∙ sym (second-beyond (s .args .q) (s .args .t) (edge s (s .pre .0 .p1) (c .before .before .before .beyond-edge2 .ensures) (c .before .before .if2 .taken)))
 
 returns-3 : tie.Need-returns-3
 returns-3 c =
-    let s = c .before .before .before .before .before .before .before .before in
+    let s = start-before-then3 (c .before .before) in
     c .class-apart3 .ensures ∙ ap classApart (held (sound-offset (s .pre .1)) tt .eq)
     ∙ sym (third-beyond (s .args .q) (s .args .t) (edge s (s .pre .0 .p2) (c .before .before .before .beyond-edge3 .ensures) (c .before .before .if3 .taken)))
 
@@ -55,7 +62,7 @@ class-by-edges-spec =
     (λ c κs. let s = c .before .before in let n = s .pre .0 in (s .pre .1, (omega (arith, n .room), subst Small (sym (n .p1)) (n .small .p1))))
     (λ c κs. tt)
     returns-2
-    (λ c κs. let s = c .before .before .before .before in let n = s .pre .0 in (s .pre .1, (omega (arith, n .room), subst Small (sym (n .p2)) (n .small .p2))))
+    (λ c κs. let s = start-before-beyond-edge2 (c .before) in let n = s .pre .0 in (s .pre .1, (omega (arith, n .room), subst Small (sym (n .p2)) (n .small .p2))))
     (λ c κs. tt)
     returns-3
     returns-4)

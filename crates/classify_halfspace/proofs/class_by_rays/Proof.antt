@@ -16,6 +16,13 @@ use Rattle.classify_halfspace.proofs.EdgeLaws.{flat}
 use Rattle.classify_halfspace.proofs.class_by_rays.Statement.{statement}
 use Rattle.classify_halfspace.proofs.class_by_rays.Tie as tie
 
+-- Named anchors: the states that the proofs below read from, each named with a later state that leads back to it.
+abbrev start-before-all-pass : tie.After-all-pass → tie.Start
+start-before-all-pass c = c .before .before .before
+
+abbrev start-before-else1 : tie.Else1 → tie.Start
+start-before-else1 c = start-before-all-pass (c .before)
+
 oriented : (c : tie.Start) → positive (volume (c .args .t)) ≡ true
 oriented c = sym (c .pre .0 .0 .oriented) ∙ c .pre .0 .1
 
@@ -32,13 +39,13 @@ returns c =
     c .class-within .ensures ∙ ap classWithin (held (sound-offset (s .pre .1 .1)) tt .eq) ∙ sym (rays-within (s .args .q) (s .args .t) (oriented s) (sym (rays a) ∙ c .before .before .if1 .taken))
 
 -- where not all pass, the class is that by the edges
-edges : (c : tie.Else1) → raysClass (c .before .before .before .before .args .q) (c .before .before .before .before .args .t) ≡ edgesClass (c .before .before .before .before .args .q) (c .before .before .before .before .args .t)
-edges c = let s = c .before .before .before .before in rays-edges (s .args .q) (s .args .t) (oriented s) (sym (rays (c .before)) ∙ c .if1 .left)
+edges : (c : tie.Else1) → raysClass (start-before-all-pass (c .before) .args .q) (start-before-all-pass (c .before) .args .t) ≡ edgesClass (start-before-all-pass (c .before) .args .q) (start-before-all-pass (c .before) .args .t)
+edges c = let s = start-before-all-pass (c .before) in rays-edges (s .args .q) (s .args .t) (oriented s) (sym (rays (c .before)) ∙ c .if1 .left)
 
 returns-2 : tie.Need-returns-2
 returns-2 c =
     let e = c .before .before .before in
-    let s = e .before .before .before .before in
+    let s = start-before-all-pass (e .before) in
     sym (edges e ∙ flat (s .args .q) (s .args .t) (s .pre .1 .1) (ap (λ z. leZ z (pos 0)) (sym (held (sound-beside (s .pre .1 .1) .size) tt .eq)) ∙ c .if2 .taken))
 
 pub class-by-rays-spec : {M : Type 1} → statement M
@@ -49,5 +56,5 @@ class-by-rays-spec =
     (λ c κs. tt)
     returns
     returns-2
-    (λ c κs. c .before .before .before .before .before .before .before .pre .1)
+    (λ c κs. start-before-else1 (c .before .before .before) .pre .1)
     (λ c. c .class-by-edges .ensures ∙ sym (edges (c .before .before .before .before))))

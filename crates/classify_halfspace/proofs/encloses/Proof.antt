@@ -19,6 +19,58 @@ use Rattle.classify_halfspace.proofs.FarLaws.{rest-prepared, cap-rest, 
 use Rattle.classify_halfspace.proofs.encloses.Statement.{statement}
 use Rattle.classify_halfspace.proofs.encloses.Tie as tie
 
+-- Named anchors: the states that the proofs below read from, each named with a later state that leads back to it.
+abbrev start-before-f : tie.After-f → tie.Start
+start-before-f c = c .before .before .before
+
+abbrev else1-before-dot : tie.After-dot → tie.Else1
+else1-before-dot c = c .before .before .before
+
+abbrev else1-before-known3 : tie.After-struct-known3 → tie.Else1
+else1-before-known3 c = else1-before-dot (c .before .before .before)
+
+abbrev else1-before-told2 : tie.After-struct-told2 → tie.Else1
+else1-before-told2 c = else1-before-known3 (c .before)
+
+abbrev else1-before-else2 : tie.Else2 → tie.Else1
+else1-before-else2 c = else1-before-told2 (c .before .before .before)
+
+abbrev else1-before-else3 : tie.Else3 → tie.Else1
+else1-before-else3 c = else1-before-else2 (c .before .before .before)
+
+abbrev else1-before-known7 : tie.After-struct-known7 → tie.Else1
+else1-before-known7 c = else1-before-else3 (c .before .before .before)
+
+abbrev else1-before-told7 : tie.After-struct-told7 → tie.Else1
+else1-before-told7 c = else1-before-known7 (c .before .before .before)
+
+abbrev dot-before-known3 : tie.After-struct-known3 → tie.After-dot
+dot-before-known3 c = c .before .before .before
+
+abbrev dot-before-told3 : tie.After-struct-told3 → tie.After-dot
+dot-before-told3 c = dot-before-known3 (c .before .before .before)
+
+abbrev dot-before-told4 : tie.After-struct-told4 → tie.After-dot
+dot-before-told4 c = dot-before-told3 (c .before .before .before)
+
+abbrev dot-before-told5 : tie.After-struct-told5 → tie.After-dot
+dot-before-told5 c = dot-before-told4 (c .before .before .before)
+
+abbrev dot-before-known8 : tie.After-struct-known8 → tie.After-dot
+dot-before-known8 c = dot-before-told5 (c .before .before .before)
+
+abbrev dot-before-else4 : tie.Else4 → tie.After-dot
+dot-before-else4 c = dot-before-known8 (c .before .before)
+
+abbrev else3-before-known6 : tie.After-struct-known6 → tie.Else3
+else3-before-known6 c = c .before
+
+abbrev else3-before-told6 : tie.After-struct-told6 → tie.Else3
+else3-before-told6 c = else3-before-known6 (c .before .before .before)
+
+abbrev else3-before-else4 : tie.Else4 → tie.Else3
+else3-before-else4 c = else3-before-told6 (c .before .before .before)
+
 half : (c : tie.Start) → Beside (c .args .q .f) (c .args .q .low) (c .args .q .rest)
 half c = sound-beside (c .pre .0)
 
@@ -30,7 +82,7 @@ rest c = cap-rest (c .before .before .pre .1) (not-false _ (c .if1 .left)) .size
 
 -- f·b
 along : (c : tie.After-dot) → Upto (Kℕ * Kℕ + Kℕ * Kℕ + Kℕ * Kℕ) (c .dot .result)
-along c = subst (Upto (Kℕ * Kℕ + Kℕ * Kℕ + Kℕ * Kℕ)) (sym (c .dot .ensures .0)) (dot-upto (half (c .before .before .before .before .before) .small) (cap (c .before .before .before) .small))
+along c = subst (Upto (Kℕ * Kℕ + Kℕ * Kℕ + Kℕ * Kℕ)) (sym (c .dot .ensures .0)) (dot-upto (half (start-before-f (c .before .before)) .small) (cap (c .before .before .before) .small))
 
 -- where b is not ahead, and where it is
 behind : tie.Need-returns
@@ -42,8 +94,8 @@ in-front c b = and-then b (sym (c .before .before .pre .1 .ahead) ∙ not-false 
 -- beyond the clearance
 returns-2 : tie.Need-returns-2
 returns-2 c =
-    let d = c .before .before .before .before .before .before .before in
-    let e = c .before .before .before .before .before .before .before .before .before .before in
+    let d = dot-before-told3 (c .before) in
+    let e = d .before .before .before in
     let s = e .before .before in
     let a = not-false _ (e .if1 .left) in
     let z = is-sub (held (along d) tt) (is-mul (held (sound-near (s .pre .0)) tt) (held (cap e .size) tt) tt) tt in
@@ -53,20 +105,20 @@ returns-2 c =
 
 returns-3 : tie.Need-returns-3
 returns-3 c =
-    let e = c .before .before .before .before .before .before .before .before .before .before .before .before .before in
+    let e = else1-before-else2 (c .before .before .before) in
     let s = e .before .before in
     no-rest (s .args .q) (s .pre .1) (not-false _ (e .if1 .left)) (ap (λ x. leZ x (pos 0)) (sym (held (rest e) tt .eq)) ∙ c .if3 .taken) ∙ in-front e _
 
 mul-if4 : tie.Need-mul-if4
 mul-if4 c =
-    let e = c .before .before .before .before .before .before .before .before .before .before .before .before .before .before .before in
-    fits-mul (is-sub (held (along (c .before .before .before .before .before .before .before .before .before .before .before .before)) tt) (is-mul (held (sound-near (e .before .before .pre .0)) tt) (held (cap e .size) tt) tt) tt) (held (cap e .size) tt) tt
+    let e = else1-before-else3 (c .before .before) in
+    fits-mul (is-sub (held (along (dot-before-told4 (c .before .before .before))) tt) (is-mul (held (sound-near (e .before .before .pre .0)) tt) (held (cap e .size) tt) tt) tt) (held (cap e .size) tt) tt
 
 -- M·E against S·G, by the numbers themselves
 returns-4 : tie.Need-returns-4
 returns-4 c =
-    let d = c .before .before .before .before .before .before .before .before .before .before .before .before .before .before .before .before .before in
-    let e = c .before .before .before .before .before .before .before .before .before .before .before .before .before .before .before .before .before .before .before .before in
+    let d = dot-before-known8 (c .before .before) in
+    let e = d .before .before .before in
     let s = e .before .before in
     let high = held (sound-near (s .pre .0)) tt in
     let reach = held (cap e .size) tt in
@@ -77,17 +129,17 @@ returns-4 c =
 
 beyond-requires : tie.Need-square-exceeds-requires
 beyond-requires c κs =
-    let e = c .before .before .before .before .before .before .before .before .before .before .before .before .before .before .before .before .before .before .before .before .before .before in
+    let e = else1-before-told7 (c .before .before .before) in
     let s = e .before .before in
-    let z = is-sub (held (along (c .before .before .before .before .before .before .before .before .before .before .before .before .before .before .before .before .before .before .before)) tt) (is-mul (held (sound-near (s .pre .0)) tt) (held (cap e .size) tt) tt) tt in
+    let z = is-sub (held (along (dot-before-else4 (c .before .before))) tt) (is-mul (held (sound-near (s .pre .0)) tt) (held (cap e .size) tt) tt) tt in
     let p = rest-prepared (s .pre .0) in
     let q = cap-rest (s .pre .1) (not-false _ (e .if1 .left)) in
     (rw (z .eq) (upto-mono (lit≤ tt) (z .size)), (rw (held (p .size) tt .eq) p, rw (held (q .size) tt .eq) q))
 
 returns-5 : tie.Need-returns-5
 returns-5 c =
-    let d = c .before .before .before .before .before .before .before .before .before .before .before .before .before .before .before .before .before .before .before .before in
-    let e = c .before .before .before .before .before .before .before .before .before .before .before .before .before .before .before .before .before .before .before .before .before .before .before in
+    let d = dot-before-else4 (c .before .before .before) in
+    let e = d .before .before .before in
     let s = e .before .before in
     let high = held (sound-near (s .pre .0)) tt in
     let reach = held (cap e .size) tt in
@@ -97,7 +149,7 @@ returns-5 c =
     c .square-exceeds .ensures
     ∙ (λ i. positive (z .eq i) && ltZ (p .eq i *ℤ q .eq i) (z .eq i *ℤ z .eq i))
     ∙ enclosed-is (s .pre .0) (s .pre .1) (not-false _ (e .if1 .left)) (ap (λ x. x -ℤ s .args .q .high *ℤ s .args .m .reach) (d .dot .ensures .0))
-    (ap (λ x. leZ x (pos 0)) (sym (q .eq)) ∙ c .before .before .before .before .before .before .before .before .before .before .if3 .left)
+    (ap (λ x. leZ x (pos 0)) (sym (q .eq)) ∙ else3-before-else4 (c .before .before .before) .if3 .left)
     (sym (same-lt (is-mul z reach tt) (is-mul q high tt)) ∙ c .before .before .before .if4 .left)
     ∙ in-front e _
 
@@ -106,13 +158,13 @@ encloses-spec =
     tie.close
     (tie.spec
     behind
-    (λ c κs. (half (c .before .before .before .before) .small, at-most-mono (lit≤ tt) (cap (c .before .before) .small)))
-    (λ c. let e = c .before .before .before .before .before .before .before in fits-mul (held (sound-near (e .before .before .pre .0)) tt) (held (cap e .size) tt) tt)
-    (λ c. let e = c .before .before .before .before .before .before .before in fits-sub (held (along (c .before .before .before .before)) tt) (is-mul (held (sound-near (e .before .before .pre .0)) tt) (held (cap e .size) tt) tt) tt)
+    (λ c κs. (half (start-before-f (c .before)) .small, at-most-mono (lit≤ tt) (cap (c .before .before) .small)))
+    (λ c. let e = else1-before-known3 (c .before) in fits-mul (held (sound-near (e .before .before .pre .0)) tt) (held (cap e .size) tt) tt)
+    (λ c. let e = else1-before-known3 (c .before) in fits-sub (held (along (dot-before-known3 (c .before))) tt) (is-mul (held (sound-near (e .before .before .pre .0)) tt) (held (cap e .size) tt) tt) tt)
     returns-2
     returns-3
     mul-if4
-    (λ c. let e = c .before .before .before .before .before .before .before .before .before .before .before .before .before .before .before .before .before .before .before in fits-mul (held (rest e) tt) (held (sound-near (e .before .before .pre .0)) tt) tt)
+    (λ c. let e = else1-before-known7 (c .before .before .before) in fits-mul (held (rest e) tt) (held (sound-near (e .before .before .pre .0)) tt) tt)
     returns-4
     beyond-requires
     returns-5)

@@ -17,6 +17,25 @@ use Rattle.classify_halfspace.proofs.FarLaws.{rest-prepared, cap-rest, 
 use Rattle.classify_halfspace.proofs.far.Statement.{statement}
 use Rattle.classify_halfspace.proofs.far.Tie as tie
 
+-- Named anchors: the states that the proofs below read from, each named with a later state that leads back to it.
+abbrev start-before-f : tie.After-f → tie.Start
+start-before-f c = c .before .before .before
+
+abbrev start-before-told : tie.After-struct-told → tie.Start
+start-before-told c = start-before-f (c .before .before .before)
+
+abbrev else1-before-known2 : tie.After-struct-known2 → tie.Else1
+else1-before-known2 c = c .before .before .before
+
+abbrev else1-before-told2 : tie.After-struct-told2 → tie.Else1
+else1-before-told2 c = else1-before-known2 (c .before .before .before)
+
+abbrev else1-before-told3 : tie.After-struct-told3 → tie.Else1
+else1-before-told3 c = else1-before-told2 (c .before .before .before)
+
+abbrev dot-before-else2 : tie.Else2 → tie.After-dot
+dot-before-else2 c = c .before .before .before
+
 half : (c : tie.Start) → Beside (c .args .q .f) (c .args .q .low) (c .args .q .rest)
 half c = sound-beside (c .pre .0)
 
@@ -25,14 +44,14 @@ cap c = cap-beside (c .before .before .pre .1) (not-false _ (c .if1 .left))
 
 -- c
 along : (c : tie.After-dot) → Upto (Kℕ * Kℕ + Kℕ * Kℕ + Kℕ * Kℕ) (c .dot .result)
-along c = subst (Upto (Kℕ * Kℕ + Kℕ * Kℕ + Kℕ * Kℕ)) (sym (c .dot .ensures .0)) (dot-upto (half (c .before .before .before .before .before .before .before .before .before) .small) (cap (c .before .before .before .before .before .before .before) .small))
+along c = subst (Upto (Kℕ * Kℕ + Kℕ * Kℕ + Kℕ * Kℕ)) (sym (c .dot .ensures .0)) (dot-upto (half (start-before-told (c .before .before .before)) .small) (cap (else1-before-told2 (c .before)) .small))
 
 -- beyond the clearance
 returns-2 : tie.Need-returns-2
 returns-2 c =
     let d = c .before .before .before in
-    let e = c .before .before .before .before .before .before .before .before .before .before in
-    let s = c .before .before .before .before .before .before .before .before .before .before .before .before in
+    let e = else1-before-told2 (d .before) in
+    let s = e .before .before in
     let a = not-false _ (e .if1 .left) in
     let z = is-sub (is-mul (held (half s .size) tt) (held (cap e .size) tt) tt) (held (along d) tt) tt in
     let l = sym (same-le (held (cap-clearance (s .pre .1) a) tt) z) ∙ c .if2 .taken in
@@ -41,18 +60,18 @@ returns-2 c =
 
 beyond-requires : tie.Need-square-exceeds-requires
 beyond-requires c κs =
-    let e = c .before .before .before .before .before .before .before .before .before .before .before .before in
-    let s = c .before .before .before .before .before .before .before .before .before .before .before .before .before .before in
-    let z = is-sub (is-mul (held (half s .size) tt) (held (cap e .size) tt) tt) (held (c .before .before .before .before .before .dot .ensures .1) tt) tt in
+    let e = else1-before-told3 (c .before .before .before) in
+    let s = e .before .before in
+    let z = is-sub (is-mul (held (half s .size) tt) (held (cap e .size) tt) tt) (held (dot-before-else2 (c .before .before) .dot .ensures .1) tt) tt in
     let p = rest-prepared (s .pre .0) in
     let q = cap-rest (s .pre .1) (not-false _ (e .if1 .left)) in
     (rw (z .eq) (upto-mono (lit≤ tt) (z .size)), (rw (held (p .size) tt .eq) p, rw (held (q .size) tt .eq) q))
 
 returns-3 : tie.Need-returns-3
 returns-3 c =
-    let d = c .before .before .before .before .before .before in
-    let e = c .before .before .before .before .before .before .before .before .before .before .before .before .before in
-    let s = c .before .before .before .before .before .before .before .before .before .before .before .before .before .before .before in
+    let d = dot-before-else2 (c .before .before .before) in
+    let e = else1-before-told2 (d .before) in
+    let s = e .before .before in
     let a = not-false _ (e .if1 .left) in
     let z = is-sub (is-mul (held (half s .size) tt) (held (cap e .size) tt) tt) (held (d .dot .ensures .1) tt) tt in
     let p = held (rest-prepared (s .pre .0) .size) tt in
@@ -67,9 +86,9 @@ far-spec =
     tie.close
     (tie.spec
     (λ c. sym (and-no-left _ (sym (c .before .before .pre .1 .ahead) ∙ not-true _ (c .if1 .taken))))
-    (λ c. let e = c .before .before .before .before .before .before in fits-mul (held (half (c .before .before .before .before .before .before .before .before) .size) tt) (held (cap e .size) tt) tt)
-    (λ c κs. (half (c .before .before .before .before .before .before .before .before) .small, at-most-mono (lit≤ tt) (cap (c .before .before .before .before .before .before) .small)))
-    (λ c. fits-sub (is-mul (held (half (c .before .before .before .before .before .before .before .before .before) .size) tt) (held (cap (c .before .before .before .before .before .before .before) .size) tt) tt) (held (c .dot .ensures .1) tt) tt)
+    (λ c. let e = else1-before-known2 (c .before .before .before) in fits-mul (held (half (e .before .before) .size) tt) (held (cap e .size) tt) tt)
+    (λ c κs. (half (start-before-told (c .before .before)) .small, at-most-mono (lit≤ tt) (cap (else1-before-known2 (c .before .before .before)) .small)))
+    (λ c. fits-sub (is-mul (held (half (start-before-told (c .before .before .before)) .size) tt) (held (cap (else1-before-told2 (c .before)) .size) tt) tt) (held (c .dot .ensures .1) tt) tt)
     returns-2
     beyond-requires
     returns-3)

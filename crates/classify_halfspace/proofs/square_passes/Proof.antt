@@ -7,6 +7,10 @@ use Rattle.algebra.proofs.Filters.{square-surely, square-surely-not, square-lar
 use Rattle.classify_halfspace.proofs.square_passes.Statement.{statement}
 use Rattle.classify_halfspace.proofs.square_passes.Tie as tie
 
+-- Named anchors: the states that the proofs below read from, each named with a later state that leads back to it.
+abbrev start-before-else2 : tie.Else2 → tie.Start
+start-before-else2 c = c .before .before .before
+
 pub square-passes-spec : {M : Type 1} → statement M
 square-passes-spec =
     tie.close
@@ -21,7 +25,7 @@ square-passes-spec =
     (λ c. record { fits = omega arith })
     (λ c κs. (omega arith, omega arith, omega arith))
     (λ c.
-    let a = c .before .before .before .before .before .args in
+    let a = start-before-else2 (c .before .before) .args in
     sym (le-ltb _ _ (le-of-lt (square-surely-not (a .m) (a .p) (a .q) (leb-true _ _ (sym (c .before .square-within .ensures) ∙ c .if3 .taken))))))
     (λ c κs. tt)
     (λ c. c .square-passes-exactly .ensures))

@@ -19,6 +19,10 @@ use Rattle.classify_rays.proofs.RayLaws.{ray-most, filter-right}
 use Rattle.classify_rays.proofs.passes.Statement.{statement}
 use Rattle.classify_rays.proofs.passes.Tie as tie
 
+-- Named anchors: the states that the proofs below read from, each named with a later state that leads back to it.
+abbrev start-before-else1 : tie.Else1 → tie.Start
+start-before-else1 c = c .before .before .before
+
 -- f·r, as its bits have it
 product : (c : tie.After-dot) → toZ w64 (ofZ w64 (c .dot .result)) ≡ dot (c .before .before .args .f) (c .before .before .args .y .r)
 product c = held (c .dot .ensures .1) tt .eq ∙ c .dot .ensures .0
@@ -27,7 +31,7 @@ tested : (c : tie.After-dot) {t : Bool} → leZ (toZ w64 (ofZ w64 (c .dot .resul
 tested c e = sym (ap (λ z. leZ z (pos 0)) (product c)) ∙ e
 
 -- the squares that are compared are the test, where f·r > 0
-squares : (c : tie.After-size) → let s = c .before .before .before .before in let n = natAbs (toZ w64 (ofZ w64 (c .before .before .dot .result))) in leb (c .size .result * c .size .result * squareOf (s .args .y)) (n * n) ≡ passes (s .args .f) (s .args .g) (s .args .y .r)
+squares : (c : tie.After-size) → let s = start-before-else1 (c .before) in let n = natAbs (toZ w64 (ofZ w64 (c .before .before .dot .result))) in leb (c .size .result * c .size .result * squareOf (s .args .y)) (n * n) ≡ passes (s .args .f) (s .args .g) (s .args .y .r)
 unfolding passes
 squares c =
     let d = c .before .before in
@@ -40,7 +44,7 @@ squares c =
     ∙ and-then _ (yes-lt (no-le {a = dot (s .args .f) r} {b = pos 0} (tested d (c .before .if1 .left))))
 
 size-most : (c : tie.After-size) → c .size .result ≤ 2 ^ 21
-size-most c = subst (λ n. n ≤ 2 ^ 21) (sym (c .size .ensures)) (upto-held (c .before .before .before .before .pre .1 .0) tt .le)
+size-most c = subst (λ n. n ≤ 2 ^ 21) (sym (c .size .ensures)) (upto-held (start-before-else1 (c .before) .pre .1 .0) tt .le)
 
 returns : tie.Need-returns
 unfolding passes
@@ -68,6 +72,6 @@ passes-spec =
     let x = upto-held (d .dot .ensures .1) tt .le in
     let g = size-most k in
     (omega arith, omega arith, d .before .before .pre .1 .1 .size))
-    (λ c. let k = c .before .before .before in filter-right _ _ (k .before .before .before .before .pre .1 .1) (c .before .before .filtered .ensures) (c .enum-told .given .1) ∙ squares k)
-    (λ c. let k = c .before .before .before in filter-right _ _ (k .before .before .before .before .pre .1 .1) (c .before .before .filtered .ensures) (c .enum-told2 .given .1) ∙ squares k)
+    (λ c. let k = c .before .before .before in filter-right _ _ (start-before-else1 (k .before) .pre .1 .1) (c .before .before .filtered .ensures) (c .enum-told .given .1) ∙ squares k)
+    (λ c. let k = c .before .before .before in filter-right _ _ (start-before-else1 (k .before) .pre .1 .1) (c .before .before .filtered .ensures) (c .enum-told2 .given .1) ∙ squares k)
     (λ c. c .reaches-exactly .ensures ∙ squares (c .before .before .before .before)))

@@ -29,6 +29,31 @@ Inv-convexes t s m ps xs ends n settled₀ i₀ k₀ settled i k = (g : Region) 
 abbrev μ-convexes : tie.MeasureT-convexes
 μ-convexes t s m ps xs ends n settled₀ i₀ k₀ settled i k = n - i
 
+-- Named anchors: the states that the proofs below read from, each named with a later state that leads back to it.
+abbrev start-before-in-convexes : tie.In-convexes Inv-halfspaces μ-halfspaces Inv-convexes μ-convexes → tie.Start Inv-halfspaces μ-halfspaces Inv-convexes μ-convexes
+start-before-in-convexes c = c .before .before .before
+
+abbrev start-before-in-halfspaces : tie.In-halfspaces Inv-halfspaces μ-halfspaces Inv-convexes μ-convexes → tie.Start Inv-halfspaces μ-halfspaces Inv-convexes μ-convexes
+start-before-in-halfspaces c = start-before-in-convexes (c .before .before .before)
+
+abbrev in-convexes-before-left-halfspaces : tie.Left-halfspaces Inv-halfspaces μ-halfspaces Inv-convexes μ-convexes → tie.In-convexes Inv-halfspaces μ-halfspaces Inv-convexes μ-convexes
+in-convexes-before-left-halfspaces c = c .before .before .before
+
+abbrev in-halfspaces-before-meet : tie.After-meet Inv-halfspaces μ-halfspaces Inv-convexes μ-convexes → tie.In-halfspaces Inv-halfspaces μ-halfspaces Inv-convexes μ-convexes
+in-halfspaces-before-meet c = c .before .before .before
+
+abbrev in-convexes-before-in-halfspaces : tie.In-halfspaces Inv-halfspaces μ-halfspaces Inv-convexes μ-convexes → tie.In-convexes Inv-halfspaces μ-halfspaces Inv-convexes μ-convexes
+in-convexes-before-in-halfspaces c = c .before .before .before
+
+abbrev at-convexes-before-in-halfspaces : tie.In-halfspaces Inv-halfspaces μ-halfspaces Inv-convexes μ-convexes → tie.At-convexes Inv-halfspaces μ-halfspaces Inv-convexes μ-convexes
+at-convexes-before-in-halfspaces c = in-convexes-before-in-halfspaces c .before
+
+abbrev at-convexes-before-left-halfspaces : tie.Left-halfspaces Inv-halfspaces μ-halfspaces Inv-convexes μ-convexes → tie.At-convexes Inv-halfspaces μ-halfspaces Inv-convexes μ-convexes
+at-convexes-before-left-halfspaces c = in-convexes-before-left-halfspaces c .before
+
+abbrev start-before-left-halfspaces : tie.Left-halfspaces Inv-halfspaces μ-halfspaces Inv-convexes μ-convexes → tie.Start Inv-halfspaces μ-halfspaces Inv-convexes μ-convexes
+start-before-left-halfspaces c = start-before-in-convexes (in-convexes-before-left-halfspaces c)
+
 -- a halfspace more is taken
 module _ (t : Trixel) (xs : List ℤ) (es : List ℕ) (n k end i : ℕ) (settled class : Class) where
   abbrev Each : ℕ → Class → Type 0
@@ -53,18 +78,18 @@ counted c = omega (arith, opening c, c .before .before .before .good .1 .1 .1 .1
 -- the halfspace at the next place
 module _ (c : tie.In-halfspaces Inv-halfspaces μ-halfspaces Inv-convexes μ-convexes) where
   next-half :
-      Stands (c .before .before .before .before .before .before .args .t)
-      (c .before .before .before .before .before .before .args .prepared .now)
-      (c .before .before .before .before .before .before .args .ends .now)
-      (c .before .before .before .before .before .before .args .n)
-      (c .before .before .before .before .before .before .pre .1 .0)
-      (c .before .before .before .before .convexes .k)
-      (getD (c .before .before .before .before .before .before .args .ends .now) (c .before .before .before .before .convexes .k) 0)
+      Stands (start-before-in-halfspaces c .args .t)
+      (start-before-in-halfspaces c .args .prepared .now)
+      (start-before-in-halfspaces c .args .ends .now)
+      (start-before-in-halfspaces c .args .n)
+      (start-before-in-halfspaces c .pre .1 .0)
+      (at-convexes-before-in-halfspaces c .convexes .k)
+      (getD (start-before-in-halfspaces c .args .ends .now) (at-convexes-before-in-halfspaces c .convexes .k) 0)
       (c .before .halfspaces .i)
-      (c .before .before .before .before .convexes .settled)
+      (at-convexes-before-in-halfspaces c .convexes .settled)
       (c .before .halfspaces .class)
   next-half =
-      let r = c .before .before .before .before .before .before .pre .1 in
+      let r = start-before-in-halfspaces c .pre .1 in
       stands _ _ _ _ (r .0) _ _ _ _ _ (c .before .halfspaces .inv .2 (r .0) (r .1)) (omega arith)
 
   below : 7 * c .before .halfspaces .i + 1 < 2 ^ 64
@@ -72,12 +97,12 @@ module _ (c : tie.In-halfspaces Inv-halfspaces μ-halfspaces Inv-convexes μ-con
 
 -- where the scan of a convex has ended, at its own end or at a halfspace that leaves the trixel outside
 module _ (c : tie.Left-halfspaces Inv-halfspaces μ-halfspaces Inv-convexes μ-convexes) where
-  closing : (g : Region) → Prepared g (c .before .before .before .before .before .before .args .prepared .now) (c .before .before .before .before .before .before .args .ends .now) (c .before .before .before .before .before .before .args .n)
-      → AtConvex (c .before .before .before .before .before .before .args .t) (c .before .before .before .before .before .before .args .prepared .now) (c .before .before .before .before .before .before .args .ends .now) (c .before .before .before .before .before .before .args .n) g (getD (c .before .before .before .before .before .before .args .ends .now) (c .before .before .before .before .convexes .k) 0) ((c .before .before .before .before .convexes .k) + 1) (join (c .before .before .before .before .convexes .settled) (c .halfspaces-test .class))
+  closing : (g : Region) → Prepared g (start-before-left-halfspaces c .args .prepared .now) (start-before-left-halfspaces c .args .ends .now) (start-before-left-halfspaces c .args .n)
+      → AtConvex (start-before-left-halfspaces c .args .t) (start-before-left-halfspaces c .args .prepared .now) (start-before-left-halfspaces c .args .ends .now) (start-before-left-halfspaces c .args .n) g (getD (start-before-left-halfspaces c .args .ends .now) (at-convexes-before-left-halfspaces c .convexes .k) 0) ((at-convexes-before-left-halfspaces c .convexes .k) + 1) (join (at-convexes-before-left-halfspaces c .convexes .settled) (c .halfspaces-test .class))
   closing g p = ⊎-elim
-      (λ w. subst (λ a. AtConvex (c .before .before .before .before .before .before .args .t) (c .before .before .before .before .before .before .args .prepared .now) (c .before .before .before .before .before .before .args .ends .now) (c .before .before .before .before .before .before .args .n) g (getD (c .before .before .before .before .before .before .args .ends .now) (c .before .before .before .before .convexes .k) 0) ((c .before .before .before .before .convexes .k) + 1) (join (c .before .before .before .before .convexes .settled) a)) (sym (w .1))
+      (λ w. subst (λ a. AtConvex (start-before-left-halfspaces c .args .t) (start-before-left-halfspaces c .args .prepared .now) (start-before-left-halfspaces c .args .ends .now) (start-before-left-halfspaces c .args .n) g (getD (start-before-left-halfspaces c .args .ends .now) (at-convexes-before-left-halfspaces c .convexes .k) 0) ((at-convexes-before-left-halfspaces c .convexes .k) + 1) (join (at-convexes-before-left-halfspaces c .convexes .settled) a)) (sym (w .1))
       (exhausted _ _ _ _ g _ _ _ _ _ (c .before .halfspaces .inv .2 g p) (omega (arith, w .0 .left))))
-      (λ w. subst (λ a. AtConvex (c .before .before .before .before .before .before .args .t) (c .before .before .before .before .before .before .args .prepared .now) (c .before .before .before .before .before .before .args .ends .now) (c .before .before .before .before .before .before .args .n) g (getD (c .before .before .before .before .before .before .args .ends .now) (c .before .before .before .before .convexes .k) 0) ((c .before .before .before .before .convexes .k) + 1) (join (c .before .before .before .before .convexes .settled) a)) (sym (w .6))
+      (λ w. subst (λ a. AtConvex (start-before-left-halfspaces c .args .t) (start-before-left-halfspaces c .args .prepared .now) (start-before-left-halfspaces c .args .ends .now) (start-before-left-halfspaces c .args .n) g (getD (start-before-left-halfspaces c .args .ends .now) (at-convexes-before-left-halfspaces c .convexes .k) 0) ((at-convexes-before-left-halfspaces c .convexes .k) + 1) (join (at-convexes-before-left-halfspaces c .convexes .settled) a)) (sym (w .6))
       (left-out _ _ _ _ g _ _ _ _ _
       (taken _ _ _ _ _ _ _ _ _ (c .before .halfspaces .inv .2) (omega (arith, w .0 .taken)) (w .1 .ensures) (w .2 .ensures) (w .3 .ensures) g p)
       (sym (w .4 .ensures) ∙ w .5 .taken)))
@@ -101,10 +126,10 @@ classify-convexes-spec =
     (o .0, omega (arith, o .1 .after .count), λ g p. opened _ _ _ _ g _ _ _ (l .convexes .inv g p) (omega arith) .1 _ refl .1))
     (λ c. let h = next-half c .room in omega arith)
     (λ c κs. next-half c .room)
-    (λ c κs. let p = c .before .before .before .before .before .before .before .pre .0 in (p .0, (p .1, (p .2, subst SoundHalfspace (sym (c .prepared-at .ensures)) (next-half (c .before) .sound)))))
+    (λ c κs. let p = start-before-in-halfspaces (c .before) .pre .0 in (p .0, (p .1, (p .2, subst SoundHalfspace (sym (c .prepared-at .ensures)) (next-half (c .before) .sound)))))
     (λ c κs. tt)
     (λ c κs. tt)
-    (λ c. let h = below (c .before .before .before .before .before) in omega arith)
+    (λ c. let h = below (in-halfspaces-before-meet (c .before .before)) in omega arith)
     (λ c. omega arith)
     (λ c.
     let j = c .before .before .before in
@@ -116,7 +141,7 @@ classify-convexes-spec =
     ))
     (λ c κs. tt)
     (λ c κs. tt)
-    (λ c. let h = counted (c .before .before .before .before .before .before) in omega arith)
+    (λ c. let h = counted (in-convexes-before-left-halfspaces (c .before .before .before)) in omega arith)
     (λ c. omega arith)
     (λ c.
     let t = c .before .before .before in

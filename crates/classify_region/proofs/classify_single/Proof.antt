@@ -16,17 +16,39 @@ use Rattle.classify_region.proofs.ScanLaws.{only-half, only-class}
 use Rattle.classify_region.proofs.classify_single.Statement.{statement}
 use Rattle.classify_region.proofs.classify_single.Tie as tie
 
+-- Named anchors: the states that the proofs below read from, each named with a later state that leads back to it.
+abbrev start-before-prepared-at : tie.After-prepared-at → tie.Start
+start-before-prepared-at c = c .before .before
+
+abbrev start-before-f : tie.After-f → tie.Start
+start-before-f c = start-before-prepared-at (c .before .before .before)
+
+abbrev start-before-at-match-keys3 : tie.At-match-keys3 → tie.Start
+start-before-at-match-keys3 c = start-before-f (c .before .before .before)
+
+abbrev prepared-at-before-f : tie.After-f → tie.After-prepared-at
+prepared-at-before-f c = c .before .before .before
+
+abbrev else1-before-count-passed : tie.After-count-passed → tie.Else1
+else1-before-count-passed c = c .before .before .before
+
+abbrev else1-before-middle-of : tie.After-middle-of → tie.Else1
+else1-before-middle-of c = else1-before-count-passed (c .before .before .before)
+
+abbrev count-passed-before-middle-of : tie.After-middle-of → tie.After-count-passed
+count-passed-before-middle-of c = c .before .before .before
+
 -- the halfspace is sound
 sound : (c : tie.After-prepared-at) → SoundHalfspace (c .prepared-at .result)
 sound c = let s = c .before .before in let r = s .pre .1 .0 in subst SoundHalfspace (sym (c .prepared-at .ensures)) (only-half (s .args .t) _ _ _ (r .0) (r .1) (s .pre .1 .1) .sound)
 
-oriented : (c : tie.Else1) → positive (volume (c .before .before .before .before .args .t)) ≡ true
-oriented c = sym (c .before .before .before .before .pre .0 .0 .oriented) ∙ not-false _ (c .if1 .left)
+oriented : (c : tie.Else1) → positive (volume (start-before-prepared-at (c .before .before) .args .t)) ≡ true
+oriented c = sym (start-before-prepared-at (c .before .before) .pre .0 .0 .oriented) ∙ not-false _ (c .if1 .left)
 
 -- how many rays of the trixel pass
-rays : (c : tie.After-count-passed) → c .count-passed .result ≡ raysPassed (c .before .before .before .before .before .prepared-at .result .f) (c .before .before .before .before .before .prepared-at .result .high) (c .before .before .before .before .before .before .before .args .t)
+rays : (c : tie.After-count-passed) → c .count-passed .result ≡ raysPassed (prepared-at-before-f (c .before .before) .prepared-at .result .f) (prepared-at-before-f (c .before .before) .prepared-at .result .high) (start-before-f (c .before .before) .args .t)
 rays c =
-    let h = c .before .before .before .before .before in
+    let h = prepared-at-before-f (c .before .before) in
     rays-passed (h .prepared-at .result .f) (h .before .before .pre .0 .0) (held (sound-high (sound h)) tt .eq) (c .count-passed .ensures)
 
 -- by the edges, where V is not positive
@@ -57,13 +79,13 @@ returns-3 c g p =
 
 by-middle : tie.Need-class-by-middle-requires
 by-middle c κs =
-    let e = c .before .before .before .before .before .before .before in
+    let e = else1-before-middle-of (c .before) in
     let h = e .before .before in
     (oriented e, (c .cap-of .ensures, (h .before .before .pre .0 .1, sound h)))
 
 returns-4 : tie.Need-returns-4
 returns-4 c g p =
-    let a = c .before .before .before .before .before in
+    let a = count-passed-before-middle-of (c .before .before) in
     let e = a .before .before .before in
     let h = e .before .before in
     let s = h .before .before in
@@ -77,13 +99,13 @@ classify-single-spec =
     (λ c κs. let s = c .before in let r = s .pre .1 .0 in only-half (s .args .t) _ _ _ (r .0) (r .1) (s .pre .1 .1) .room)
     (λ c κs. let h = c .before .before in (h .before .before .pre .0 .1, sound h))
     returns
-    (λ c κs. let h = c .before .before .before .before in (sound-small (sound h), (upto-held (sound-high (sound h)) tt, own-rays (h .before .before .pre .0 .0))))
+    (λ c κs. let h = prepared-at-before-f (c .before) in (sound-small (sound h), (upto-held (sound-high (sound h)) tt, own-rays (h .before .before .pre .0 .0))))
     (λ c. search needs)
     (λ c κs. tt)
     (λ c. search needs)
     (λ c. search needs)
-    (λ c κs. c .before .before .before .before .before .before .before .before .before .pre .0 .1 .small)
-    (λ c κs. (c .middle-of .ensures, c .before .before .before .before .before .before .before .before .before .before .pre .0 .0))
+    (λ c κs. start-before-at-match-keys3 (c .before) .pre .0 .1 .small)
+    (λ c κs. (c .middle-of .ensures, start-before-at-match-keys3 (c .before .before) .pre .0 .0))
     by-middle
     returns-2
     returns-3

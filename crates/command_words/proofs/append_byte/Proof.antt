@@ -4,9 +4,13 @@ use Rattle.command_words.proofs.FileLaws.{at-blank, at-no-blank}
 use Rattle.command_words.proofs.append_byte.Statement.{statement}
 use Rattle.command_words.proofs.append_byte.Tie as tie
 
+-- Named anchors: the states that the proofs below read from, each named with a later state that leads back to it.
+abbrev then1-before-store-arg : tie.After-store-arg → tie.Then1
+then1-before-store-arg c = c .before .before .before
+
 returns : tie.Need-returns
 returns c =
-    let blank = c .before .before .before .before .before .before in
+    let blank = then1-before-store-arg (c .before .before .before) in
     at-blank _ (blank .before .before .args .stored .file) (blank .if1 .taken) (c .before .before .store .ensures)
 
 returns-2 : tie.Need-returns-2

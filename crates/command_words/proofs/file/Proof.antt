@@ -18,6 +18,13 @@ Inv-loop word to₀ n i₀ to i = (i ≤ n) × (every isHex (drop (i * 2) word) 
 abbrev μ-loop : tie.MeasureT-loop
 μ-loop word to₀ n i₀ to i = n - i
 
+-- Named anchors: the states that the proofs below read from, each named with a later state that leads back to it.
+abbrev else1-before-at-loop : tie.At-loop Inv-loop μ-loop → tie.Else1 Inv-loop μ-loop
+else1-before-at-loop c = c .before .before .before
+
+abbrev at-loop-before-digit : tie.After-digit Inv-loop μ-loop → tie.At-loop Inv-loop μ-loop
+at-loop-before-digit c = c .before .before .before
+
 module _ (c : tie.Else1 Inv-loop μ-loop) where
   abbrev word : List ℕ
   word = c .before .before .before .before .args .word .now
@@ -27,12 +34,12 @@ module _ (c : tie.Else1 Inv-loop μ-loop) where
   some = some-bytes word (λ e. true≢false (sym (c .before .same .ensures .1 e) ∙ c .if1 .left))
 
 -- after the loop all digits are read
-all-digits : (c : tie.After-loop Inv-loop μ-loop) → every isHex (word (c .before .before .before .before)) ≡ true
-all-digits c = sym (c .before .loop .inv .1) ∙ all-read (word (c .before .before .before .before)) (c .before .loop .i * 2) (omega arith)
+all-digits : (c : tie.After-loop Inv-loop μ-loop) → every isHex (word (else1-before-at-loop (c .before))) ≡ true
+all-digits c = sym (c .before .loop .inv .1) ∙ all-read (word (else1-before-at-loop (c .before))) (c .before .loop .i * 2) (omega arith)
 
 returns-4 : tie.Need-returns-4 Inv-loop μ-loop
 returns-4 c =
-    let loop = c .before .before .before .before .before .before in
+    let loop = at-loop-before-digit (c .before .before .before) in
     let w = word (loop .before .before .before) in
     let bad = pair-bad w (loop .loop .i) (omega arith) (omega (arith, c .before .digit2 .ensures .0, c .before .before .before .digit .ensures .0)) in
     no-digits w (some (loop .before .before .before)) (sym (loop .loop .inv .1) ∙ bad)
@@ -40,7 +47,7 @@ returns-4 c =
 loop-again : tie.Need-loop-again Inv-loop μ-loop
 loop-again c =
     let both = c .before .before in
-    let loop = both .before .before .before .before .before in
+    let loop = at-loop-before-digit (both .before .before) in
     let w = word (loop .before .before .before) in
     let good = pair-good w (loop .loop .i) (omega arith) (omega (arith, both .digit2 .ensures .0, both .before .before .digit .ensures .0)) in
     (omega arith, sym good ∙ loop .loop .inv .1)

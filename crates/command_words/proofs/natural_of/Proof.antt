@@ -17,6 +17,10 @@ Inv-loop word most n₀ i₀ i-end n i = (i ≤ length word) × (n ≤ most) × 
 abbrev μ-loop : tie.MeasureT-loop
 μ-loop word most n₀ i₀ i-end n i = length word - i
 
+-- Named anchors: the states that the proofs below read from, each named with a later state that leads back to it.
+abbrev in-loop-before-at-match-keys1 : tie.At-match-keys1 Inv-loop μ-loop → tie.In-loop Inv-loop μ-loop
+in-loop-before-at-match-keys1 c = c .before .before .before
+
 stopped : tie.Need-returns-2 Inv-loop μ-loop
 stopped c =
     let in-loop = c .before .before .before .before in
@@ -27,7 +31,7 @@ stopped c =
 
 again : tie.Need-loop-again Inv-loop μ-loop
 again c =
-    let in-loop = c .before .before .before .before .before in
+    let in-loop = in-loop-before-at-match-keys1 (c .before .before) in
     let read = sym (c .before .more .given .1) ∙ c .before .before .before .with-digit .ensures in (
       search needs,
       subst (UpTo _) (sym read) (up-to-from _ _ _),

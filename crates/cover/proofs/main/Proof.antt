@@ -6,8 +6,12 @@ use Rattle.streams.specs.Input.{Within}
 use Rattle.cover.proofs.main.Statement.{statement}
 use Rattle.cover.proofs.main.Tie as tie
 
-within : (c : tie.After-known-told) → Counts (c .before .n .given .0 .0) (c .before .before .before .before .read-all .last .0)
-within c = subst (Within _) (c .before .n .given .1) (c .before .before .before .before .read-all .ensures)
+-- Named anchors: the states that the proofs below read from, each named with a later state that leads back to it.
+abbrev read-all-before-n : tie.After-n → tie.After-read-all
+read-all-before-n c = c .before .before .before
+
+within : (c : tie.After-known-told) → Counts (c .before .n .given .0 .0) (read-all-before-n (c .before) .read-all .last .0)
+within c = subst (Within _) (c .before .n .given .1) (read-all-before-n (c .before) .read-all .ensures)
 
 pub main-spec : {M : Type 1} → statement M
 main-spec =

@@ -13,9 +13,19 @@ use Rattle.covering_tally.proofs.LentTail.{tail-lent, tail-back}
 use Rattle.covering_calls.proofs.end_inner.Statement.{statement}
 use Rattle.covering_calls.proofs.end_inner.Tie as tie
 
+-- Named anchors: the states that the proofs below read from, each named with a later state that leads back to it.
+abbrev start-before-budget-of : tie.After-budget-of → tie.Start
+start-before-budget-of c = c .before .before .before
+
+abbrev start-before-pending : tie.After-pending → tie.Start
+start-before-pending c = start-before-budget-of (c .before .before .before)
+
+abbrev budget-of-before-pending : tie.After-pending → tie.After-budget-of
+budget-of-before-pending c = c .before .before .before
+
 wants : tie.Need-inner-end-requires
 wants c κs =
-    let s = c .before .before .before .before .before .before in
+    let s = start-before-budget-of (c .before .before .before) in
     let u = c .before .before .before .budget-of .ensures in
     let b = c .before .before .before .budget-of .result in
     let out = now (s .args .out) in
@@ -28,9 +38,9 @@ wants c κs =
 
 returns : tie.Need-returns
 returns c =
-    let s = c .before .before .before .before .before .before .before .before .before in
-    let u = c .before .before .before .before .before .before .budget-of .ensures in
-    let b = c .before .before .before .before .before .before .budget-of .result in
+    let s = start-before-pending (c .before .before .before) in
+    let u = budget-of-before-pending (c .before .before .before) .budget-of .ensures in
+    let b = budget-of-before-pending (c .before .before .before) .budget-of .result in
     let out = now (s .args .out) in
     let h : 2 * b ≤ length out = omega (arith, s .pre .list, u) in
     let e = c .before .before .inner-end in

@@ -11,6 +11,19 @@ use Rattle.covering_tally.specs.Tally.{tallyIn, countsIn}
 use Rattle.covering_calls.proofs.finish.Statement.{statement}
 use Rattle.covering_calls.proofs.finish.Tie as tie
 
+-- Named anchors: the states that the proofs below read from, each named with a later state that leads back to it.
+abbrev start-before-outer-count : tie.After-outer-count → tie.Start
+start-before-outer-count c = c .before .before .before
+
+abbrev start-before-end-inner : tie.After-end-inner → tie.Start
+start-before-end-inner c = start-before-outer-count (c .before .before .before)
+
+abbrev outer-count-before-end-inner : tie.After-end-inner → tie.After-outer-count
+outer-count-before-end-inner c = c .before .before .before
+
+abbrev identifiers-in-before-out : tie.After-out → tie.After-identifiers-in
+identifiers-in-before-out c = c .before .before .before
+
 pub finish-spec : {M : Type 1} → statement M
 finish-spec =
     tie.close
@@ -23,13 +36,13 @@ finish-spec =
     (omega (arith, s .pre .0 .outer, s .pre .0 .list), s .pre .1 .few))
     (λ c κs. search needs)
     (λ c κs.
-    let n = c .before .before .before .before .before .outer-count in
-    let s = c .before .before .before .before .before .before .before .before in
-    omega (arith, s .pre .1 .counted, c .before .before .before .before .identifiers-in .ensures ∙ ap (λ n. identifiers (rangesIn n (now (s .args .out)))) (n .ensures)))
+    let n = outer-count-before-end-inner (c .before .before) .outer-count in
+    let s = start-before-end-inner (c .before .before) in
+    omega (arith, s .pre .1 .counted, identifiers-in-before-out (c .before) .identifiers-in .ensures ∙ ap (λ n. identifiers (rangesIn n (now (s .args .out)))) (n .ensures)))
     (λ c. search needs)
     (λ c.
     let e = c .before .before .before .end-inner in
-    let n = c .before .before .before .before .before .before .outer-count in
-    let s = c .before .before .before .before .before .before .before .before .before in
-    let k = c .before .before .before .before .before .identifiers-in .ensures ∙ ap (λ n. identifiers (rangesIn n (now (s .args .out)))) (n .ensures) in
+    let n = outer-count-before-end-inner (c .before .before .before) .outer-count in
+    let s = start-before-end-inner (c .before .before .before) in
+    let k = identifiers-in-before-out (c .before .before) .identifiers-in .ensures ∙ ap (λ n. identifiers (rangesIn n (now (s .args .out)))) (n .ensures) in
     record { inner = e .result; behind = e .ensures; counts = c .counts .ensures ∙ ap (λ m. countsIn (tallyIn (now (s .args .s))) (e .result) m) k }))

@@ -17,6 +17,10 @@ Inv-loop list n sum₀ i₀ sum i = (i ≤ n) × (sum ≡ identifiers (rangesIn 
 abbrev μ-loop : tie.MeasureT-loop
 μ-loop list n sum₀ i₀ sum i = n - i
 
+-- Named anchors: the states that the proofs below read from, each named with a later state that leads back to it.
+abbrev at-loop-before-in-loop : tie.In-loop Inv-loop μ-loop → tie.At-loop Inv-loop μ-loop
+at-loop-before-in-loop c = c .before
+
 started : tie.Need-loop-holds Inv-loop μ-loop
 unfolding rangesIn identifiers
 started c = (omega arith, refl)
@@ -41,17 +45,17 @@ identifiers-in-spec =
     (λ c. omega arith)
     (λ c κs. tt)
     (λ c.
-    let l = c .before .before .before .before in
+    let l = at-loop-before-in-loop (c .before .before .before) in
     let s = l .before .before in
     omega (arith, c .above .ensures, more-few (s .args .list .now) (s .args .n) (l .loop .i) (omega arith) (s .pre .1)))
     (λ c.
-    let l = c .before .before .before .before in
+    let l = at-loop-before-in-loop (c .before .before .before) in
     let s = l .before .before in
     omega (arith, c .above .ensures, l .loop .inv .1, more-few (s .args .list .now) (s .args .n) (l .loop .i) (omega arith) (s .pre .1)))
     (λ c. omega arith)
     (λ c. omega arith)
     (λ c.
-    let l = c .before .before .before .before in
+    let l = at-loop-before-in-loop (c .before .before .before) in
     let s = l .before .before in
     let xs = s .args .list .now in
     (omega arith, omega (arith, c .above .ensures, l .loop .inv .1, identifiers-next (l .loop .i) xs, ap (λ k. identifiers (rangesIn k xs)) (add-one (l .loop .i)))))

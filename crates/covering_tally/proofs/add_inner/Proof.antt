@@ -4,6 +4,10 @@ use Rattle.covering_tally.proofs.TallyLaws.{inner-known, inside}
 use Rattle.covering_tally.proofs.add_inner.Statement.{statement}
 use Rattle.covering_tally.proofs.add_inner.Tie as tie
 
+-- Named anchors: the states that the proofs below read from, each named with a later state that leads back to it.
+abbrev push-inner-before-note-inner : tie.After-note-inner → tie.After-push-inner
+push-inner-before-note-inner c = c .before .before .before
+
 pub add-inner-spec : {M : Type 1} → statement M
 add-inner-spec =
     tie.close
@@ -15,5 +19,5 @@ add-inner-spec =
     (λ c. search needs)
     (λ c. search needs)
     (λ c.
-    let p = c .before .before .before .before .before in
+    let p = push-inner-before-note-inner (c .before .before) in
     inside (p .push-inner .ensures) (p .before .before .before .budget-of .ensures) (p .before .pending .ensures) (c .before .before .note-inner .ensures)))

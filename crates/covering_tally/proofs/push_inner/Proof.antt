@@ -12,6 +12,10 @@ use Rattle.covering_tally.proofs.LentTail.{tail-lent, tail-back, tail-a
 use Rattle.covering_tally.proofs.push_inner.Statement.{statement}
 use Rattle.covering_tally.proofs.push_inner.Tie as tie
 
+-- Named anchors: the states that the proofs below read from, each named with a later state that leads back to it.
+abbrev start-before-inner-push : tie.After-inner-push → tie.Start
+start-before-inner-push c = c .before .before .before
+
 wants : tie.Need-inner-push-requires
 wants c κs =
     let s = c .before .before in
@@ -22,7 +26,7 @@ wants c κs =
 
 returns : tie.Need-returns
 returns c =
-    let s = c .before .before .before .before .before in
+    let s = start-before-inner-push (c .before .before) in
     let b = s .args .budget in
     let out = now (s .args .out) in
     let h : 2 * b ≤ length out = omega (arith, s .pre .list) in

@@ -5,6 +5,16 @@ use Rattle.covering_walk.proofs.StoredTrixelLaws.{stored-small, stored-
 use Rattle.covering_walk.proofs.classify_trixel.Statement.{statement}
 use Rattle.covering_walk.proofs.classify_trixel.Tie as tie
 
+-- Named anchors: the states that the proofs below read from, each named with a later state that leads back to it.
+abbrev trixel-in-before-class-beside-arg : tie.After-class-beside-arg → tie.After-trixel-in
+trixel-in-before-class-beside-arg c = c .before .before .before
+
+abbrev trixel-in-before-y2 : tie.After-y2 → tie.After-trixel-in
+trixel-in-before-y2 c = trixel-in-before-class-beside-arg (c .before .before .before)
+
+abbrev measured-before-y1 : tie.After-y1 → tie.After-measured
+measured-before-y1 c = c .before .before .before
+
 pub classify-trixel-spec : {M : Type 1} → statement M
 classify-trixel-spec =
     tie.close
@@ -16,4 +26,4 @@ classify-trixel-spec =
     let e = c .before .before .before in
     let s = e .before in
     ((c .before .measured .ensures, stored-normals (e .trixel-in .ensures) (s .pre .0) (search needs)), (s .pre .1 .0, s .pre .1 .1)))
-    (λ c. classified-of (c .before .before .before .before .before .before .before .before .trixel-in .ensures) _ (c .before .before .before .before .before .before .measured .ensures) refl refl (c .before .before .before .before .class-beside .ensures)))
+    (λ c. classified-of (trixel-in-before-y2 (c .before .before) .trixel-in .ensures) _ (measured-before-y1 (c .before .before .before) .measured .ensures) refl refl (c .before .before .before .before .class-beside .ensures)))

@@ -13,6 +13,10 @@ use Rattle.covering_walk.specs.StoredTrixels.{trixelIn, firstRayIn, with
 use Rattle.covering_walk.proofs.store_trixel.Statement.{statement}
 use Rattle.covering_walk.proofs.store_trixel.Tie as tie
 
+-- Named anchors: the states that the proofs below read from, each named with a later state that leads back to it.
+abbrev start-before-store-corners-arg : tie.After-store-corners-arg → tie.Start
+start-before-store-corners-arg c = c .before .before .before
+
 -- a list with the vectors of the trixel, and one more
 abbrev filled : Trixel → Vec3 → List ℤ → List ℤ
 filled t r xs = withNormals t (withCorners t (put 18 (three r) xs))
@@ -25,7 +29,7 @@ holds t r xs long = all-cells 21 (λ xs. Holds t r (filled t r xs)) (λ a b c d 
 
 returns : tie.Need-returns
 returns c =
-    let s = c .before .before .before .before .before .before in
+    let s = start-before-store-corners-arg (c .before .before .before) in
     let t = s .args .t in
     let r = s .args .r in
     let l : c .store-normals .last .0 ≡ filled t r (s .args .xs .now) =

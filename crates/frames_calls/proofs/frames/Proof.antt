@@ -13,25 +13,35 @@ use Rattle.frames_calls.proofs.AnswerLaws.{no-owner, file-refused}
 use Rattle.frames_calls.proofs.frames.Statement.{statement}
 use Rattle.frames_calls.proofs.frames.Tie as tie
 
+-- Named anchors: the states that the proofs below read from, each named with a later state that leads back to it.
+abbrev start-before-slice-known2 : tie.After-slice-known2 → tie.Start
+start-before-slice-known2 c = c .before .before .before
+
+abbrev start-before-decode : tie.After-decode → tie.Start
+start-before-decode c = start-before-slice-known2 (c .before .before .before)
+
+abbrev else1-before-at-match-keys1 : tie.At-match-keys1 → tie.Else1
+else1-before-at-match-keys1 c = c .before .before .before
+
 other : tie.Need-returns
 other c =
-    let a = c .before .before .before .before .args in
+    let a = start-before-slice-known2 (c .before) .args in
     no-owner (a .owner) (now (a .index)) (now (a .file)) (now (a .ranges)) (now (a .numbers)) (le-ltb (a .owner) 2 (omega (arith, c .if1 .taken)))
 
-own : (c : tie.Else1) → isOwner (c .before .before .before .before .args .owner) ≡ true
-own c = lt-ltb (c .before .before .before .before .args .owner) 2 (omega (arith, c .if1 .left))
+own : (c : tie.Else1) → isOwner (start-before-slice-known2 (c .before) .args .owner) ≡ true
+own c = lt-ltb (start-before-slice-known2 (c .before) .args .owner) 2 (omega (arith, c .if1 .left))
 
 -- the file is decoded
-file : (c : tie.After-known-told) → Decoded (now (c .before .before .before .before .before .before .before .before .before .args .file)) (c .before .said .given .0 .0) (c .before .before .before .decode .last .1 .0)
+file : (c : tie.After-known-told) → Decoded (now (start-before-decode (c .before .before .before) .args .file)) (c .before .said .given .0 .0) (c .before .before .before .decode .last .1 .0)
 file c =
     let s = c .before in
     let d = s .before .before in
-    decoded (now (d .before .before .before .before .before .before .args .file)) (s .said .given .0 .0) _ _ (sym (ap headerGiven (s .said .given .1)) ∙ d .decode .ensures .0) (d .decode .ensures .1)
+    decoded (now (start-before-slice-known2 (d .before .before .before) .args .file)) (s .said .given .0 .0) _ _ (sym (ap headerGiven (s .said .given .1)) ∙ d .decode .ensures .0) (d .decode .ensures .1)
 
 wants : tie.Need-frames-in-requires
 wants c κs =
     let t = c .before .before .before in
-    ((_, file t), own (t .before .before .before .before .before))
+    ((_, file t), own (else1-before-at-match-keys1 (t .before .before)))
 
 given : tie.Need-returns-2
 given c =
@@ -42,7 +52,7 @@ refused : tie.Need-returns-3
 refused c =
     let d = c .before .before .before in
     let e = d .before .before in
-    let a = e .before .before .before .before .args in
+    let a = start-before-slice-known2 (e .before) .args in
     file-refused (a .owner) (now (a .index)) (now (a .file)) (now (a .ranges)) (now (a .numbers)) (own e) (c .before .said2 .given .0 .0) (sym (ap headerGiven (c .before .said2 .given .1)) ∙ d .decode .ensures .0)
 
 pub frames-spec : {M : Type 1} → statement M

@@ -15,29 +15,42 @@ use Rattle.frames_calls.proofs.AnswerLaws.{no-ranges, no-numbers, no-in
 use Rattle.frames_calls.proofs.frames_in.Statement.{statement}
 use Rattle.frames_calls.proofs.frames_in.Tie as tie
 
+-- Named anchors: the states that the proofs below read from, each named with a later state that leads back to it.
+abbrev start-before-budget-of : tie.After-budget-of → tie.Start
+start-before-budget-of c = c .before .before .before
+
+abbrev start-before-else3 : tie.Else3 → tie.Start
+start-before-else3 c = start-before-budget-of (c .before .before .before)
+
+abbrev start-before-search-arg2 : tie.After-search-arg2 → tie.Start
+start-before-search-arg2 c = start-before-else3 (c .before .before .before)
+
+abbrev search-before-numbers : tie.After-numbers → tie.After-search
+search-before-numbers c = c .before .before .before
+
 -- the budget in the range list's test
 room : {r b n : ℕ} → r ≡ b → (n < 4 * r → n < 4 * b) × (4 * r ≤ n → 4 * b ≤ n)
 room e = (λ h. omega arith, λ h. omega arith)
 
 -- the range list is long enough
-roomy : (c : tie.Else1) → 4 * budgetOf (c .before .before .before .before .args .h .budget) ≤ length (now (c .before .before .before .before .args .ranges))
+roomy : (c : tie.Else1) → 4 * budgetOf (start-before-budget-of (c .before) .args .h .budget) ≤ length (now (start-before-budget-of (c .before) .args .ranges))
 roomy c = room (c .before .budget-of .ensures .0) .1 (omega (arith, c .if1 .left))
 
 short-ranges : tie.Need-returns
 short-ranges c f k =
-    let s = c .before .before .before .before in
+    let s = start-before-budget-of (c .before) in
     let a = s .args in
     no-ranges (a .owner) (now (a .index)) f (now (a .ranges)) (now (a .numbers)) (s .pre .1) (a .h) (now (a .rows)) k (room (c .before .budget-of .ensures .0) .0 (omega (arith, c .if1 .taken)))
 
 short-numbers : tie.Need-returns-2
 short-numbers c f k =
-    let s = c .before .before .before .before .before in
+    let s = start-before-budget-of (c .before .before) in
     let a = s .args in
     no-numbers (a .owner) (now (a .index)) f (now (a .ranges)) (now (a .numbers)) (s .pre .1) (a .h) (now (a .rows)) k (roomy (c .before)) (omega (arith, c .if2 .taken))
 
 short-index : tie.Need-returns-3
 short-index c f k =
-    let s = c .before .before .before .before .before .before in
+    let s = start-before-budget-of (c .before .before .before) in
     let a = s .args in
     no-index (a .owner) (now (a .index)) f (now (a .ranges)) (now (a .numbers)) (s .pre .1) (a .h) (now (a .rows)) k (roomy (c .before .before)) (omega (arith, c .before .if2 .left)) (omega (arith, c .if3 .taken))
 
@@ -57,14 +70,14 @@ wants c κs =
 
 few : tie.Need-delivery-requires
 few c κs =
-    let v = c .before .before .before .before in
-    let s = v .before .before .before .before .before .before .before .before .before .before in
+    let v = search-before-numbers (c .before) in
+    let s = start-before-search-arg2 (v .before) in
     let k = s .pre .0 .1 in
     v .search .ensures (k .file .region) (k .rows) .few
 
 given : tie.Need-returns-4
 given c f k =
-    let v = c .before .before .before .before .before in
+    let v = search-before-numbers (c .before .before) in
     let e = v .before .before .before .before in
     let i = e .before .before in
     let b = i .before in

@@ -7,11 +7,15 @@ use Rattle.vector.proofs.VectorLaws.{vector-small}
 use Rattle.frames_walk.proofs.disposition_of.Statement.{statement}
 use Rattle.frames_walk.proofs.disposition_of.Tie as tie
 
+-- Named anchors: the states that the proofs below read from, each named with a later state that leads back to it.
+abbrev start-before-is-vector : tie.After-is-vector → tie.Start
+start-before-is-vector c = c .before .before .before
+
 -- what the tests said: in an outer range, and a vector
 outer : (c : tie.Else2) → c .before .before .args .outer ≡ true
 outer c = not-false (c .before .before .args .outer) (c .if2 .left)
 
-vector : (c : tie.Else3) → isVector (c .before .before .before .before .args .p) ≡ true
+vector : (c : tie.Else3) → isVector (start-before-is-vector (c .before) .args .p) ≡ true
 vector c = sym (c .before .is-vector .ensures) ∙ not-false (c .before .is-vector .result) (c .if3 .left)
 
 pub disposition-of-spec : {M : Type 1} → statement M
@@ -24,7 +28,7 @@ disposition-of-spec =
     (λ c.
     let o = c .before .before in
     rw (o .before .if1 .left, outer o, sym (c .before .is-vector .ensures) ∙ not-true (c .before .is-vector .result) (c .if3 .taken)))
-    (λ c κs. (c .before .before .before .before .pre, vector-small (c .before .before .before .before .args .p) (vector c)))
+    (λ c κs. (start-before-is-vector (c .before) .pre, vector-small (start-before-is-vector (c .before) .args .p) (vector c)))
     (λ c.
     let v = c .before .before in
     let o = v .before .before in

@@ -12,9 +12,25 @@ use Rattle.frames_walk.proofs.WalkLaws.{Turn, turned}
 use Rattle.frames_walk.proofs.visit_entry.Statement.{statement}
 use Rattle.frames_walk.proofs.visit_entry.Tie as tie
 
+-- Named anchors: the states that the proofs below read from, each named with a later state that leads back to it.
+abbrev start-before-shortened : tie.After-shortened → tie.Start
+start-before-shortened c = c .before .before .before
+
+abbrev start-before-ahead2 : tie.After-ahead2 → tie.Start
+start-before-ahead2 c = start-before-shortened (c .before .before .before)
+
+abbrev start-before-begins2 : tie.After-begins2 → tie.Start
+start-before-begins2 c = start-before-ahead2 (c .before .before .before)
+
+abbrev start-before-deliver-arg : tie.After-deliver-arg → tie.Start
+start-before-deliver-arg c = start-before-begins2 (c .before .before .before)
+
+abbrev start-before-numbers : tie.After-numbers → tie.Start
+start-before-numbers c = start-before-deliver-arg (c .before .before .before)
+
 -- the function's entry, as seen from its end
 abbrev start : tie.After-struct-known2 → tie.Start
-start c = c .before .before .before .before .before .before .before .before .before .before .before .before .before .before .before .before .before
+start c = start-before-numbers (c .before .before)
 
 -- the states after the calls, the last one first: deliver, disposition_of, begins and ahead, each of the outer ranges (o) and of the inner ones (n), shortened
 returns : tie.Need-returns

@@ -6,6 +6,10 @@ use Rattle.frames_walk.proofs.WalkLaws.{passes-other, passes-full, pass
 use Rattle.frames_walk.proofs.visit_if_owned.Statement.{statement}
 use Rattle.frames_walk.proofs.visit_if_owned.Tie as tie
 
+-- Named anchors: the states that the proofs below read from, each named with a later state that leads back to it.
+abbrev start-before-is-owned : tie.After-is-owned → tie.Start
+start-before-is-owned c = c .before .before .before
+
 pub visit-if-owned-spec : {M : Type 1} → statement M
 visit-if-owned-spec =
     tie.close
@@ -19,7 +23,7 @@ visit-if-owned-spec =
       (s .pre .0 .1, refl),
     ))
     (λ c.
-    let s = c .before .before .before .before .before .before in
+    let s = start-before-is-owned (c .before .before .before) in
     let v = s .args in
     (passes-full (v .owner) (v .lists) (v .ranges .now) (v .rows .now) (v .count) (v .e) (v .at) (v .numbers .now) (omega arith), (s .pre .0 .1, refl)))
     (λ c κs. omega arith)

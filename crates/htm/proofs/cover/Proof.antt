@@ -13,21 +13,31 @@ use Rattle.htm.proofs.CoverAnswers.{file-refused, no-room, covered}
 use Rattle.htm.proofs.cover.Statement.{statement}
 use Rattle.htm.proofs.cover.Tie as tie
 
+-- Named anchors: the states that the proofs below read from, each named with a later state that leads back to it.
+abbrev start-before-rows : tie.After-rows → tie.Start
+start-before-rows c = c .before .before .before
+
+abbrev start-before-said : tie.After-said → tie.Start
+start-before-said c = start-before-rows (c .before .before .before)
+
+abbrev start-before-said2 : tie.After-said2 → tie.Start
+start-before-said2 c = start-before-rows (c .before .before .before)
+
 -- the budget in the lent list's test
 room : {r b n : ℕ} → r ≡ b → (n < 4 * r → n < 4 * b) × (4 * r ≤ n → 4 * b ≤ n)
 room e = (λ h. omega arith, λ h. omega arith)
 
 -- the file is decoded
-file : (c : tie.After-known-told) → Decoded (now (c .before .before .before .before .before .before .before .args .file)) (c .before .said .given .0 .0) (c .before .before .before .decode .last .1 .0)
+file : (c : tie.After-known-told) → Decoded (now (start-before-said (c .before) .args .file)) (c .before .said .given .0 .0) (c .before .before .before .decode .last .1 .0)
 file c =
     let s = c .before in
     let d = s .before .before in
-    decoded (now (d .before .before .before .before .args .file)) (s .said .given .0 .0) _ _ (sym (ap headerGiven (s .said .given .1)) ∙ d .decode .ensures .0) (d .decode .ensures .1)
+    decoded (now (start-before-rows (d .before) .args .file)) (s .said .given .0 .0) _ _ (sym (ap headerGiven (s .said .given .1)) ∙ d .decode .ensures .0) (d .decode .ensures .1)
 
 short : tie.Need-returns
 short c =
     let t = c .before .before in
-    let a = t .before .before .before .before .before .before .before .args in
+    let a = start-before-said (t .before) .args in
     no-room (now (a .file)) (now (a .out)) _ _ (file t) (room (c .before .budget-of .ensures .0) .0 (omega (arith, c .if1 .taken)))
 
 wants : tie.Need-cover-requires
@@ -44,7 +54,7 @@ given c =
     let i = v .before .before .before .before in
     let b = i .before in
     let t = b .before in
-    let a = t .before .before .before .before .before .before .before .args in
+    let a = start-before-said (t .before) .args in
     let d = t .before .said .given .0 .0 in
     let rs = t .before .before .before .decode .last .1 .0 in
     covered (now (a .file)) (now (a .out)) d rs (file t) (room (b .budget-of .ensures .0) .1 (omega (arith, i .if1 .left)))
@@ -52,7 +62,7 @@ given c =
 
 refused : tie.Need-returns-3
 refused c =
-    let a = c .before .before .before .before .before .before .before .args in
+    let a = start-before-said2 (c .before) .args in
     file-refused (now (a .file)) (now (a .out)) (c .before .said2 .given .0 .0) (sym (ap headerGiven (c .before .said2 .given .1)) ∙ c .before .before .before .decode .ensures .0)
 
 pub cover-spec : {M : Type 1} → statement M

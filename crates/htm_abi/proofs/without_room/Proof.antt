@@ -9,6 +9,13 @@ use Rattle.htm_abi.proofs.RefusalLaws.{own-or-space}
 use Rattle.htm_abi.proofs.without_room.Statement.{statement}
 use Rattle.htm_abi.proofs.without_room.Tie as tie
 
+-- Named anchors: the states that the proofs below read from, each named with a later state that leads back to it.
+abbrev start-before-decode : tie.After-decode → tie.Start
+start-before-decode c = c .before .before .before
+
+abbrev start-before-said : tie.After-said → tie.Start
+start-before-said c = start-before-decode (c .before .before)
+
 pub without-room-spec : {M : Type 1} → statement M
 without-room-spec =
     tie.close
@@ -21,12 +28,12 @@ without-room-spec =
     (λ c.
     let m = c .minus .ensures in
     let e = held (m .1) tt .eq in (
-      e ∙ m .0 ∙ own-or-space (now (c .before .before .before .before .before .before .args .file)) _ (sym (ap headerGiven (c .before .enum-told .given .1)) ∙ c .before .before .before .decode .ensures .0),
+      e ∙ m .0 ∙ own-or-space (now (start-before-decode (c .before .before .before) .args .file)) _ (sym (ap headerGiven (c .before .enum-told .given .1)) ∙ c .before .before .before .decode .ensures .0),
       subst (Upto (2 ^ 32)) (sym e) (m .1),
     ))
     (λ c.
     let m = c .minus2 .ensures in
     let e = held (m .1) tt .eq in (
-      e ∙ m .0 ∙ own-or-space (now (c .before .before .before .before .before .before .before .args .file)) _ (sym (ap headerGiven (c .before .before .said .given .1)) ∙ c .before .before .before .before .decode .ensures .0),
+      e ∙ m .0 ∙ own-or-space (now (start-before-said (c .before .before) .args .file)) _ (sym (ap headerGiven (c .before .before .said .given .1)) ∙ c .before .before .before .before .decode .ensures .0),
       subst (Upto (2 ^ 32)) (sym e) (m .1),
     )))

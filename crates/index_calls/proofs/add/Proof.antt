@@ -17,13 +17,17 @@ use Rattle.index_calls.proofs.LookupLaws.{not-added, added}
 use Rattle.index_calls.proofs.add.Statement.{statement}
 use Rattle.index_calls.proofs.add.Tie as tie
 
+-- Named anchors: the states that the proofs below read from, each named with a later state that leads back to it.
+abbrev start-before-at-match-keys2 : tie.At-match-keys2 → tie.Start
+start-before-at-match-keys2 c = c .before .before .before
+
 -- the identifier that was found, by the rule
-given : (c : tie.After-found2) → lookup (c .before .before .before .before .args .p) 12 ≡ gives (c .found2 .given .0 .0)
+given : (c : tie.After-found2) → lookup (start-before-at-match-keys2 (c .before) .args .p) 12 ≡ gives (c .found2 .given .0 .0)
 given c = sym (c .before .before .lookup .ensures) ∙ ap numberOf (c .found2 .given .1)
 
 small : (c : tie.After-found2) → c .found2 .given .0 .0 ≤ 2 ^ 26
 small c =
-    let p = c .before .before .before .before .args .p in
+    let p = start-before-at-match-keys2 (c .before) .args .p in
     omega (arith, identifier-small p 12 (omega arith), lookup-is p 12 _ (given c) .2)
 
 sent-back : tie.Need-returns-2
@@ -36,7 +40,7 @@ sent-back c =
 entered : tie.Need-returns-3
 entered c =
     let f = c .before .before .before .before in
-    let v = f .before .before .before .before .args in
+    let v = start-before-at-match-keys2 (f .before) .args in
     let l = lookup-is (v .p) 12 _ (given f) in
     let o : v .owner ≤ 2 ^ 32 = omega arith in
     let n : v .number ≤ 2 ^ 32 = omega arith in

@@ -7,6 +7,10 @@ use Rattle.index_calls.proofs.CallLaws.{too-short, is-twice, is-full, n
 use Rattle.index_calls.proofs.insert.Statement.{statement}
 use Rattle.index_calls.proofs.insert.Tie as tie
 
+-- Named anchors: the states that the proofs below read from, each named with a later state that leads back to it.
+abbrev find-before-else2 : tie.Else2 → tie.After-find
+find-before-else2 c = c .before .before
+
 twice : tie.Need-returns-2
 twice c =
     let a = c .before .before in
@@ -17,7 +21,7 @@ twice c =
 
 full : tie.Need-returns-3
 full c =
-    let a = c .before .before .before .before in
+    let a = find-before-else2 (c .before .before) in
     let h = a .before .before in
     let e = h .before .before in
     let v = e .before .args in
@@ -27,7 +31,7 @@ full c =
 
 crowded : tie.Need-returns-4
 crowded c =
-    let a = c .before .before .before .before .before in
+    let a = find-before-else2 (c .before .before .before) in
     let h = a .before .before in
     let e = h .before .before in
     let v = e .before .args in

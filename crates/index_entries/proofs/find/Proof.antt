@@ -81,6 +81,16 @@ Inv-loop index n owner number owned₀ i₀ owned i = (i ≤ n) × Others index 
 abbrev μ-loop : tie.MeasureT-loop
 μ-loop index n owner number owned₀ i₀ owned i = n - i
 
+-- Named anchors: the states that the proofs below read from, each named with a later state that leads back to it.
+abbrev at-loop-before-entry-at3 : tie.After-entry-at3 Inv-loop μ-loop → tie.At-loop Inv-loop μ-loop
+at-loop-before-entry-at3 c = c .before .before .before
+
+abbrev at-loop-before-is-keyed : tie.After-is-keyed Inv-loop μ-loop → tie.At-loop Inv-loop μ-loop
+at-loop-before-is-keyed c = c .before .before .before
+
+abbrev at-loop-before-is-keyed2 : tie.After-is-keyed2 Inv-loop μ-loop → tie.At-loop Inv-loop μ-loop
+at-loop-before-is-keyed2 c = at-loop-before-is-keyed (c .before .before .before)
+
 -- the list and the key; the tests: of the entry at hand, of the next one, and of the last one
 abbrev list : tie.At-loop Inv-loop μ-loop → List ℤ
 list l = l .before .args .index .now
@@ -95,25 +105,25 @@ first : (c : tie.After-is-keyed Inv-loop μ-loop) → Tested (c .before .before 
 first c = ap (isKeyed (asked (c .before .before .before))) (sym (c .before .entry-at .ensures)) ∙ sym (c .is-keyed .ensures)
 
 second : (c : tie.After-is-keyed2 Inv-loop μ-loop)
-    → Tested (c .before .before .before .before .before .before) (c .before .before .before .before .before .before .loop .i + 1) (c .is-keyed2 .result)
-second c = ap (isKeyed (asked (c .before .before .before .before .before .before))) (sym (c .before .entry-at2 .ensures)) ∙ sym (c .is-keyed2 .ensures)
+    → Tested (at-loop-before-is-keyed (c .before .before .before)) (at-loop-before-is-keyed (c .before .before .before) .loop .i + 1) (c .is-keyed2 .result)
+second c = ap (isKeyed (asked (at-loop-before-is-keyed (c .before .before .before)))) (sym (c .before .entry-at2 .ensures)) ∙ sym (c .is-keyed2 .ensures)
 
-last : (c : tie.After-is-keyed3 Inv-loop μ-loop) → Tested (c .before .before .before .before) (c .before .before .before .before .loop .i) (c .is-keyed3 .result)
-last c = ap (isKeyed (asked (c .before .before .before .before))) (sym (c .before .entry-at3 .ensures)) ∙ sym (c .is-keyed3 .ensures)
+last : (c : tie.After-is-keyed3 Inv-loop μ-loop) → Tested (at-loop-before-entry-at3 (c .before)) (at-loop-before-entry-at3 (c .before) .loop .i) (c .is-keyed3 .result)
+last c = ap (isKeyed (asked (at-loop-before-entry-at3 (c .before)))) (sym (c .before .entry-at3 .ensures)) ∙ sym (c .is-keyed3 .ensures)
 
 here : tie.Need-returns Inv-loop μ-loop
 here c =
-    let l = c .before .before .before .before in
+    let l = at-loop-before-is-keyed (c .before) in
     (ends (list l) (asked l) (l .before .args .n) (l .loop .i) (omega arith) (l .loop .inv .1) (λ b. first (c .before) ∙ c .if1 .taken), λ past. absurd (omega arith))
 
 -- past the first of the two
-passed : (c : tie.Else1 Inv-loop μ-loop) → Others (list (c .before .before .before .before)) (asked (c .before .before .before .before)) (c .before .before .before .before .loop .i + 1)
-passed c = let l = c .before .before .before .before in one-more (list l) (asked l) (l .loop .i) (l .loop .inv .1) (first (c .before) ∙ c .if1 .left)
+passed : (c : tie.Else1 Inv-loop μ-loop) → Others (list (at-loop-before-is-keyed (c .before))) (asked (at-loop-before-is-keyed (c .before))) (at-loop-before-is-keyed (c .before) .loop .i + 1)
+passed c = let l = at-loop-before-is-keyed (c .before) in one-more (list l) (asked l) (l .loop .i) (l .loop .inv .1) (first (c .before) ∙ c .if1 .left)
 
 next : tie.Need-returns-2 Inv-loop μ-loop
 next c =
     let e = c .before .before .before in
-    let l = e .before .before .before .before in
+    let l = at-loop-before-is-keyed (e .before) in
     (ends (list l) (asked l) (l .before .args .n) (l .loop .i + 1) (omega arith) (passed e) (λ b. second (c .before) ∙ c .if2 .taken), λ past. absurd (omega arith))
 
 again : tie.Need-loop-again Inv-loop μ-loop
@@ -137,14 +147,14 @@ at-end c =
 
 at-last : tie.Need-returns-4 Inv-loop μ-loop
 at-last c =
-    let l = c .before .before .before .before .before in
+    let l = at-loop-before-entry-at3 (c .before .before) in
     (ends (list l) (asked l) (l .before .args .n) (l .loop .i) (omega arith) (l .loop .inv .1) (λ b. last (c .before) ∙ c .if4 .taken), λ past. absurd (omega arith))
 
 nowhere : tie.Need-returns-5 Inv-loop μ-loop
 nowhere c =
     let f = c .before in
     let k = f .before in
-    let l = k .before .before .before .before in
+    let l = at-loop-before-entry-at3 (k .before) in
     let v = l .before .args in
     let e : v .n ≡ l .loop .i + 1 = omega arith in
     let one = one-owned (list l) (asked l) (l .loop .i) (l .loop .owned) (c .counted3 .result) (k .before .entry-at3 .result) (k .before .entry-at3 .ensures) (c .counted3 .ensures) (l .loop .inv .2) in (
@@ -174,8 +184,8 @@ find-spec =
     (λ c κs. tt)
     (λ c. omega arith)
     next
-    (λ c κs. omega (arith, c .before .before .before .before .before .before .before .loop .inv .2 .few))
-    (λ c κs. omega (arith, c .before .before .before .before .before .before .before .before .loop .inv .2 .few, c .counted .ensures .1))
+    (λ c κs. omega (arith, at-loop-before-is-keyed2 (c .before) .loop .inv .2 .few))
+    (λ c κs. omega (arith, at-loop-before-is-keyed2 (c .before .before) .loop .inv .2 .few, c .counted .ensures .1))
     (λ c. omega arith)
     (λ c. omega arith)
     again

@@ -24,8 +24,18 @@ Inv-loop index₀ n e i₀ index i =
 abbrev μ-loop : tie.MeasureT-loop
 μ-loop index₀ n e i₀ index i = i
 
+-- Named anchors: the states that the proofs below read from, each named with a later state that leads back to it.
+abbrev start-before-entry-at-arg : tie.After-entry-at-arg Inv-loop μ-loop → tie.Start Inv-loop μ-loop
+start-before-entry-at-arg c = c .before .before .before
+
+abbrev at-loop-before-entry-at : tie.After-entry-at Inv-loop μ-loop → tie.At-loop Inv-loop μ-loop
+at-loop-before-entry-at c = c .before .before .before
+
+abbrev at-loop-before-store-entry-arg : tie.After-store-entry-arg Inv-loop μ-loop → tie.At-loop Inv-loop μ-loop
+at-loop-before-store-entry-arg c = at-loop-before-entry-at (c .before .before .before)
+
 -- the entry at hand has not moved, and is put to the test
-unmoved : (c : tie.After-entry-at Inv-loop μ-loop) → c .entry-at .result ≡ entryAt (c .before .before .before .before .args .index .now) (1 + Width * (c .before .before .before .loop .i - 1))
+unmoved : (c : tie.After-entry-at Inv-loop μ-loop) → c .entry-at .result ≡ entryAt (start-before-entry-at-arg (c .before) .args .index .now) (1 + Width * (c .before .before .before .loop .i - 1))
 unmoved c =
     let l = c .before .before .before in
     let s = l .before in
@@ -33,15 +43,15 @@ unmoved c =
 
 abbrev hand : tie.After-precedes Inv-loop μ-loop → Bool
 hand c =
-    let s = c .before .before .before .before .before in
-    precedes (s .args .e) (entryAt (s .args .index .now) (1 + Width * (c .before .before .before .before .loop .i - 1)))
+    let s = start-before-entry-at-arg (c .before .before) in
+    precedes (s .args .e) (entryAt (s .args .index .now) (1 + Width * (at-loop-before-entry-at (c .before) .loop .i - 1)))
 
 tested : (c : tie.After-precedes Inv-loop μ-loop) → hand c ≡ c .precedes .result
-tested c = ap (precedes (c .before .before .before .before .before .args .e)) (sym (unmoved (c .before))) ∙ sym (c .precedes .ensures)
+tested c = ap (precedes (start-before-entry-at-arg (c .before .before) .args .e)) (sym (unmoved (c .before))) ∙ sym (c .precedes .ensures)
 
 stops : tie.Need-returns Inv-loop μ-loop
 stops c =
-    let l = c .before .before .before .before .before in
+    let l = at-loop-before-entry-at (c .before .before) in
     let v = l .before .args in
     let no : (j : ℕ) → l .loop .i ≡ suc j → precedes (v .e) (entryAt (v .index .now) (1 + Width * j)) ≡ false =
     λ j p.
@@ -51,7 +61,7 @@ stops c =
 
 again : tie.Need-loop-again Inv-loop μ-loop
 again c =
-    let l = c .before .before .before .before .before .before .before .before in
+    let l = at-loop-before-store-entry-arg (c .before .before) in
     let v = l .before .args in
     let p = c .before .before .before .before in
     let yes = tested p ∙ not-false (p .precedes .result) (c .before .before .before .if1 .left) in (
@@ -83,7 +93,7 @@ make-gap-spec =
     (λ c. omega arith)
     (λ c κs. omega arith)
     (λ c κs. tt)
-    (λ c. c .before .before .before .before .before .loop .inv .2)
+    (λ c. at-loop-before-entry-at (c .before .before) .loop .inv .2)
     stops
     (λ c. omega arith)
     (λ c. omega arith)

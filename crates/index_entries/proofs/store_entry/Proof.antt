@@ -5,9 +5,8 @@ use mathlib.Core.List.{[], _∷_}
 use native.Mathlib.Omega.{arith}
 use lib.ListN.{length-set, set}
 use Rattle.algebra.proofs.Sized.{stored-same}
-use Rattle.answer.proofs.PutLaws.{put-next}
+use Rattle.answer.proofs.PutLaws.{put-next, stored-put}
 use Rattle.vector.specs.Vectors.{three}
-use Rattle.vector_products.proofs.StoreLaws.{three-stored}
 use Rattle.index_entries.proofs.store_entry.Statement.{statement}
 use Rattle.index_entries.proofs.store_entry.Tie as tie
 
@@ -21,8 +20,9 @@ returns c =
     let id = stored-same (e .id) (p .before .before .before .struct-told .given .0 .1) in
     let number = stored-same (e .number) (p .before .before .struct-told2 .given .1 .0 .1) in
     let owner = stored-same (e .owner) (p .before .struct-told3 .given .1 .1 .0 .1) in
-    let first = (λ i. set (set (set (v .index .now) k (id i)) (k + 1) (number i)) (k + 2) (owner i)) ∙ three-stored (v .index .now) k (e .id) (e .number) (e .owner) (omega arith) in
-    put-next k (e .id ∷ e .number ∷ e .owner ∷ []) (three (e .pointing)) (v .index .now) first (c .before .store .ensures) refl (omega arith)
+    let front = e .id ∷ e .number ∷ e .owner ∷ [] in
+    let first = (λ i. set (set (set (v .index .now) k (id i)) (k + 1) (number i)) (k + 2) (owner i)) ∙ stored-put k front (v .index .now) (omega arith) in
+    put-next k front (three (e .pointing)) (v .index .now) first (c .before .store .ensures) refl (omega arith)
 
 pub store-entry-spec : {M : Type 1} → statement M
 store-entry-spec =

@@ -13,6 +13,10 @@ Inv-loop p id n at₀ i₀ k₀ at i k = Small p × (n ≤ 11) × Descending p n
 abbrev μ-loop : tie.MeasureT-loop
 μ-loop p id n at₀ i₀ k₀ at i k = n - k
 
+-- Named anchors: the states that the proofs below read from, each named with a later state that leads back to it.
+abbrev at-loop-before-at : tie.After-at Inv-loop μ-loop → tie.At-loop Inv-loop μ-loop
+at-loop-before-at c = c .before .before .before
+
 pub descend-spec : {M : Type 1} → statement M
 descend-spec =
     tie.close
@@ -25,11 +29,11 @@ descend-spec =
     let l = c .before .before .before .loop in
     omega (arith, far-below _ _ _ _ _ _ _ (l .inv .2) (l .inv .1)))
     (λ c.
-    let l = c .before .before .before .before .loop in
+    let l = at-loop-before-at (c .before) .loop in
     omega (arith, far-below _ _ _ _ _ _ _ (l .inv .2) (l .inv .1), c .before .before .step .ensures .low))
-    (λ c. omega (arith, c .before .before .before .before .loop .inv .1))
+    (λ c. omega (arith, at-loop-before-at (c .before) .loop .inv .1))
     (λ c. omega arith)
     (λ c.
-    let l = c .before .before .before .before .loop in
+    let l = at-loop-before-at (c .before) .loop in
     (l .inv .0, l .inv .1, next _ _ _ _ _ _ _ (l .inv .2) (c .before .before .step .result) (omega arith) (c .before .before .step .ensures)))
     (λ c. end _ _ _ _ _ _ _ (c .before .loop .inv .2) (omega arith)))

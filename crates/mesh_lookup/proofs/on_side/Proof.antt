@@ -17,6 +17,10 @@ use Rattle.mesh.specs.Lookup.{notNegative}
 use Rattle.mesh_lookup.proofs.on_side.Statement.{statement}
 use Rattle.mesh_lookup.proofs.on_side.Tie as tie
 
+-- Named anchors: the states that the proofs below read from, each named with a later state that leads back to it.
+abbrev start-before-largest : tie.After-largest → tie.Start
+start-before-largest c = c .before .before .before
+
 -- the largest component, and three times it
 one : (c : tie.After-largest) → Is (c .largest .result) (pos (c .largest .result)) (2 ^ 41)
 one c = nat (subst (λ m. m ≤ 2 ^ 41) (sym (c .largest .ensures)) (largest-bound (c .before .before .cross .ensures .1))) tt
@@ -64,9 +68,9 @@ on-side-spec =
     (λ c. sfits w64 (one c .size) tt)
     (λ c. fits-mul (lit 3 tt) (one c) tt)
     returns
-    (λ c κs. c .before .before .before .before .before .pre)
+    (λ c κs. start-before-largest (c .before .before) .pre)
     (λ c. c .exactly-on-side .ensures)
     (λ c. fits-sub (lit 0 tt) (three (c .before .before)) tt)
     returns-3
-    (λ c κs. c .before .before .before .before .before .before .pre)
+    (λ c κs. start-before-largest (c .before .before .before) .pre)
     (λ c. c .exactly-on-side2 .ensures))

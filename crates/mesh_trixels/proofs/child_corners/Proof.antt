@@ -7,6 +7,16 @@ use Rattle.mesh_trixels.proofs.CornerLaws.{child-0, child-1, child-2, c
 use Rattle.mesh_trixels.proofs.child_corners.Statement.{statement}
 use Rattle.mesh_trixels.proofs.child_corners.Tie as tie
 
+-- Named anchors: the states that the proofs below read from, each named with a later state that leads back to it.
+abbrev start-before-v2 : tie.After-v2 → tie.Start
+start-before-v2 c = c .before .before .before
+
+abbrev start-before-midpoint3 : tie.After-midpoint3 → tie.Start
+start-before-midpoint3 c = start-before-v2 (c .before .before .before)
+
+abbrev midpoint-before-else1 : tie.Else1 → tie.After-midpoint
+midpoint-before-else1 c = c .before .before .before
+
 -- three corners that are the child's
 done : {r t c : Corners} → r ≡ t → t ≡ c → SmallCorners t → (r ≡ c) × SmallCorners r
 done e h small = (e ∙ h, subst SmallCorners (sym e) small)
@@ -16,34 +26,34 @@ child-corners-spec =
     tie.close
     (tie.spec
     (λ c κs. let p = c .before .before .before .pre in (p .v1, p .v2))
-    (λ c κs. let p = c .before .before .before .before .pre in (p .v0, p .v2))
-    (λ c κs. let p = c .before .before .before .before .before .pre in (p .v0, p .v1))
+    (λ c κs. let p = start-before-v2 (c .before) .pre in (p .v0, p .v2))
+    (λ c κs. let p = start-before-v2 (c .before .before) .pre in (p .v0, p .v1))
     (λ c κs. tt)
     (λ c.
     let g = c .before in
-    let s = g .before .before .before .before .before .before .before in
+    let s = start-before-midpoint3 (g .before) in
     let m1 = g .before .before .midpoint2 .ensures in
     let m2 = g .before .midpoint3 .ensures in
     done (c .triple .ensures) (child-0 (s .args .c) (g .if1 .taken) (m1 .0) (m2 .0)) (record { v0 = s .pre .v0; v1 = m2 .1; v2 = m1 .1 }))
     (λ c κs. tt)
     (λ c.
     let g = c .before in
-    let s = g .before .before .before .before .before .before .before .before in
-    let m0 = g .before .before .before .before .midpoint .ensures in
+    let s = start-before-midpoint3 (g .before .before) in
+    let m0 = midpoint-before-else1 (g .before) .midpoint .ensures in
     let m2 = g .before .before .midpoint3 .ensures in
     done (c .triple2 .ensures) (child-1 (s .args .c) (g .if2 .taken) (m0 .0) (m2 .0)) (record { v0 = s .pre .v1; v1 = m0 .1; v2 = m2 .1 }))
     (λ c κs. tt)
     (λ c.
     let g = c .before in
-    let s = g .before .before .before .before .before .before .before .before .before in
-    let m0 = g .before .before .before .before .before .midpoint .ensures in
+    let s = start-before-midpoint3 (g .before .before .before) in
+    let m0 = midpoint-before-else1 (g .before .before) .midpoint .ensures in
     let m1 = g .before .before .before .before .midpoint2 .ensures in
     done (c .triple3 .ensures) (child-2 (s .args .c) (g .if3 .taken) (m0 .0) (m1 .0)) (record { v0 = s .pre .v2; v1 = m1 .1; v2 = m0 .1 }))
     (λ c κs. tt)
     (λ c.
     let g = c .before in
-    let s = g .before .before .before .before .before .before .before .before .before in
-    let m0 = g .before .before .before .before .before .midpoint .ensures in
+    let s = start-before-midpoint3 (g .before .before .before) in
+    let m0 = midpoint-before-else1 (g .before .before) .midpoint .ensures in
     let m1 = g .before .before .before .before .midpoint2 .ensures in
     let m2 = g .before .before .before .midpoint3 .ensures in
     done (c .triple4 .ensures) (child-3 (s .args .c) (omega arith) (m0 .0) (m1 .0) (m2 .0)) (record { v0 = m0 .1; v1 = m1 .1; v2 = m2 .1 })))

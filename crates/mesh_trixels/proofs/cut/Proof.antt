@@ -6,6 +6,10 @@ use Rattle.mesh.specs.Trixels.{cut}
 use Rattle.mesh_trixels.proofs.cut.Statement.{statement}
 use Rattle.mesh_trixels.proofs.cut.Tie as tie
 
+-- Named anchors: the states that the proofs below read from, each named with a later state that leads back to it.
+abbrev start-before-v2 : tie.After-v2 → tie.Start
+start-before-v2 c = c .before .before .before
+
 -- the normal of a cut by its two midpoints
 normal : {a b x y r : Vec3} → r ≡ scale (cross a b) → a ≡ x → b ≡ y → r ≡ scale (cross x y)
 normal e f g = e ∙ (λ i. scale (cross (f i) (g i)))
@@ -36,8 +40,8 @@ cut-spec =
     tie.close
     (tie.spec
     (λ c κs. let p = c .before .before .before .pre in (p .v1, p .v2))
-    (λ c κs. let p = c .before .before .before .before .pre in (p .v0, p .v2))
-    (λ c κs. let p = c .before .before .before .before .before .pre in (p .v0, p .v1))
+    (λ c κs. let p = start-before-v2 (c .before) .pre in (p .v0, p .v2))
+    (λ c κs. let p = start-before-v2 (c .before .before) .pre in (p .v0, p .v1))
     (λ c κs. (c .midpoint3 .ensures .1, c .before .midpoint2 .ensures .1))
     (λ c κs. (c .before .before .before .midpoint .ensures .1, c .before .midpoint3 .ensures .1))
     (λ c κs. (c .before .before .before .midpoint2 .ensures .1, c .before .before .before .before .midpoint .ensures .1))

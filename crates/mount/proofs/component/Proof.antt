@@ -10,11 +10,21 @@ use Rattle.mount.proofs.WidthLaws.{Laid, unit-some, unit-high, sign-som
 use Rattle.mount.proofs.component.Statement.{statement}
 use Rattle.mount.proofs.component.Tie as tie
 
-laid : (c : tie.After-power-of-two3) → Laid (c .before .before .before .before .before .args .w) (c .before .before .before .before .power-of-two .result) (c .before .before .power-of-two2 .result) (c .power-of-two3 .result)
+-- Named anchors: the states that the proofs below read from, each named with a later state that leads back to it.
+abbrev start-before-power-of-two2 : tie.After-power-of-two2 → tie.Start
+start-before-power-of-two2 c = c .before .before .before
+
+abbrev start-before-else1 : tie.Else1 → tie.Start
+start-before-else1 c = start-before-power-of-two2 (c .before .before .before)
+
+abbrev power-of-two-before-power-of-two2 : tie.After-power-of-two2 → tie.After-power-of-two
+power-of-two-before-power-of-two2 c = c .before .before
+
+laid : (c : tie.After-power-of-two3) → Laid (start-before-power-of-two2 (c .before .before) .args .w) (power-of-two-before-power-of-two2 (c .before .before) .power-of-two .result) (c .before .before .power-of-two2 .result) (c .power-of-two3 .result)
 laid c =
     record {
-      usual = c .before .before .before .before .before .pre;
-      unit-is = c .before .before .before .before .power-of-two .ensures;
+      usual = start-before-power-of-two2 (c .before .before) .pre;
+      unit-is = power-of-two-before-power-of-two2 (c .before .before) .power-of-two .ensures;
       half-is = c .before .before .power-of-two2 .ensures;
       sign-is = c .power-of-two3 .ensures;
     }
@@ -44,7 +54,7 @@ rem-n : tie.Need-rem-n
 rem-n c = unit-some (laid (c .before .before))
 
 add-n : tie.Need-add-n
-add-n c = record { fits = omega (arith, unit-high (laid (c .before .before)), mod-lt (c .before .before .before .before .before .before .before .args .bits % c .before .before .power-of-two3 .result) (unit-some (laid (c .before .before)))) }
+add-n c = record { fits = omega (arith, unit-high (laid (c .before .before)), mod-lt (start-before-else1 (c .before) .args .bits % c .before .before .power-of-two3 .result) (unit-some (laid (c .before .before)))) }
 
 add-n-2 : tie.Need-add-n-2
 add-n-2 c = record { fits = omega (arith, half-high (laid (c .before .before))) }

@@ -7,6 +7,10 @@ use Rattle.ranges_lists.proofs.InnerStored.{pending-first, pending-grow
 use Rattle.ranges_lists.proofs.inner_push.Statement.{statement}
 use Rattle.ranges_lists.proofs.inner_push.Tie as tie
 
+-- Named anchors: the states that the proofs below read from, each named with a later state that leads back to it.
+abbrev start-before-else1 : tie.Else1 → tie.Start
+start-before-else1 c = c .before .before .before
+
 first : tie.Need-returns
 first c =
     let e = c .before in
@@ -16,7 +20,7 @@ first c =
 touching : tie.Need-returns-2
 touching c =
     let a = c .before in
-    let s = a .before .before .before .before in (
+    let s = start-before-else1 (a .before) in (
       pending-grows (s .args .budget) (s .args .p) (s .args .list .now) (s .args .low) (s .args .high) _ (not-false _ (a .before .if1 .left)) (omega arith) (sym (a .touches .ensures) ∙ c .if2 .taken),
       (omega arith, s .pre .1),
     )
@@ -26,7 +30,7 @@ closes c =
     let b = c .before .before .before in
     let e = b .before .before in
     let a = e .before in
-    let s = a .before .before .before .before in (
+    let s = start-before-else1 (a .before) in (
       pending-closes (s .args .budget) (s .args .p) (s .args .list .now) (s .args .low) (s .args .high) _ (not-false _ (a .before .if1 .left)) _ _ (sym (a .touches .ensures) ∙ e .if2 .left) (b .inner-close .ensures .0),
       b .inner-close .ensures .1,
     )
@@ -39,6 +43,6 @@ inner-push-spec =
     first
     (λ c κs. tt)
     touching
-    (λ c κs. c .before .before .before .before .before .before .pre)
+    (λ c κs. start-before-else1 (c .before .before .before) .pre)
     (λ c. omega arith)
     closes)

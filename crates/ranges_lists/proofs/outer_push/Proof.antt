@@ -9,13 +9,20 @@ use Rattle.ranges_lists.proofs.OuterStored.{push-first, push-extends, p
 use Rattle.ranges_lists.proofs.outer_push.Statement.{statement}
 use Rattle.ranges_lists.proofs.outer_push.Tie as tie
 
+-- Named anchors: the states that the proofs below read from, each named with a later state that leads back to it.
+abbrev start-before-else1 : tie.Else1 → tie.Start
+start-before-else1 c = c .before .before
+
+abbrev start-before-else2 : tie.Else2 → tie.Start
+start-before-else2 c = start-before-else1 (c .before .before .before)
+
 first : tie.Need-returns
 first c = (push-first _ _ _ _ _ (omega arith) (omega arith), ((omega arith, omega arith), hinted-any (c .no-hint .ensures) _))
 
 touching : tie.Need-returns-2
 touching c =
     let a = c .before in
-    let s = a .before .before .before .before in
+    let s = start-before-else1 (a .before .before) in
     let t = sym (a .touches .ensures) ∙ c .if2 .taken in
     let w = push-extends (s .args .budget) (s .args .n) (s .args .list .now) (s .args .low) (s .args .high) (2 * s .args .n - 1) (omega arith) (omega arith) (omega arith) t in
     let h = push-keeps (s .args .budget) (s .args .n) (s .args .list .now) (s .args .low) (s .args .high) (2 * s .args .n - 1) (omega arith) (omega arith) (omega arith)
@@ -26,7 +33,7 @@ more : tie.Need-returns-3
 more c =
     let e = c .before .before in
     let a = e .before in
-    let s = a .before .before .before .before in
+    let s = start-before-else1 (a .before .before) in
     let w = push-appends (s .args .budget) (s .args .n) (s .args .list .now) (s .args .low) (s .args .high) (2 * s .args .n - 1) (omega arith) (omega arith) (omega arith)
     (sym (a .touches .ensures) ∙ e .if2 .left) (omega arith) (s .pre .0 .2) in
     (w, ((omega arith, omega arith), hinted-any (c .no-hint2 .ensures) _))
@@ -36,7 +43,7 @@ full c =
     let o = c .before .before in
     let e = o .before .before in
     let a = e .before .before in
-    let s = a .before .before .before .before in
+    let s = start-before-else1 (a .before .before) in
     let t = sym (a .touches .ensures) ∙ e .before .if2 .left in
     let w = push-full (s .args .budget) (s .args .n) (s .args .list .now) (s .args .low) (s .args .high) (2 * s .args .n - 1) (omega arith) (omega arith) (omega arith)
     t _ (omega arith) (o .outer-full .ensures .0) in
@@ -72,6 +79,6 @@ outer-push-spec =
     (λ c κs. tt)
     (λ c. simp length-set (omega arith))
     more
-    (λ c κs. ((omega arith, omega arith), c .before .before .before .before .before .before .before .pre .1))
+    (λ c κs. ((omega arith, omega arith), start-before-else2 (c .before .before) .pre .1))
     (λ c. omega arith)
     full)

@@ -13,6 +13,13 @@ use Rattle.region_payloads.proofs.GroupLaws.{group-refused, group-crowd
 use Rattle.region_payloads.proofs.group_payload.Statement.{statement}
 use Rattle.region_payloads.proofs.group_payload.Tie as tie
 
+-- Named anchors: the states that the proofs below read from, each named with a later state that leads back to it.
+abbrev start-before-convex-in : tie.After-convex-in → tie.Start
+start-before-convex-in c = c .before .before .before
+
+abbrev start-before-known-told : tie.After-known-told → tie.Start
+start-before-known-told c = start-before-convex-in (c .before .before .before)
+
 crowd : tie.Need-returns
 crowd c =
     let g = c .before .before .before in
@@ -50,7 +57,7 @@ group-payload-spec =
     (λ c. omega arith)
     (λ c. omega arith)
     crowd
-    (λ c κs. (omega arith, c .before .before .before .before .before .before .before .before .before .pre))
+    (λ c κs. (omega arith, start-before-known-told (c .before .before .before) .pre))
     (λ c κs. tt)
     (λ c. c .match .keys2)
     (λ c. c .before .before .halfspaces-in .kept .1 .1 .1 .0)

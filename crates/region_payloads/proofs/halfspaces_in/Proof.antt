@@ -16,6 +16,13 @@ Inv-loop payload n rows₀ with₀ i₀ rows with i = (16 * n ≤ length payload
 abbrev μ-loop : tie.MeasureT-loop
 μ-loop payload n rows₀ with₀ i₀ rows with i = n - i
 
+-- Named anchors: the states that the proofs below read from, each named with a later state that leads back to it.
+abbrev at-loop-before-halfspace-of : tie.After-halfspace-of Inv-loop μ-loop → tie.At-loop Inv-loop μ-loop
+at-loop-before-halfspace-of c = c .before .before .before
+
+abbrev halfspace-in-before-c2 : tie.After-c2 Inv-loop μ-loop → tie.After-halfspace-in Inv-loop μ-loop
+halfspace-in-before-c2 c = c .before .before .before
+
 more : tie.Need-loop-again Inv-loop μ-loop
 more c =
     let r = c .before .before .before .before in
@@ -31,7 +38,7 @@ more c =
 
 refused : tie.Need-returns Inv-loop μ-loop
 refused c =
-    let r = c .before .before .before .before in
+    let r = halfspace-in-before-c2 (c .before) in
     let h = r .before .before in
     let l = h .before .before .before in
     let a = l .before .before .args in
@@ -57,13 +64,13 @@ halfspaces-in-spec =
     (λ c. omega arith)
     (λ c. omega arith)
     (λ c κs. simp (length-take, length-drop) (omega arith))
-    (λ c κs. let l = c .before .before .before .before .loop in l .inv .2 .room ∙ l .inv .1)
+    (λ c κs. let l = at-loop-before-halfspace-of (c .before) .loop in l .inv .2 .room ∙ l .inv .1)
     (λ c. c .match .keys1)
     (λ c. omega arith)
     (λ c. omega arith)
     more
     (λ c. c .match .keys2)
-    (λ c. let r = c .before .before .before .before in r .halfspace-in .kept .1 .1 .0 ∙ r .before .before .before .before .before .loop .inv .2 .room)
+    (λ c. let r = halfspace-in-before-c2 (c .before) in r .halfspace-in .kept .1 .1 .0 ∙ at-loop-before-halfspace-of (r .before .before) .loop .inv .2 .room)
     refused
     (λ c. c .before .loop .inv .2 .room)
     ended)

@@ -12,15 +12,19 @@ use Rattle.region_points.proofs.PointAnswers.{file-refused, no-vector, 
 use Rattle.region_points.proofs.point_test.Statement.{statement}
 use Rattle.region_points.proofs.point_test.Tie as tie
 
+-- Named anchors: the states that the proofs below read from, each named with a later state that leads back to it.
+abbrev start-before-decode : tie.After-decode → tie.Start
+start-before-decode c = c .before .before .before
+
 -- the file is accepted, with this header
-says : (c : tie.After-known-told) → gives (c .before .said .given .0 .0) ≡ with-value headerOf (reader.read (now (c .before .before .before .before .before .before .args .file)))
+says : (c : tie.After-known-told) → gives (c .before .said .given .0 .0) ≡ with-value headerOf (reader.read (now (start-before-decode (c .before .before .before) .args .file)))
 says c = sym (ap headerGiven (c .before .said .given .1)) ∙ c .before .before .before .decode .ensures .0
 
 wants : tie.Need-array-holds-requires
 wants c κs =
     let v = c .before .before in
     let t = v .before .before in
-    let a = t .before .before .before .before .before .before .args in
+    let a = start-before-decode (t .before .before .before) .args in
     (count-most (now (a .file)) [] (t .before .said .given .0 .0) (says t), vector-small (a .p) (sym (v .before .is-vector .ensures) ∙ v .if1 .taken))
 
 given : tie.Need-returns
@@ -34,7 +38,7 @@ given c =
 vector : tie.Need-returns-2
 vector c =
     let t = c .before .before in
-    let a = t .before .before .before .before .before .before .args in
+    let a = start-before-decode (t .before .before .before) .args in
     no-vector (now (a .file)) (a .p) (t .before .said .given .0 .0) (says t) (sym (c .before .is-vector .ensures) ∙ c .if1 .left)
 
 refused : tie.Need-returns-3

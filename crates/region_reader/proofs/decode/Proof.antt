@@ -8,27 +8,31 @@ use Rattle.region_reader.proofs.ReadAnswers.{long-said, header-refused,
 use Rattle.region_reader.proofs.decode.Statement.{statement}
 use Rattle.region_reader.proofs.decode.Tie as tie
 
+-- Named anchors: the states that the proofs below read from, each named with a later state that leads back to it.
+abbrev else1-before-first : tie.After-first → tie.Else1
+else1-before-first c = c .before .before .before
+
 -- the file has a header
-headed : (c : tie.After-known-told) → let e = c .before .before .before .before in
+headed : (c : tie.After-known-told) → let e = else1-before-first (c .before) in
     gives (c .before .first .given .0 .0) ≡ with-value headerOf (header (now (e .before .before .args .file)))
 headed c = sym (ap headerGiven (c .before .first .given .1)) ∙ c .before .before .before .header-in .ensures
 
 begun : tie.Need-style-of-requires
 begun c κs =
-    let e = c .before .before .before .before in
+    let e = else1-before-first (c .before) in
     header-begins (now (e .before .before .args .file)) (e .if1 .left) (c .before .first .given .0 .0) (headed c)
 
 wants : tie.Need-records-in-requires
 wants c κs =
     let t = c .before .before in
-    let e = t .before .before .before .before in
+    let e = else1-before-first (t .before) in
     (header-bytes (now (e .before .before .args .file)) (e .if1 .left) (t .before .first .given .0 .0) (headed t), c .records-in-arg .given .0 .1)
 
 given : tie.Need-returns-2
 given c =
     let s = c .before .before in
     let t = s .before in
-    let e = t .before .before .before .before in
+    let e = else1-before-first (t .before) in
     let a = e .before .before .args in
     records-said (now (a .file)) (e .if1 .left) (t .before .first .given .0 .0) (headed t) (s .style-of .result) (s .style-of .ensures)
     _ (now (a .rows)) _ (c .records-in .ensures .0) (c .records-in .ensures .1)

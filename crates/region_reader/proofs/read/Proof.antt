@@ -9,20 +9,24 @@ use Rattle.region_reader.proofs.ReadAnswers.{file-refused, no-room, cou
 use Rattle.region_reader.proofs.read.Statement.{statement}
 use Rattle.region_reader.proofs.read.Tie as tie
 
-says : (c : tie.After-known-told) → gives (c .before .said .given .0 .0) ≡ with-value headerOf (reader.read (now (c .before .before .before .before .before .before .args .file)))
+-- Named anchors: the states that the proofs below read from, each named with a later state that leads back to it.
+abbrev start-before-decode : tie.After-decode → tie.Start
+start-before-decode c = c .before .before .before
+
+says : (c : tie.After-known-told) → gives (c .before .said .given .0 .0) ≡ with-value headerOf (reader.read (now (start-before-decode (c .before .before .before) .args .file)))
 says c = sym (ap headerGiven (c .before .said .given .1)) ∙ c .before .before .before .decode .ensures .0
 
 space : tie.Need-returns
 space c =
     let t = c .before .before in
-    let a = t .before .before .before .before .before .before .args in
+    let a = start-before-decode (t .before .before .before) .args in
     no-room (now (a .file)) (now (a .rows)) (t .before .said .given .0 .0) (says t) (c .if1 .taken)
 
 wants : tie.Need-copy-rows-requires
 wants c κs =
     let e = c .before .before in
     let t = e .before .before in
-    let a = t .before .before .before .before .before .before .args in
+    let a = start-before-decode (t .before .before .before) .args in
     (count-most (now (a .file)) (now (a .rows)) (t .before .said .given .0 .0) (says t), e .if1 .left)
 
 given : tie.Need-returns-2

@@ -19,11 +19,18 @@ use Rattle.region_reader.proofs.RecordLaws.{group-of}
 use Rattle.region_reader.proofs.record_in.Statement.{statement}
 use Rattle.region_reader.proofs.record_in.Tie as tie
 
+-- Named anchors: the states that the proofs below read from, each named with a later state that leads back to it.
+abbrev start-before-at-match-keys2 : tie.At-match-keys2 → tie.Start
+start-before-at-match-keys2 c = c .before .before .before
+
+abbrev known-told2-before-payload : tie.After-payload → tie.After-known-told2
+known-told2-before-payload c = c .before .before .before
+
 abbrev file : tie.After-known-told2 → List ℕ
-file c = now (c .before .before .before .before .before .args .file)
+file c = now (start-before-at-match-keys2 (c .before .before) .args .file)
 
 abbrev place : tie.After-known-told2 → ℕ
-place c = c .before .before .before .before .before .args .s .at
+place c = start-before-at-match-keys2 (c .before .before) .args .s .at
 
 abbrev rest : tie.After-known-told2 → List ℕ
 rest c = drop (place c) (file c)
@@ -39,10 +46,10 @@ framed c = frame-says _ _ _ (sym (c .before .frame2 .given .1) ∙ c .before .be
 
 -- the record ends within the file
 within : (c : tie.After-known-told2) → place c + len c ≤ length (file c)
-within c = end-within (file c) (place c) (len c) (found c) (framed c) (c .before .before .before .before .before .pre .0)
+within c = end-within (file c) (place c) (len c) (found c) (framed c) (start-before-at-match-keys2 (c .before .before) .pre .0)
 
 least : (c : tie.After-known-told2) → 4 ≤ len c
-least c = begins-least (file c) (place c) (len c) (found c) (framed c) (c .before .before .before .before .before .pre .0)
+least c = begins-least (file c) (place c) (len c) (found c) (framed c) (start-before-at-match-keys2 (c .before .before) .pre .0)
 
 next : (c : tie.After-known-told2) → place c + len c ≡ place c + lengthOf (rest c)
 next c = ap (λ n. place c + n) (framed c .len-is)
@@ -60,7 +67,7 @@ no-payload c e = simp length-take (omega arith)
 
 -- the styles that records of the file may have
 abbrev styles : tie.After-known-told2 → Styles
-styles c = Styles.only (c .before .before .before .before .before .args .style)
+styles c = Styles.only (start-before-at-match-keys2 (c .before .before) .args .style)
 
 -- the record is r, and is taken
 taken : (c : tie.Else1) (r : Record) → let k = c .before .before in found k ≡ r → (x : File)
@@ -112,7 +119,7 @@ end c x before st =
     let left = after (rest k) in
     taken-as (sym (is-end (rest k) Record.End (is k Record.End e))) (next k) (sym (taken u Record.End e x))
     (end-taken x left st
-    (c .end-payload .ensures x _ left (st .counts) (left-after (file k) (place k) (len k) (found k) (framed k) (k .before .before .before .before .before .pre .0))))
+    (c .end-payload .ensures x _ left (st .counts) (left-after (file k) (place k) (len k) (found k) (framed k) (start-before-at-match-keys2 (k .before .before) .pre .0))))
 
 group : tie.Need-returns-7
 group c x before st =
@@ -144,18 +151,18 @@ record-in-spec =
     (λ c. c .match2 .keys1)
     (λ c κs. tt)
     (λ c. c .match2 .keys2)
-    (λ c κs. let k = c .before .before .before .before .before in no-payload k (has-size k Record.Convex (c .enum-told2 .given .1)))
+    (λ c κs. let k = known-told2-before-payload (c .before .before) in no-payload k (has-size k Record.Convex (c .enum-told2 .given .1)))
     (λ c. c .match2 .keys3)
     (λ c κs.
-    let k = c .before .before .before .before .before .before in
+    let k = known-told2-before-payload (c .before .before .before) in
     let l = has-size k Record.Halfspace (c .before .enum-told3 .given .1) in
     let w = within k in
-    (simp (length-take, length-drop) (omega arith), k .before .before .before .before .before .pre .1))
+    (simp (length-take, length-drop) (omega arith), start-before-at-match-keys2 (k .before .before) .pre .1))
     (λ c. c .match2 .keys4)
-    (λ c. within (c .before .before .before .before .before))
-    (λ c κs. let k = c .before .before .before .before .before in no-payload k (has-size k Record.End (c .enum-told4 .given .1)))
+    (λ c. within (known-told2-before-payload (c .before .before)))
+    (λ c κs. let k = known-told2-before-payload (c .before .before) in no-payload k (has-size k Record.End (c .enum-told4 .given .1)))
     (λ c. c .match2 .keys5)
-    (λ c κs. let k = c .before .before .before .before .before .before in k .before .before .before .before .before .pre .1)
+    (λ c κs. let k = known-told2-before-payload (c .before .before .before) in start-before-at-match-keys2 (k .before .before) .pre .1)
     torn
     again
     convex

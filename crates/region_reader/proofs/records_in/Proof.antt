@@ -14,9 +14,19 @@ Inv-loop file style h rows₀ s₀ rows s = (length rows₀ ≡ 2560) × Reading
 abbrev μ-loop : tie.MeasureT-loop
 μ-loop file style h rows₀ s₀ rows s = length file - s .at
 
+-- Named anchors: the states that the proofs below read from, each named with a later state that leads back to it.
+abbrev record-in-before-o : tie.After-o Inv-loop μ-loop → tie.After-record-in Inv-loop μ-loop
+record-in-before-o c = c .before .before .before
+
+abbrev record-in-before-o2 : tie.After-o2 Inv-loop μ-loop → tie.After-record-in Inv-loop μ-loop
+record-in-before-o2 c = c .before .before .before
+
+abbrev record-in-before-o3 : tie.After-o3 Inv-loop μ-loop → tie.After-record-in Inv-loop μ-loop
+record-in-before-o3 c = c .before .before .before
+
 less : tie.Need-loop-less Inv-loop μ-loop
 less c =
-    let r = c .before .before .before .before in
+    let r = record-in-before-o (c .before) in
     let l = r .before .before in
     let a = l .before .before .before .args in
     let n = reading-further (a .style) (now (a .file)) (a .h) (now (a .rows)) (l .loop .rows) (l .loop .s) (l .loop .inv .1)
@@ -25,7 +35,7 @@ less c =
 
 more : tie.Need-loop-again Inv-loop μ-loop
 more c =
-    let r = c .before .before .before .before in
+    let r = record-in-before-o (c .before) in
     let l = r .before .before in
     let a = l .before .before .before .args in (
       l .loop .inv .0,
@@ -35,7 +45,7 @@ more c =
 
 done : tie.Need-returns Inv-loop μ-loop
 done c =
-    let r = c .before .before .before .before in
+    let r = record-in-before-o2 (c .before) in
     let l = r .before .before in
     let a = l .before .before .before .args in
     reading-done (a .style) (now (a .file)) (a .h) (now (a .rows)) (l .loop .rows) (l .loop .s) (l .loop .inv .1)
@@ -43,7 +53,7 @@ done c =
 
 refused : tie.Need-returns-2 Inv-loop μ-loop
 refused c =
-    let r = c .before .before .before .before in
+    let r = record-in-before-o3 (c .before) in
     let l = r .before .before in
     let a = l .before .before .before .args in
     reading-refused (a .style) (now (a .file)) (a .h) (now (a .rows)) (l .loop .rows) (l .loop .s) (l .loop .inv .1)
@@ -65,8 +75,8 @@ records-in-spec =
     less
     more
     (λ c. c .match .keys2)
-    (λ c. let r = c .before .before .before .before in r .record-in .kept .1 .1 .1 .0 ∙ r .before .before .loop .inv .1 .room)
+    (λ c. let r = record-in-before-o2 (c .before) in r .record-in .kept .1 .1 .1 .0 ∙ r .before .before .loop .inv .1 .room)
     done
     (λ c. c .match .keys3)
-    (λ c. let r = c .before .before .before .before in r .record-in .kept .1 .1 .1 .0 ∙ r .before .before .loop .inv .1 .room)
+    (λ c. let r = record-in-before-o3 (c .before) in r .record-in .kept .1 .1 .1 .0 ∙ r .before .before .loop .inv .1 .room)
     refused)

@@ -15,8 +15,12 @@ use Rattle.region_records.proofs.FrameLaws.{Framed, frame-says, header-
 use Rattle.region_records.proofs.header_in.Statement.{statement}
 use Rattle.region_records.proofs.header_in.Tie as tie
 
+-- Named anchors: the states that the proofs below read from, each named with a later state that leads back to it.
+abbrev start-before-at-match-keys2 : tie.At-match-keys2 → tie.Start
+start-before-at-match-keys2 c = c .before .before .before
+
 abbrev file : tie.After-known-told2 → List ℕ
-file c = now (c .before .before .before .before .before .args .file)
+file c = now (start-before-at-match-keys2 (c .before .before) .args .file)
 
 abbrev len : tie.After-known-told2 → ℕ
 len c = c .before .frame2 .given .0 .0

@@ -8,16 +8,23 @@ use Rattle.region_records.proofs.FrameLaws.{by-tests}
 use Rattle.region_records.proofs.record_of.Statement.{statement}
 use Rattle.region_records.proofs.record_of.Tie as tie
 
+-- Named anchors: the states that the proofs below read from, each named with a later state that leads back to it.
+abbrev start-before-is-record2 : tie.After-is-record2 → tie.Start
+start-before-is-record2 c = c .before .before .before
+
+abbrev start-before-else3 : tie.Else3 → tie.Start
+start-before-else3 c = start-before-is-record2 (c .before .before .before)
+
 no-header : (c : tie.Else1) → let a = c .before .before .args in is (a .kind) (a .len) Record.Header ≡ false
 no-header c = sym (c .before .is-record .ensures) ∙ c .if1 .left
 
-no-convex : (c : tie.Else2) → let a = c .before .before .before .before .args in is (a .kind) (a .len) Record.Convex ≡ false
+no-convex : (c : tie.Else2) → let a = start-before-is-record2 (c .before) .args in is (a .kind) (a .len) Record.Convex ≡ false
 no-convex c = sym (c .before .is-record2 .ensures) ∙ c .if2 .left
 
-no-halfspace : (c : tie.Else3) → let a = c .before .before .before .before .before .before .args in is (a .kind) (a .len) Record.Halfspace ≡ false
+no-halfspace : (c : tie.Else3) → let a = start-before-is-record2 (c .before .before .before) .args in is (a .kind) (a .len) Record.Halfspace ≡ false
 no-halfspace c = sym (c .before .is-record3 .ensures) ∙ c .if3 .left
 
-no-end : (c : tie.Else4) → let a = c .before .before .before .before .before .before .before .before .args in is (a .kind) (a .len) Record.End ≡ false
+no-end : (c : tie.Else4) → let a = start-before-else3 (c .before .before) .args in is (a .kind) (a .len) Record.End ≡ false
 no-end c = sym (c .before .is-record4 .ensures) ∙ c .if4 .left
 
 pub record-of-spec : {M : Type 1} → statement M

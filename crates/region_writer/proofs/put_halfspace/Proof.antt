@@ -11,10 +11,23 @@ use Rattle.region_writer.specs.Writing.{width, withHalfspaceAt}
 use Rattle.region_writer.proofs.put_halfspace.Statement.{statement}
 use Rattle.region_writer.proofs.put_halfspace.Tie as tie
 
+-- Named anchors: the states that the proofs below read from, each named with a later state that leads back to it.
+abbrev start-before-width : tie.After-width → tie.Start
+start-before-width c = c .before .before .before
+
+abbrev enum-told-before-out : tie.After-out → tie.After-enum-told
+enum-told-before-out c = c .before .before .before
+
+abbrev put-kind-before-put-numbers-arg : tie.After-put-numbers-arg → tie.After-put-kind
+put-kind-before-put-numbers-arg c = c .before .before .before
+
+abbrev put-kind2-before-put-numbers-arg2 : tie.After-put-numbers-arg2 → tie.After-put-kind2
+put-kind2-before-put-numbers-arg2 c = c .before .before .before
+
 plain : tie.Need-returns
 plain c =
     let n = c .before .before in
-    let k = n .before .before .before .before in
+    let k = put-kind-before-put-numbers-arg (n .before) in
     let t = k .before .before in
     let w = t .before .before in
     let a = w .before .before .before .args in (
@@ -26,7 +39,7 @@ plain c =
 grouped : tie.Need-returns-2
 grouped c =
     let n = c .before .before in
-    let k = n .before .before .before .before in
+    let k = put-kind2-before-put-numbers-arg2 (n .before) in
     let t = k .before .before .before in
     let w = t .before .before in
     let a = w .before .before .before .args in (
@@ -46,15 +59,15 @@ put-halfspace-spec =
     (λ c. c .match .keys1)
     (λ c κs.
     let t = c .before in
-    let s = t .before .before .before .before .before in
+    let s = start-before-width (t .before .before) in
     (omega (arith, s .pre .0 .0, ap width (t .enum-told .given .1)), omega arith))
     (λ c.
-    let t = c .before .before .before .before .before in
-    omega (arith, t .before .before .before .before .before .pre .0 .0, ap width (t .enum-told .given .1)))
+    let t = enum-told-before-out (c .before .before) in
+    omega (arith, start-before-width (t .before .before) .pre .0 .0, ap width (t .enum-told .given .1)))
     (λ c κs.
     let k = c .before .before .before in
     let t = k .before .before in
-    let s = t .before .before .before .before .before in
+    let s = start-before-width (t .before .before) in
     (omega (arith, s .pre .0 .0, ap width (t .enum-told .given .1), k .put-kind .kept .0), s .pre .1))
     (λ c. c .match .keys2)
     (λ c. omega arith)
@@ -65,9 +78,9 @@ put-halfspace-spec =
     (λ c κs.
     let k = c .before .before .before in
     let t = k .before .before .before in
-    let s = t .before .before .before .before .before in
+    let s = start-before-width (t .before .before) in
     (omega (arith, s .pre .0 .0, ap width (t .enum-told2 .given .1), k .put-kind2 .kept .0), s .pre .1))
-    (λ c. let n = c .before .before in n .put-numbers .kept .0 ∙ n .before .before .before .before .put-kind .kept .0)
+    (λ c. let n = c .before .before in n .put-numbers .kept .0 ∙ put-kind-before-put-numbers-arg (n .before) .put-kind .kept .0)
     plain
-    (λ c. let n = c .before .before in n .put-numbers2 .kept .0 ∙ n .before .before .before .before .put-kind2 .kept .0)
+    (λ c. let n = c .before .before in n .put-numbers2 .kept .0 ∙ put-kind2-before-put-numbers-arg2 (n .before) .put-kind2 .kept .0)
     grouped)

@@ -8,6 +8,10 @@ use Rattle.region_writer.proofs.WritingPass.{halfspace-fits, halfspace-
 use Rattle.region_writer.proofs.put_row.Statement.{statement}
 use Rattle.region_writer.proofs.put_row.Tie as tie
 
+-- Named anchors: the states that the proofs below read from, each named with a later state that leads back to it.
+abbrev put-convex-before-put-halfspace-arg : tie.After-put-halfspace-arg → tie.After-put-convex
+put-convex-before-put-halfspace-arg c = c .before .before .before
+
 number : (c : tie.After-is-number) (t : Bool) → c .is-number .result ≡ t → eqZ (c .before .before .args .c) (pos (c .before .before .args .p .convexes)) ≡ t
 number c t e = let s = c .before .before in ap (λ z. eqZ z (pos (s .args .p .convexes))) (sym (toZ-ofZ (s .fits .c))) ∙ sym (c .is-number .ensures) ∙ e
 
@@ -28,10 +32,10 @@ put-row-spec =
     let t = o .before .before in
     let f = begins-row (t .before .before .before .pre) (begins t) (o .put-convex .ensures .0) (o .put-convex .ensures .1) in
     (halfspace-fits f, halfspace-small f))
-    (λ c. let h = c .before .before in h .put-halfspace .kept .1 .0 ∙ h .before .before .before .before .put-convex .kept .1 .0)
+    (λ c. let h = c .before .before in h .put-halfspace .kept .1 .0 ∙ put-convex-before-put-halfspace-arg (h .before) .put-convex .kept .1 .0)
     (λ c f.
     let h = c .before .before in
-    let o = h .before .before .before .before in
+    let o = put-convex-before-put-halfspace-arg (h .before) in
     let b = begins-row f (begins (o .before .before)) (o .put-convex .ensures .0) (o .put-convex .ensures .1) in
     halfspace-stands b (h .put-halfspace .ensures .0) (h .put-halfspace .ensures .1))
     (λ c κs.

@@ -12,14 +12,21 @@ use Rattle.region_writer.proofs.WriterLaws.{no-depth, no-budget, no-row
 use Rattle.region_writer.proofs.write.Statement.{statement}
 use Rattle.region_writer.proofs.write.Tie as tie
 
+-- Named anchors: the states that the proofs below read from, each named with a later state that leads back to it.
+abbrev start-before-else1 : tie.Else1 → tie.Start
+start-before-else1 c = c .before .before .before
+
+abbrev start-before-checked : tie.After-checked → tie.Start
+start-before-checked c = start-before-else1 (c .before .before .before)
+
 depth : (c : tie.Else1) → isDepth (c .before .before .before .args .depth) ≡ true
 depth c = sym (c .before .is-depth .ensures) ∙ not-false _ (c .if1 .left)
 
-budget : (c : tie.Else2) → isBudget (c .before .before .before .before .before .args .budget) ≡ true
+budget : (c : tie.Else2) → isBudget (start-before-else1 (c .before .before) .args .budget) ≡ true
 budget c = sym (c .before .is-budget .ensures) ∙ not-false _ (c .if2 .left)
 
 -- the rows passed, and these are their counts
-counts : (c : tie.After-c) → RowsWithin (c .before .before .before .before .before .before .before .before .args .rows .now) (c .c .given .0 .0)
+counts : (c : tie.After-c) → RowsWithin (start-before-checked (c .before .before) .args .rows .now) (c .c .given .0 .0)
 counts c = let k = c .before .before in passed _ (c .c .given .0 .0) (sym (ap countsGiven (c .c .given .1)) ∙ k .checked .ensures)
 
 refused : tie.Need-returns-4
@@ -33,7 +40,7 @@ no-space c =
     let l = c .before in
     let p = l .before .before in
     let e = p .before .before .before in
-    let a = e .before .before .before .before .before .args in
+    let a = start-before-else1 (e .before .before) .args in
     let q = counts p in
     no-room _ _ _ _ _ (depth (e .before .before)) (budget e) (q .region) (q .is)
     (omega (arith, l .file-length .ensures, counted-length q (a .style) (a .depth) (a .budget), c .if3 .taken))
@@ -45,7 +52,7 @@ gives-length c =
     let l = t .before in
     let p = l .before .before in
     let e = p .before .before .before in
-    let a = e .before .before .before .before .before .args in
+    let a = start-before-else1 (e .before .before) .args in
     let q = counts p in
     has-file (a .style) (a .depth) (a .budget) (a .rows .now) (a .out .now) (depth (e .before .before)) (budget e) (q .region) (q .is)
     (l .file-length .ensures ∙ counted-length q (a .style) (a .depth) (a .budget)) (t .if3 .left) (f .put-file .ensures (q .region) (q .is))
@@ -67,7 +74,7 @@ write-spec =
     let l = c .before .before in
     let p = l .before .before in
     let e = p .before .before .before in
-    let a = e .before .before .before .before .before .args in
+    let a = start-before-else1 (e .before .before) .args in
     let room = has-room (counts p) (a .style) _ (omega (arith, l .file-length .ensures, c .before .if3 .left)) in
     ((depth-range (a .depth) (depth (e .before .before)) .1, leb-true (a .budget) 2048 (budget e)), room))
     refused

@@ -16,9 +16,13 @@ Inv-loop to₀ done₀ to done = (done ≤ length to) × (length to ≡ length t
 abbrev μ-loop : tie.MeasureT-loop
 μ-loop to₀ done₀ to done = length to - done
 
+-- Named anchors: the states that the proofs below read from, each named with a later state that leads back to it.
+abbrev read-before-at-match-keys1 : tie.At-match-keys1 Inv-loop μ-loop → tie.After-read Inv-loop μ-loop
+read-before-at-match-keys1 c = c .before .before .before
+
 -- what the read before has given
-more : (c : tie.Else1 Inv-loop μ-loop) → Counts (c .before .before .n .given .0 .0) (c .before .before .before .before .before .before .read .last .0)
-more c = subst (Within _) (c .before .before .n .given .1) (c .before .before .before .before .before .before .read .ensures)
+more : (c : tie.Else1 Inv-loop μ-loop) → Counts (c .before .before .n .given .0 .0) (read-before-at-match-keys1 (c .before .before .before) .read .last .0)
+more c = subst (Within _) (c .before .before .n .given .1) (read-before-at-match-keys1 (c .before .before .before) .read .ensures)
 
 pub read-all-spec : {M : Type 1} → statement M
 read-all-spec =

@@ -7,10 +7,17 @@ use Rattle.trial.specs.Answers.{fitting, ofChoice}
 use Rattle.trial_calls.proofs.part_by.Statement.{statement}
 use Rattle.trial_calls.proofs.part_by.Tie as tie
 
+-- Named anchors: the states that the proofs below read from, each named with a later state that leads back to it.
+abbrev start-before-at-match-keys1 : tie.At-match-keys1 → tie.Start
+start-before-at-match-keys1 c = c .before .before .before
+
+abbrev start-before-at-match-keys2 : tie.At-match-keys2 → tie.Start
+start-before-at-match-keys2 c = c .before .before .before
+
 first-chosen : tie.Need-returns
 first-chosen c =
     let k = c .before .enum-told .given .1 in
-    let a = c .before .before .before .before .before .args in
+    let a = start-before-at-match-keys1 (c .before .before) .args in
     record {
       elements =
           c .front .ensures .0
@@ -21,7 +28,7 @@ first-chosen c =
 second-chosen : tie.Need-returns-2
 second-chosen c =
     let k = c .before .enum-told2 .given .1 in
-    let a = c .before .before .before .before .before .args in
+    let a = start-before-at-match-keys2 (c .before .before) .args in
     record {
       elements =
           c .front2 .ensures .0

@@ -11,6 +11,19 @@ use Rattle.trial_calls.proofs.AnswerLaws.{check-refused, tried-both}
 use Rattle.trial_calls.proofs.trial_in.Statement.{statement}
 use Rattle.trial_calls.proofs.trial_in.Tie as tie
 
+-- Named anchors: the states that the proofs below read from, each named with a later state that leads back to it.
+abbrev start-before-refusal : tie.After-refusal → tie.Start
+start-before-refusal c = c .before .before .before
+
+abbrev else1-before-try-setting-arg : tie.After-try-setting-arg → tie.Else1
+else1-before-try-setting-arg c = c .before .before
+
+abbrev else1-before-first : tie.After-first → tie.Else1
+else1-before-first c = else1-before-try-setting-arg (c .before .before)
+
+abbrev try-setting-before-known2 : tie.After-struct-known2 → tie.After-try-setting
+try-setting-before-known2 c = c .before .before .before
+
 refused : tie.Need-returns
 refused c f k =
     let e = c .before in
@@ -20,7 +33,7 @@ refused c f k =
 
 -- every check passed
 passes : (c : tie.Else1) →
-    let a = c .before .before .before .before .args in
+    let a = start-before-refusal (c .before) .args in
     SettingsPassed (length (now (a .index))) (a .s) (a .t) (length (now (a .first))) (length (now (a .second)))
 passes c =
     let e = c .before in
@@ -32,18 +45,18 @@ wants-one : tie.Need-try-setting-requires
 wants-one c κs =
     let e = c .before .before in
     let p = passes e in
-    ((p .one .0, p .one .1, some-rows (e .before .before .before .before .pre .0 .1)), (p .first, p .index))
+    ((p .one .0, p .one .1, some-rows (start-before-refusal (e .before) .pre .0 .1)), (p .first, p .index))
 
 wants-two : tie.Need-try-setting-requires-2
 wants-two c κs =
-    let e = c .before .before .before .before .before .before .before in
+    let e = else1-before-first (c .before .before .before) in
     let p = passes e in
-    ((p .two .0, p .two .1, some-rows (e .before .before .before .before .pre .0 .1)), (p .second, p .index))
+    ((p .two .0, p .two .1, some-rows (start-before-refusal (e .before) .pre .0 .1)), (p .second, p .index))
 
 given : tie.Need-returns-2
 given c f k =
     let v = c .before .before .before in
-    let u = v .before .before .before .before .before in
+    let u = try-setting-before-known2 (v .before .before) in
     let e = u .before .before .before in
     let r = e .before in
     let s = r .before .before .before in

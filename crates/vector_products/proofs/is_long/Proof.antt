@@ -3,7 +3,6 @@ use mathlib.Core.Path.{_≡_, ap, _∙_}
 use borrow.Author.Tests.{le-leb, lt-leb}
 use lib.IntN.{pos}
 use lib.Signed.{pos-natAbs}
-use mir.Facts.{fits-lit}
 use Rattle.algebra.proofs.Tests.{and-then, and-else}
 use Rattle.vector.specs.Numbers.{between}
 use Rattle.vector.specs.Vectors.{dot}
@@ -19,7 +18,5 @@ is-long-spec =
     tie.close
     (tie.spec
     (λ c κs. c .pre)
-    (λ c. fits-lit tt)
-    (λ c. fits-lit tt)
     (λ c. and-then _ (le-leb _ _ (c .if1 .taken)) ∙ ap (between (pos 1099507433476) (pos 1099515822084)) (square (c .before)))
     (λ c. and-else _ (lt-leb _ _ (c .if1 .left)) ∙ ap (between (pos 1099507433476) (pos 1099515822084)) (square (c .before))))

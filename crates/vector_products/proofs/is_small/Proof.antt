@@ -13,6 +13,10 @@ use Rattle.vector.specs.Numbers.{K, between}
 use Rattle.vector_products.proofs.is_small.Statement.{statement}
 use Rattle.vector_products.proofs.is_small.Tie as tie
 
+-- Named anchors: the states that the proofs below read from, each named with a later state that leads back to it.
+abbrev start-before-joined1 : tie.Joined1 → tie.Start
+start-before-joined1 c = c .before .before .before
+
 abbrev small : ℤ → Bool
 small = between (negℤ K) K
 
@@ -36,5 +40,5 @@ is-small-spec =
     (λ c κs. tt)
     (λ c κs. tt)
     (λ c κs. tt)
-    (λ c. c .within3 .ensures ∙ same (c .before .before .before .before .before .before .args .p .z) (c .before .struct-told3 .given .1 .1 .0 .1) ∙ and-then _ (sym (two (c .before .before .before)) ∙ c .before .before .if2 .taken))
+    (λ c. c .within3 .ensures ∙ same (start-before-joined1 (c .before .before .before) .args .p .z) (c .before .struct-told3 .given .1 .1 .0 .1) ∙ and-then _ (sym (two (c .before .before .before)) ∙ c .before .before .if2 .taken))
     (λ c. two (c .before) ∙ and-else _ (sym (two (c .before)) ∙ c .if2 .left)))

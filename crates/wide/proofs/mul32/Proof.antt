@@ -1,13 +1,13 @@
 -- `wide::mul32`: a product of two halves fits a word. Assumes nothing.
 use mathlib.Core.Path.{refl}
-use Prim.Native.Nat.{_≤_, _*_}
+use Prim.Native.Nat.{_-_, _*_, _^_, _≤_}
 use native.Mathlib.Nat.{mul-le-mul, lt-of-le-of-lt}
 use native.Mathlib.Omega.{arith}
 use lib.Dec.{lit<}
 use Rattle.wide.proofs.mul32.Statement.{statement}
 use Rattle.wide.proofs.mul32.Tie as tie
 
-bound : (c : tie.Start) → c .args .a * c .args .b ≤ 18446744065119617025
+bound : (c : tie.Start) → c .args .a * c .args .b ≤ (2 ^ 32 - 1) * (2 ^ 32 - 1)
 bound c =
     let ha : c .args .a ≤ 4294967295 = omega arith in
     let hb : c .args .b ≤ 4294967295 = omega arith in

@@ -15,13 +15,20 @@ use Rattle.classify_halfspace.proofs.FarLaws.{cap-clearance, clearance-below}
 use Rattle.classify_active.proofs.anchor.anchor_of.Statement.{statement}
 use Rattle.classify_active.proofs.anchor.anchor_of.Tie as tie
 
+-- Named anchors: the states that the proofs below read from, each named with a later state that leads back to it.
+abbrev start-before-else1 : tie.Else1 → tie.Start
+start-before-else1 c = c .before .before .before
+
+abbrev then2-before-known4 : tie.After-struct-known4 → tie.Then2
+then2-before-known4 c = c .before .before .before
+
 reach : (c : tie.Else1) → Upto Kℕ (c .before .before .before .args .m .reach)
 reach c = cap-beside (c .before .before .before .pre) (not-false _ (c .if1 .left)) .size
 
 -- a clearance that was found to be small
-clearance : (c : tie.Then2) → Upto (2 ^ 43) (c .before .before .before .before .before .before .args .m .clearance)
+clearance : (c : tie.Then2) → Upto (2 ^ 43) (start-before-else1 (c .before .before .before) .args .m .clearance)
 clearance c =
-    let s = c .before .before .before .before .before .before in
+    let s = start-before-else1 (c .before .before .before) in
     let a = not-false _ (c .before .before .before .if1 .left) in
     clearance-below (s .pre) a (sym (same-le (held (cap-clearance (s .pre) a) tt) (lit (2 ^ 43) tt)) ∙ c .if2 .taken)
 
@@ -31,10 +38,10 @@ less h = is-sub (held h tt) (is-div (held h tt) (lit 8 tt) tt) tt
 
 returns-2 : tie.Need-returns-2
 returns-2 c =
-    let t = c .before .before .before .before .before in
+    let t = then2-before-known4 (c .before .before) in
     let z = less (clearance t) in
     record {
-      b = cap-small (t .before .before .before .before .before .before .pre);
+      b = cap-small (start-before-else1 (t .before .before .before) .pre);
       reach = upto-held (reach (t .before .before .before)) tt;
       margin = rw (z .eq) (z .size);
     }
@@ -45,7 +52,7 @@ anchor-of-spec =
     (tie.spec
     (λ c. record { b = cap-small (c .before .before .before .pre); reach = record { le = lit≤ tt }; margin = record { le = lit≤ tt } })
     (λ c. fits-div (held (clearance (c .before .before)) tt) (lit 8 tt) (lit< tt) tt)
-    (λ c. fits-sub (held (clearance (c .before .before .before .before)) tt) (is-div (held (clearance (c .before .before .before .before)) tt) (lit 8 tt) tt) tt)
+    (λ c. fits-sub (held (clearance (then2-before-known4 (c .before))) tt) (is-div (held (clearance (then2-before-known4 (c .before))) tt) (lit 8 tt) tt) tt)
     returns-2
     (λ c.
     let e = c .before .before .before .before in

@@ -14,15 +14,25 @@ use Rattle.classify_halfspace.proofs.FarLaws.{cap-clearance}
 use Rattle.classify_active.proofs.anchor.is_close.Statement.{statement}
 use Rattle.classify_active.proofs.anchor.is_close.Tie as tie
 
+-- Named anchors: the states that the proofs below read from, each named with a later state that leads back to it.
+abbrev start-before-else1 : tie.Else1 → tie.Start
+start-before-else1 c = c .before .before
+
+abbrev start-before-steps : tie.After-steps → tie.Start
+start-before-steps c = start-before-else1 (c .before .before .before)
+
+abbrev else1-before-steps : tie.After-steps → tie.Else1
+else1-before-steps c = c .before .before .before
+
 cap : (c : tie.Else1) → Beside (c .before .before .args .m .b) (c .before .before .args .m .reach) (c .before .before .args .m .rest)
 cap c = cap-beside (c .before .before .pre .1) (not-false _ (c .if1 .left))
 
 abbrev start : tie.After-step → tie.Start
-start c = c .before .before .before .before .before .before .before .before
+start c = start-before-steps (c .before .before .before)
 
 -- the steps
 of-reach : (c : tie.After-step) → c .step .result ≡ natAbs (start c .args .m .reach -ℤ start c .args .r .reach)
-of-reach c = c .step .ensures .0 ∙ (λ i. natAbs (held (cap (c .before .before .before .before .before .before) .size) tt .eq i -ℤ held (start c .pre .0 .reach) tt .eq i))
+of-reach c = c .step .ensures .0 ∙ (λ i. natAbs (held (cap (else1-before-steps (c .before .before .before)) .size) tt .eq i -ℤ held (start c .pre .0 .reach) tt .eq i))
 
 total : (c : tie.After-step) → c .before .before .before .steps .result + 2 * c .step .result ≡ stepsTo (start c .args .r) (start c .args .m)
 total c i = c .before .before .before .steps .ensures .0 i + 2 * of-reach c i
@@ -38,7 +48,7 @@ returns-2 : tie.Need-returns-2
 unfolding closeTo
 returns-2 c =
     let d = c .before .before .before .before in
-    let e = d .before .before .before .before .before .before in
+    let e = else1-before-steps (d .before .before .before) in
     let s = e .before .before in
     let a = not-false _ (e .if1 .left) in
     same-le (is-add (held (cap-clearance (s .pre .1) a) tt) (nat (most d) tt) tt) (held (s .pre .0 .margin) tt)
@@ -50,14 +60,14 @@ is-close-spec =
     tie.close
     (tie.spec
     returns
-    (λ c κs. let s = c .before .before .before .before in (cap-small (s .pre .1), s .pre .0 .b))
-    (λ c κs. let e = c .before .before .before .before .before in (upto-held (cap e .size) tt, upto-held (e .before .before .pre .0 .reach) tt))
+    (λ c κs. let s = start-before-else1 (c .before .before) in (cap-small (s .pre .1), s .pre .0 .b))
+    (λ c κs. let e = else1-before-steps (c .before .before) in (upto-held (cap e .size) tt, upto-held (e .before .before .pre .0 .reach) tt))
     (λ c. record { fits = omega (arith, c .step .ensures .1) })
     (λ c. record { fits = omega (arith, most c) })
     (λ c. record { fits = omega (arith, most c) })
     (λ c. record { sfits = omega (arith, most c) })
     (λ c.
     let d = c .before .before in
-    let e = d .before .before .before .before .before .before in
+    let e = else1-before-steps (d .before .before .before) in
     fits-add (held (cap-clearance (e .before .before .pre .1) (not-false _ (e .if1 .left))) tt) (nat (most d) tt) tt)
     returns-2)

@@ -20,6 +20,34 @@ use Rattle.classify_cap.proofs.CapLaws.{Beside, sound-beside}
 use Rattle.classify_active.proofs.anchor.settled_class.Statement.{statement}
 use Rattle.classify_active.proofs.anchor.settled_class.Tie as tie
 
+-- Named anchors: the states that the proofs below read from, each named with a later state that leads back to it.
+abbrev start-before-dot : tie.After-dot → tie.Start
+start-before-dot c = c .before .before .before
+
+abbrev start-before-known2 : tie.After-struct-known2 → tie.Start
+start-before-known2 c = start-before-dot (c .before .before .before)
+
+abbrev start-before-told3 : tie.After-struct-told3 → tie.Start
+start-before-told3 c = start-before-known2 (c .before .before .before)
+
+abbrev start-before-told5 : tie.After-struct-told5 → tie.Start
+start-before-told5 c = start-before-told3 (c .before .before .before)
+
+abbrev dot-before-known2 : tie.After-struct-known2 → tie.After-dot
+dot-before-known2 c = c .before .before .before
+
+abbrev dot-before-told3 : tie.After-struct-told3 → tie.After-dot
+dot-before-told3 c = dot-before-known2 (c .before .before .before)
+
+abbrev dot-before-told5 : tie.After-struct-told5 → tie.After-dot
+dot-before-told5 c = dot-before-told3 (c .before .before .before)
+
+abbrev else1-before-known5 : tie.After-struct-known5 → tie.Else1
+else1-before-known5 c = c .before .before .before
+
+abbrev else1-before-told7 : tie.After-struct-told7 → tie.Else1
+else1-before-told7 c = else1-before-known5 (c .before .before .before)
+
 half : (c : tie.Start) → Beside (c .args .q .f) (c .args .q .low) (c .args .q .rest)
 half c = sound-beside (c .pre .0)
 
@@ -55,21 +83,21 @@ module _ (c : tie.After-dot) {x : Bool} where
 returns : tie.Need-returns
 unfolding settledBy
 returns c =
-    let d = c .before .before .before .before .before .before .before .before .before in
+    let d = dot-before-told3 (c .before .before .before) in
     rw (past d (c .before .before .if1 .taken)) (c .class-apart .ensures ∙ ap classApart (held (sound-offset (start d .pre .0)) tt .eq))
 
 returns-2 : tie.Need-returns-2
 unfolding settledBy
 returns-2 c =
-    let e = c .before .before .before .before .before .before .before .before .before in
-    let d = e .before .before .before .before .before .before .before in
+    let e = else1-before-told7 (c .before .before .before) in
+    let d = dot-before-told3 (e .before) in
     rw (past d (e .if1 .left), inward d (c .before .before .if2 .taken)) (c .class-within .ensures ∙ ap classWithin (held (sound-offset (start d .pre .0)) tt .eq))
 
 returns-3 : tie.Need-returns-3
 unfolding settledBy
 returns-3 c =
-    let e = c .before .before .before .before .before .before .before in
-    let d = e .before .before .before .before .before .before .before in
+    let e = else1-before-told7 (c .before) in
+    let d = dot-before-told3 (e .before) in
     rw (past d (e .if1 .left), inward d (c .if2 .left)) refl
 
 pub settled-class-spec : {M : Type 1} → statement M
@@ -77,16 +105,16 @@ settled-class-spec =
     tie.close
     (tie.spec
     (λ c κs. (half (c .before .before) .small, at-most-mono (lit≤ tt) (c .before .before .pre .1 .b)))
-    (λ c. let s = c .before .before .before .before .before .before .before in fits-mul (held (half s .size) tt) (held (s .pre .1 .reach) tt) tt)
+    (λ c. let s = start-before-known2 (c .before) in fits-mul (held (half s .size) tt) (held (s .pre .1 .reach) tt) tt)
     (λ c.
-    let d = c .before .before .before .before in
+    let d = dot-before-known2 (c .before) in
     let s = start d in
     fits-sub (is-mul (held (half s .size) tt) (held (s .pre .1 .reach) tt) tt) (held (along d) tt) tt)
     (λ c κs. tt)
     returns
-    (λ c. let s = c .before .before .before .before .before .before .before .before .before .before .before .before .before .before in fits-mul (held (sound-near (s .pre .0)) tt) (held (s .pre .1 .reach) tt) tt)
+    (λ c. let s = start-before-told5 (c .before .before) in fits-mul (held (sound-near (s .pre .0)) tt) (held (s .pre .1 .reach) tt) tt)
     (λ c.
-    let d = c .before .before .before .before .before .before .before .before .before .before .before in
+    let d = dot-before-told5 (c .before .before) in
     let s = start d in
     fits-sub (held (along d) tt) (is-mul (held (sound-near (s .pre .0)) tt) (held (s .pre .1 .reach) tt) tt) tt)
     (λ c κs. tt)

@@ -12,9 +12,13 @@ use Rattle.classify_active.specs.Anchor.{anchorIn}
 use Rattle.classify_active.proofs.anchor.store_anchor.Statement.{statement}
 use Rattle.classify_active.proofs.anchor.store_anchor.Tie as tie
 
+-- Named anchors: the states that the proofs below read from, each named with a later state that leads back to it.
+abbrev start-before-told2 : tie.After-struct-told2 → tie.Start
+start-before-told2 c = c .before .before .before
+
 returns : tie.Need-returns
 returns c =
-    let s = c .before .before .before .before .before .before in
+    let s = start-before-told2 (c .before .before .before) in
     let r = s .args .r in
     let ps = s .args .numbers .now in
     let e = stored-same (r .reach) (c .before .before .before .before .struct-told .given .1 .0 .1) in

@@ -11,7 +11,14 @@ use Rattle.classify_prepared.specs.Measures.{squareOf}
 use Rattle.classify_cap.proofs.reach.reaches_all.Statement.{statement}
 use Rattle.classify_cap.proofs.reach.reaches_all.Tie as tie
 
-first : (c : tie.Else1) → let a = c .before .before .before .before .before .args in leb (a .n * a .n * squareOf (a .s .r0)) (a .x0 * a .x0) ≡ true
+-- Named anchors: the states that the proofs below read from, each named with a later state that leads back to it.
+abbrev start-before-r2 : tie.After-r2 → tie.Start
+start-before-r2 c = c .before .before .before
+
+abbrev start-before-reaches2 : tie.After-reaches2 → tie.Start
+start-before-reaches2 c = start-before-r2 (c .before .before .before)
+
+first : (c : tie.Else1) → let a = start-before-r2 (c .before .before) .args in leb (a .n * a .n * squareOf (a .s .r0)) (a .x0 * a .x0) ≡ true
 first c = sym (c .before .reaches .ensures) ∙ not-false _ (c .if1 .left)
 
 pub reaches-all-spec : {M : Type 1} → statement M
@@ -22,7 +29,7 @@ reaches-all-spec =
     (λ c. sym (and-no-left _ (sym (c .before .reaches .ensures) ∙ not-true _ (c .if1 .taken))))
     (λ c κs. (omega arith, omega arith, search needs))
     (λ c.
-    let a = c .before .before .before .before .before .before .before .args in
+    let a = start-before-reaches2 (c .before) .args in
     sym (and-no-left (leb (a .n * a .n * squareOf (a .s .r2)) (a .x2 * a .x2)) (sym (c .before .reaches2 .ensures) ∙ not-true _ (c .if2 .taken)))
     ∙ and-then _ (first (c .before .before)))
     (λ c κs. (omega arith, omega arith, search needs))

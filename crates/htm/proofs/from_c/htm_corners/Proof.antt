@@ -10,6 +10,13 @@ use Rattle.htm.proofs.CLaws.{corners-small, no-corners, no-room, corner
 use Rattle.htm.proofs.from_c.htm_corners.Statement.{statement}
 use Rattle.htm.proofs.from_c.htm_corners.Tie as tie
 
+-- Named anchors: the states that the proofs below read from, each named with a later state that leads back to it.
+abbrev start-before-answer2 : tie.After-answer2 → tie.Start
+start-before-answer2 c = c .before .before .before
+
+abbrev answer-before-put-corners-arg : tie.After-put-corners-arg → tie.After-answer
+answer-before-put-corners-arg c = c .before .before .before
+
 -- the corners that were found, by the rule
 found : (c : tie.After-answer) → gives (c .answer .given .0 .0) ≡ corners (c .before .before .before .args .id)
 found c = sym (ap cornersGiven (c .answer .given .1)) ∙ c .before .before .corners .ensures
@@ -32,12 +39,12 @@ htm-corners-spec =
     (λ c κs. tt)
     (λ c. c .before .put-corners .kept .0)
     (λ c.
-    let a = c .before .before .before .before .before in
+    let a = answer-before-put-corners-arg (c .before .before) in
     let s = a .before .before .before .args in
     let k = corners-put (s .id) (now (s .out)) _ (found a) (omega (arith, c .before .before .before .if1 .left)) in
     (k .0, c .before .put-corners .ensures ∙ k .1))
     (λ c.
-    let s = c .before .before .before .before .before .args in
+    let s = start-before-answer2 (c .before .before) .args in
     let m = c .minus2 .ensures in
     let k = no-corners (s .id) (now (s .out)) _ (sym (ap cornersGiven (c .before .before .answer2 .given .1)) ∙ c .before .before .before .before .corners .ensures) in
     (held (m .1) tt .eq ∙ m .0 ∙ k .0, k .1)))

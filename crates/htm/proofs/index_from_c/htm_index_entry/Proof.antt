@@ -10,6 +10,13 @@ use Rattle.htm.proofs.CLaws.{entry-refused, no-entry, no-entry-room, en
 use Rattle.htm.proofs.index_from_c.htm_index_entry.Statement.{statement}
 use Rattle.htm.proofs.index_from_c.htm_index_entry.Tie as tie
 
+-- Named anchors: the states that the proofs below read from, each named with a later state that leads back to it.
+abbrev start-before-answer2 : tie.After-answer2 → tie.Start
+start-before-answer2 c = c .before .before .before
+
+abbrev answer-before-store-entry-arg : tie.After-store-entry-arg → tie.After-answer
+answer-before-store-entry-arg c = c .before .before .before
+
 -- the entry that was found, by the rule
 found : (c : tie.After-answer) → gives (Placed.found (c .answer .given .0 .0)) ≡ entryAnswer (c .before .before .before .args .place) (now (c .before .before .before .args .index))
 found c = sym (ap entryGiven (c .answer .given .1)) ∙ c .before .before .index-entry .ensures
@@ -33,7 +40,7 @@ htm-index-entry-spec =
     (λ c κs. tt)
     (λ c. c .before .store-entry .kept .0)
     (λ c.
-    let a = c .before .before .before .before .before in
+    let a = answer-before-store-entry-arg (c .before .before) in
     let s = a .before .before .before .args in
     let k = entry-put (s .place) (now (s .index)) (now (s .out)) _ (found a) (omega (arith, c .before .before .before .if1 .left)) in
     (k .0, c .before .store-entry .ensures ∙ k .1))
@@ -41,7 +48,7 @@ htm-index-entry-spec =
     let s = c .before .before .before .args in
     no-entry (s .place) (now (s .index)) (now (s .out)) (sym (ap entryGiven (c .enum-told .given .1)) ∙ c .before .before .index-entry .ensures))
     (λ c.
-    let s = c .before .before .before .before .before .args in
+    let s = start-before-answer2 (c .before .before) .args in
     let m = c .minus2 .ensures in
     let k = entry-refused (s .place) (now (s .index)) (now (s .out)) _ (sym (ap entryGiven (c .before .before .answer2 .given .1)) ∙ c .before .before .before .before .index-entry .ensures) in
     (held (m .1) tt .eq ∙ m .0 ∙ k .0, k .1)))

@@ -12,10 +12,14 @@ use Rattle.htm.proofs.TrialCLaws.{few-numbers, no-room-for-part, no-par
 use Rattle.htm.proofs.trial_from_c.htm_chosen.Statement.{statement}
 use Rattle.htm.proofs.trial_from_c.htm_chosen.Tie as tie
 
+-- Named anchors: the states that the proofs below read from, each named with a later state that leads back to it.
+abbrev start-before-shared-slice-known3 : tie.After-shared-slice-known3 → tie.Start
+start-before-shared-slice-known3 c = c .before .before .before
+
 few : tie.Need-returns
 few c =
     let i = c .before in
-    let a = i .before .before .before .before .before .args in
+    let a = start-before-shared-slice-known3 (i .before .before) .args in
     let m = c .minus .ensures in
     let k = few-numbers (a .status) (now (a .numbers)) (now (a .first)) (now (a .second)) (now (a .part)) (omega (arith, i .if1 .taken)) in
     (held (m .1) tt .eq ∙ m .0 ∙ k .0, k .1)
@@ -24,7 +28,7 @@ short : tie.Need-returns-2
 short c =
     let j = c .before in
     let i = j .before in
-    let a = i .before .before .before .before .before .args in
+    let a = start-before-shared-slice-known3 (i .before .before) .args in
     let m = c .minus2 .ensures in
     let k = no-room-for-part (a .status) (now (a .numbers)) (now (a .first)) (now (a .second)) (now (a .part)) (omega (arith, i .if1 .left)) (omega (arith, j .if2 .taken)) in
     (held (m .1) tt .eq ∙ m .0 ∙ k .0, k .1)
@@ -35,7 +39,7 @@ none c =
     let q = p .before .before in
     let j = q .before in
     let i = j .before in
-    let a = i .before .before .before .before .before .args in
+    let a = start-before-shared-slice-known3 (i .before .before) .args in
     let k = no-part (a .status) (now (a .numbers)) (now (a .first)) (now (a .second)) (now (a .part)) (omega (arith, i .if1 .left)) (omega (arith, j .if2 .left))
     (other-status (a .status) (q .if3 .taken)) in
     (k .0, p .put-part .ensures ∙ k .1)
@@ -49,7 +53,7 @@ told c =
     let q = t .before in
     let j = q .before in
     let i = j .before in
-    let s = i .before .before .before .before .before in
+    let s = start-before-shared-slice-known3 (i .before .before) in
     let a = s .args in
     let k = some-part (a .status) (now (a .numbers)) (now (a .first)) (now (a .second)) (now (a .part)) (omega (arith, i .if1 .left)) (omega (arith, j .if2 .left))
     (zero-status (s .fits .status) (q .if3 .left)) in

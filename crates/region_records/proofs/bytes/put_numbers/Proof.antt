@@ -16,24 +16,43 @@ use Rattle.answer.proofs.PutLaws.{put-next}
 use Rattle.region_records.proofs.bytes.put_numbers.Statement.{statement}
 use Rattle.region_records.proofs.bytes.put_numbers.Tie as tie
 
+-- Named anchors: the states that the proofs below read from, each named with a later state that leads back to it.
+abbrev start-before-put-signed-arg : tie.After-put-signed-arg → tie.Start
+start-before-put-signed-arg c = c .before .before .before
+
+abbrev start-before-put-signed : tie.After-put-signed → tie.Start
+start-before-put-signed c = start-before-put-signed-arg (c .before .before)
+
+abbrev start-before-put-signed-arg2 : tie.After-put-signed-arg2 → tie.Start
+start-before-put-signed-arg2 c = start-before-put-signed (c .before .before .before)
+
+abbrev put-signed-before-put-signed-arg2 : tie.After-put-signed-arg2 → tie.After-put-signed
+put-signed-before-put-signed-arg2 c = c .before .before .before
+
+abbrev put-signed2-before-put-signed-arg3 : tie.After-put-signed-arg3 → tie.After-put-signed2
+put-signed2-before-put-signed-arg3 c = c .before .before .before
+
+abbrev put-signed3-before-put-signed-arg4 : tie.After-put-signed-arg4 → tie.After-put-signed3
+put-signed3-before-put-signed-arg4 c = c .before .before .before
+
 -- the bytes of a number that is handed on by its bits
 abbrev handed : ℤ → List ℕ
 handed z = signedBytes (toZ w64 (ofZ w64 z))
 
 -- the function's entry, and the list's length, where y is written
 abbrev start : tie.After-put-signed2 → tie.Start
-start y = y .before .before .before .before .before .before .before .before .before .before
+start y = start-before-put-signed-arg2 (y .before .before)
 
 length-y : (y : tie.After-put-signed2) → length (y .put-signed2 .last .0) ≡ length (start y .args .out .now)
-length-y y = y .put-signed2 .kept .0 ∙ y .before .before .before .before .before .put-signed .kept .0
+length-y y = y .put-signed2 .kept .0 ∙ put-signed-before-put-signed-arg2 (y .before .before) .put-signed .kept .0
 
 returns : tie.Need-returns
 returns c =
     let d = c .before .before in
-    let z = d .before .before .before .before .before in
-    let y = z .before .before .before .before .before in
-    let x = y .before .before .before .before .before in
-    let s = x .before .before .before .before .before in
+    let z = put-signed3-before-put-signed-arg4 (d .before .before) in
+    let y = put-signed2-before-put-signed-arg3 (z .before .before) in
+    let x = put-signed-before-put-signed-arg2 (y .before .before) in
+    let s = start-before-put-signed-arg (x .before .before) in
     let at = s .args .at in
     let n = s .args .h .n in
     let out = s .args .out .now in
@@ -49,25 +68,25 @@ pub put-numbers-spec : {M : Type 1} → statement M
 put-numbers-spec =
     tie.close
     (tie.spec
-    (λ c κs. let p = c .before .before .before .before .pre in (omega (arith, p .0), upto-held (p .1 .0 .x) tt))
+    (λ c κs. let p = start-before-put-signed-arg (c .before) .pre in (omega (arith, p .0), upto-held (p .1 .0 .x) tt))
     (λ c. omega arith)
     (λ c κs.
-    let x = c .before .before .before .before in
-    let p = x .before .before .before .before .before .pre in
+    let x = put-signed-before-put-signed-arg2 (c .before) in
+    let p = start-before-put-signed-arg (x .before .before) .pre in
     (omega (arith, x .put-signed .kept .0, p .0), upto-held (p .1 .0 .y) tt))
     (λ c. omega arith)
     (λ c κs.
-    let y = c .before .before .before .before in
+    let y = put-signed2-before-put-signed-arg3 (c .before) in
     let p = start y .pre in
     (omega (arith, length-y y, p .0), upto-held (p .1 .0 .z) tt))
     (λ c. omega arith)
     (λ c κs.
-    let z = c .before .before .before .before in
-    let y = z .before .before .before .before .before in
+    let z = put-signed3-before-put-signed-arg4 (c .before) in
+    let y = put-signed2-before-put-signed-arg3 (z .before .before) in
     let p = start y .pre in
     (omega (arith, z .put-signed3 .kept .0, length-y y, p .0), upto-held (p .1 .1) tt))
     (λ c.
     let d = c .before .before in
-    let z = d .before .before .before .before .before in
-    d .put-signed4 .kept .0 ∙ z .put-signed3 .kept .0 ∙ length-y (z .before .before .before .before .before))
+    let z = put-signed3-before-put-signed-arg4 (d .before .before) in
+    d .put-signed4 .kept .0 ∙ z .put-signed3 .kept .0 ∙ length-y (put-signed2-before-put-signed-arg3 (z .before .before)))
     returns)

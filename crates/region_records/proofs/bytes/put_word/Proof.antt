@@ -1,7 +1,8 @@
 -- The two stores put the two bytes at their place. Assumes nothing.
 use native.Mathlib.Omega.{arith}
 use lib.ListN.{length-set}
-use Rattle.answer.proofs.PutLaws.{set-set-put}
+use mathlib.Core.List.{[], _∷_}
+use Rattle.answer.proofs.PutLaws.{stored-put}
 use Rattle.region_records.proofs.bytes.put_word.Statement.{statement}
 use Rattle.region_records.proofs.bytes.put_word.Tie as tie
 
@@ -15,4 +16,4 @@ put-word-spec =
     (λ c. omega arith)
     (λ c. simp length-set (omega arith))
     (λ c. simp length-set)
-    (λ c. set-set-put _ _ _ _ (c .pre .0)))
+    (λ c. stored-put _ (_ ∷ _ ∷ []) _ (c .pre .0)))

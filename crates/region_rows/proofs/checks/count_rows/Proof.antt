@@ -20,11 +20,18 @@ Inv-loop rows at₀ i₀ at i = Checking rows at i
 abbrev μ-loop : tie.MeasureT-loop
 μ-loop rows at₀ i₀ at i = length rows - i
 
+-- Named anchors: the states that the proofs below read from, each named with a later state that leads back to it.
+abbrev at-loop-before-halfspace-at : tie.After-halfspace-at Inv-loop μ-loop → tie.At-loop Inv-loop μ-loop
+at-loop-before-halfspace-at c = c .before .before .before
+
+abbrev in-loop-before-with-row : tie.After-with-row Inv-loop μ-loop → tie.In-loop Inv-loop μ-loop
+in-loop-before-with-row c = c .before .before .before
+
 -- what the row from element i on answered
-row : (c : tie.After-with-row Inv-loop μ-loop) → let l = c .before .before .before .before in let rs = l .before .before .args .rows .now in
+row : (c : tie.After-with-row Inv-loop μ-loop) → let l = at-loop-before-halfspace-at (c .before) in let rs = l .before .before .args .rows .now in
     (g : Region) → countsOf g ≡ l .loop .at → countsGiven (c .with-row .result) ≡ with-value countsOf (rowIn g (getD rs (l .loop .i) (pos 0)) (halfspaceAt (drop (l .loop .i) rs)))
 row c g e =
-    let l = c .before .before .before .before in
+    let l = at-loop-before-halfspace-at (c .before) in
     let number = toZ-ofZ {w = w32} {z = getD (l .before .before .args .rows .now) (l .loop .i) (pos 0)} (record { sfits = c .before .before .with-row-arg .given }) in
     c .with-row .ensures g e ∙ (λ j. with-value countsOf (rowIn g (number j) (c .before .halfspace-at .ensures .0 j)))
 
@@ -56,7 +63,7 @@ count-rows-spec =
     (λ c. c .match .keys1)
     (λ c. c .match .keys2)
     refused
-    (λ c. let l = c .before .before .before .before .before .before in omega (arith, whole-row (l .before .loop .inv) (l .loop-test .taken)))
+    (λ c. let l = in-loop-before-with-row (c .before .before .before) in omega (arith, whole-row (l .before .loop .inv) (l .loop-test .taken)))
     (λ c. omega arith)
     again
     (λ c. done (c .before .loop .inv) (c .loop-test .left)))

@@ -14,6 +14,16 @@ use Rattle.region_rows.specs.RegionSizes.{oneHalfspaceMore}
 use Rattle.region_rows.proofs.counts.with_halfspace.Statement.{statement}
 use Rattle.region_rows.proofs.counts.with_halfspace.Tie as tie
 
+-- Named anchors: the states that the proofs below read from, each named with a later state that leads back to it.
+abbrev start-before-n : tie.After-n → tie.Start
+start-before-n c = c .before .before .before
+
+abbrev start-before-else2 : tie.Else2 → tie.Start
+start-before-else2 c = start-before-n (c .before .before)
+
+abbrev else2-before-else3 : tie.Else3 → tie.Else2
+else2-before-else3 c = c .before .before .before
+
 room : (c : tie.Else1) → let k = c .before .before .args .k in (ltb (k .last) 100 && ltb (k .all) 512) ≡ true
 room c = sym (c .before .below-limits .ensures) ∙ not-false _ (c .if1 .left)
 
@@ -22,13 +32,13 @@ below c =
     let k = c .before .before .args .k in
     (ltb-true (k .last) 100 (and-left (ltb (k .last) 100) _ (room c)), ltb-true (k .all) 512 (and-right (ltb (k .last) 100) _ (room c)))
 
-vector : (c : tie.Else2) → isVector (c .before .before .before .before .before .args .h .n) ≡ true
+vector : (c : tie.Else2) → isVector (start-before-n (c .before .before) .args .h .n) ≡ true
 vector c = sym (c .before .is-vector .ensures) ∙ not-false _ (c .if2 .left)
 
 -- the offset is tested as its bits have it
-offset : (c : tie.After-is-offset) (t : Bool) → c .is-offset .result ≡ t → isOffset (c .before .before .before .before .before .before .before .args .h .d) ≡ t
+offset : (c : tie.After-is-offset) (t : Bool) → c .is-offset .result ≡ t → isOffset (start-before-else2 (c .before .before) .args .h .d) ≡ t
 offset c t e =
-    let d = c .before .before .before .before .before .before .before .args .h .d in
+    let d = start-before-else2 (c .before .before) .args .h .d in
     ap isOffset (sym (toZ-ofZ {w = w64} {z = d} (record { sfits = c .before .struct-told .given .1 .0 .1 }))) ∙ sym (c .is-offset .ensures) ∙ e
 
 crowd : tie.Need-returns
@@ -60,6 +70,6 @@ with-halfspace-spec =
     no-vector
     (λ c κs. tt)
     no-offset
-    (λ c. let v = c .before .before .before .before in omega (arith, below (v .before .before .before)))
-    (λ c. let v = c .before .before .before .before .before in omega (arith, below (v .before .before .before)))
+    (λ c. let v = else2-before-else3 (c .before) in omega (arith, below (v .before .before .before)))
+    (λ c. let v = else2-before-else3 (c .before .before) in omega (arith, below (v .before .before .before)))
     more)
