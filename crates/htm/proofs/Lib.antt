@@ -1,4 +1,5 @@
 pub mod AnswersKept
+pub mod RoomLaws
 pub mod CLaws
 pub mod Counted
 pub mod CoverAnswers
