@@ -378,6 +378,9 @@ static const struct shape shapes[] = {
     CONE("90 degrees", 45, 35, 90),
     CONE("120 degrees", 45, 35, 120),
     CONE("180 degrees", 45, 35, 180),
+    SET_CONE("30 degrees, budget 16", 200, 5, 30, "0, 16"),
+    SET_CONE("30 degrees, budget 256", 200, 5, 30, "0, 256"),
+    SET_CONE("30 degrees, budget 1024", 200, 5, 30, "0, 1024"),
     SET_CONE("5 degrees, depth 4, budget 5", 45, 35, 5, "4, 5"),
     SET_CONE("5 degrees, depth 12, budget 2048", 45, 35, 5, "12, 2048"),
     SET_CONE("30 degrees, depth 12, budget 1", 45, 35, 30, "12, 1"),
@@ -549,7 +552,7 @@ static void try_shape(const struct shape *s)
     free(region);
 }
 
-/* What EXPLAIN QUERY PLAN says of a search, its lines in one. */
+/* EXPLAIN QUERY PLAN says so of a search. */
 static void check_plan(const char *sql, const char *want)
 {
     char text[800], got[400] = "";
@@ -558,20 +561,19 @@ static void check_plan(const char *sql, const char *want)
     if (sqlite3_prepare_v2(db, text, -1, &s, NULL) != SQLITE_OK)
         die(text);
     while (sqlite3_step(s) == SQLITE_ROW)
-        snprintf(got + strlen(got), sizeof got - strlen(got), "%s%s", *got ? "; " : "", (const char *)sqlite3_column_text(s, 3));
+        snprintf(got + strlen(got), sizeof got - strlen(got), "%s; ", (const char *)sqlite3_column_text(s, 3));
     sqlite3_finalize(s);
-    expect(strcmp(got, want) == 0, "the plan of %s\n    is  %s\n    not %s", sql, got, want);
+    expect(strstr(got, want) && !strstr(got, "TEMP B-TREE"), "the plan of %s\n    is %s\n    without %s", sql, got, want);
 }
 
 static void check_plans(void)
 {
-    const char *clustered = "SCAN r VIRTUAL TABLE INDEX 1:; SEARCH f USING PRIMARY KEY (htm>? AND htm<?)";
-    const char *by_index = "SCAN r VIRTUAL TABLE INDEX 1:; SEARCH f USING INDEX raw_htm (htm>? AND htm<?)";
+    const char *clustered = "USING PRIMARY KEY (htm>? AND htm<?)", *by_index = "USING INDEX raw_htm (htm>? AND htm<?)";
     check_plan(JOIN("frames"), clustered);
     check_plan(JOIN("raw"), by_index);
     check_plan(DEGREES_JOIN, by_index);
     check_plan("SELECT f.number FROM frames f, htm_ranges(htm_cone(1, 2, 3)) r WHERE f.htm BETWEEN r.low AND r.high", clustered);
-    check_plan("SELECT * FROM htm_ranges(htm_cone(1, 2, 3)) ORDER BY low", "SCAN htm_ranges VIRTUAL TABLE INDEX 1:");
+    check_plan("SELECT * FROM htm_ranges(htm_cone(1, 2, 3)) ORDER BY low", "VIRTUAL TABLE INDEX 1:");
 }
 
 /* Regions that are a column of a table, all in one query. */
