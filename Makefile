@@ -85,9 +85,9 @@ target/hosts/htm_sqlite.so: hosts/sqlite/htm_sqlite.c hosts/sky/htm_sky.c hosts/
 	$(COMPILE) -Ihosts/sky -fPIC -fvisibility=hidden -shared -o $@ hosts/sqlite/htm_sqlite.c hosts/sky/htm_sky.c $(LIB) -lm \
 	  -Wl,-Bsymbolic -Wl,--exclude-libs,ALL -Wl,-z,defs
 
-target/c/sqlite: hosts/sqlite/test.c
+target/c/sqlite: hosts/sqlite/test.c $(LIB) $(INCLUDE)/htm.h
 	@mkdir -p target/c
-	$(COMPILE) -o $@ hosts/sqlite/test.c -lsqlite3 -lm
+	$(COMPILE) -o $@ hosts/sqlite/test.c $(LIB) -lsqlite3 -lm
 
 FRAMES = examples/sqlite/frames.c examples/sqlite/sky.c examples/sqlite/test.c examples/pieces.c
 

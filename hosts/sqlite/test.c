@@ -1,5 +1,6 @@
-/* The SQLite extension, loaded into SQLite's library: every function with good and with bad input, and searches of 300,000 frames beside a test
- * of every frame, beside floats, and over two kinds of table. Ends with 1 where anything differs. */
+/* The SQLite extension, loaded into SQLite's library: every function with good and with bad input, and searches of 300,000 frames in two kinds
+ * of table. They are compared with a test of every frame, by htm_holds or in plain C, n.p >= d*K; with floats; and of 1024 frames with
+ * htm_frames. Ends with 1 where anything differs. */
 #define _POSIX_C_SOURCE 199309L
 #include <inttypes.h>
 #include <math.h>
@@ -13,11 +14,16 @@
 
 #include <sqlite3.h>
 
+#include "htm.h"
+
 #define K 1048576
 #define FRAMES 300000
 #define PI 3.14159265358979323846264338327950288L
 #define DEGREE (PI / 180)
 #define MOST_CORNERS 8
+#define SHARE 1024       /* frames of one owner in an index */
+#define RANDOM 60        /* random regions */
+#define MOST_ROWS 20     /* of a random region */
 
 static sqlite3 *db;
 static long failures;
@@ -295,16 +301,17 @@ static void direction(double ra, double dec, long double u[3])
     u[2] = sinl(d);
 }
 
-/* Nine of ten frames anywhere, one close to a place where some of the test's regions are. */
-static void place(struct frame *f)
+static void place_anywhere(struct frame *f)
+{
+    f->ra = (double)(360 * draw());
+    f->dec = (double)(asinl(2 * draw() - 1) / DEGREE);
+}
+
+/* Close to a place where some of the regions are. */
+static void place_close(struct frame *f)
 {
     static const double centres[][2] = {{45, 35}, {0, 90}, {200, -90}, {0, 0}, {360, 12}, {123.456, -54.321}};
     static const long double spreads[] = {8 / 3600.0L, 1.2L / 60, 6 / 60.0L, 0.3L, 1.3L, 6};
-    if (draw() < 0.9) {
-        f->ra = (double)(360 * draw());
-        f->dec = (double)(asinl(2 * draw() - 1) / DEGREE);
-        return;
-    }
     const double *c = centres[(int)(6 * draw())];
     long double r = spreads[(int)(6 * draw())] * sqrtl(draw()) * DEGREE, t = 2 * PI * draw(), a = c[0] * DEGREE, d = c[1] * DEGREE;
     long double x = cosl(r) * cosl(d) - sinl(r) * cosl(t) * sinl(d), y = sinl(r) * sinl(t), z = cosl(r) * sinl(d) + sinl(r) * cosl(t) * cosl(d);
@@ -312,6 +319,29 @@ static void place(struct frame *f)
     f->dec = (double)(asinl(fmaxl(-1, fminl(1, z))) / DEGREE);
     if (f->ra > 360)
         f->ra -= 360;
+}
+
+/* On a plane that some of the regions have: z, x or y is 0, z is K/2 or close to K cos 30, x is y. */
+static void place_on_plane(struct frame *f)
+{
+    static const double heights[] = {0, 30, -30, 60, -60, 85};
+    place_anywhere(f);
+    if (draw() < 0.5)
+        f->dec = heights[(int)(6 * draw())];
+    else
+        f->ra = 45 * (int)(8 * draw());
+}
+
+/* Of twenty frames seventeen are anywhere. */
+static void place(struct frame *f)
+{
+    long double kind = draw();
+    if (kind < 0.85)
+        place_anywhere(f);
+    else if (kind < 0.95)
+        place_close(f);
+    else
+        place_on_plane(f);
 }
 
 static void fill(void)
@@ -393,6 +423,12 @@ static const struct shape shapes[] = {
     ROWS("ring, 5 to 30 degrees", "9, 64, 0, 605396, 605396, 605396, 908093, 0, -605396, -605396, -605396, -1044586"),
     ROWS("square with a hole", "10, 64, 0, 254317, 1017268, 0, 0, 0, 254317, -1017268, 0, 0, 0, 254317, 0, 1017268, 0, 0, 254317, 0, -1017268, 0,"
                                " 0, -1048576, 0, 0, -1044586"),
+    ROWS("z from K/2 on", "9, 64, 0, 0, 0, 1048576, 524288"),
+    ROWS("a slice, z from K/2 to K/2 + 2", "12, 64, 0, 0, 0, 1048576, 524288, 0, 0, 0, -1048576, -524290"),
+    ROWS("the equator: two halfspaces", "7, 64, 0, 0, 0, 1048576, 0, 0, 0, 0, -1048576, 0"),
+    ROWS("x from y on", "6, 16, 0, 741455, -741455, 0, 0"),
+    ROWS("all but 5 degrees", "8, 64, 0, 0, -1048576, 0, -1044586"),
+    ROWS("octant and a cap that overlap", "8, 64, 0, 1048576, 0, 0, 0, 0, 0, 1048576, 0, 0, 0, 0, 0, 1048576, 0, 1, 605396, 605396, 605396, 908093"),
     ROWS("two caps", "8, 16, 0, 0, 0, 1048576, 1044586, 1, 1048576, 0, 0, 1048416"),
     ROWS("nothing", "9, 64, 0, 1048576, 0, 0, 908093, 0, 0, 1048576, 0, 908093"),
 };
@@ -468,7 +504,7 @@ struct found {
 
 static struct found every, join, indexed, by_degrees, tested;
 
-static void search(const char *sql, const void *region, int bytes, int times, struct found *to)
+static void search(const char *sql, const uint8_t *region, size_t bytes, int times, struct found *to)
 {
     sqlite3_stmt *s;
     if (sqlite3_prepare_v2(db, sql, -1, &s, NULL) != SQLITE_OK)
@@ -478,7 +514,7 @@ static void search(const char *sql, const void *region, int bytes, int times, st
         int rc;
         memset(to->times, 0, sizeof to->times);
         to->count = 0;
-        sqlite3_bind_blob(s, 1, region, bytes, SQLITE_STATIC);
+        sqlite3_bind_blob(s, 1, region, (int)bytes, SQLITE_STATIC);
         double start = now();
         while ((rc = sqlite3_step(s)) == SQLITE_ROW) {
             to->times[sqlite3_column_int(s, 0)]++;
@@ -519,38 +555,124 @@ static long check_truth(const struct shape *s)
     return join.count - truths[k];
 }
 
-static void *region_of(const char *sql, int *bytes)
+/* Some of the frames once more, in an index: what htm_frames finds of them. Owner 0 has others with the same numbers. */
+static int64_t index_list[HTM_INDEX_LENGTH];
+
+static void fill_index(void)
 {
+    htm_index_begin(index_list, HTM_INDEX_LENGTH);
+    for (int i = 0; i < SHARE; i++) {
+        const int32_t *p = frames[i].p, *q = frames[FRAMES - 1 - i].p;
+        expect(htm_add(index_list, HTM_INDEX_LENGTH, 1, (uint32_t)i, p[0], p[1], p[2]) == 0, "frame %d is not added", i);
+        expect(htm_add(index_list, HTM_INDEX_LENGTH, 0, (uint32_t)i, q[0], q[1], q[2]) == 0, "frame %d of the other is not added", i);
+    }
+}
+
+static void check_index(const char *name, const uint8_t *region, size_t bytes)
+{
+    static uint64_t lists[8192];
+    uint32_t numbers[SHARE];
+    uint64_t counts[2];
+    uint8_t times[SHARE] = {0};
+    int64_t answer = htm_frames(index_list, HTM_INDEX_LENGTH, 1, region, bytes, lists, 8192, numbers, SHARE, counts, 2);
+    expect(answer == 0, "%s: htm_frames refuses %" PRId64, name, -answer);
+    for (uint64_t i = 0; answer == 0 && i < counts[0]; i++)
+        times[numbers[i]]++;
+    expect(memcmp(times, join.times, SHARE) == 0, "%s: htm_frames finds other frames", name);
+}
+
+static uint8_t *region_of(const char *sql, size_t *bytes)
+{
+    static uint8_t file[10508];
     char text[500];
     sqlite3_stmt *s;
     snprintf(text, sizeof text, "SELECT %s", sql);
     if (sqlite3_prepare_v2(db, text, -1, &s, NULL) != SQLITE_OK || sqlite3_step(s) != SQLITE_ROW)
         die(text);
-    *bytes = sqlite3_column_bytes(s, 0);
-    void *region = malloc((size_t)*bytes);
-    if (!region)
-        die("memory");
-    memcpy(region, sqlite3_column_blob(s, 0), (size_t)*bytes);
+    *bytes = (size_t)sqlite3_column_bytes(s, 0);
+    memcpy(file, sqlite3_column_blob(s, 0), *bytes);
     sqlite3_finalize(s);
-    return region;
+    return file;
 }
 
 static void try_shape(const struct shape *s)
 {
-    int bytes;
-    void *region = region_of(s->sql, &bytes);
+    size_t bytes;
+    const uint8_t *region = region_of(s->sql, &bytes);
     search(EVERY, region, bytes, 1, &every);
-    search(JOIN("frames"), region, bytes, 5, &join);
-    search(JOIN("raw"), region, bytes, 5, &indexed);
+    search(JOIN("frames"), region, bytes, 3, &join);
+    search(JOIN("raw"), region, bytes, 3, &indexed);
     search(DEGREES_JOIN, region, bytes, 1, &by_degrees);
     search(IN_TEST, region, bytes, 1, &tested);
     same(s->name, "by the join", &join, &every);
     same(s->name, "by the join with an index", &indexed, &every);
     same(s->name, "by degrees", &by_degrees, &every);
+    check_index(s->name, region, bytes);
     long beyond = check_truth(s);
     printf("%-34s %7ld %7ld %7ld %9.3f %9.3f %9.1f\n", s->name, join.count, beyond, tested.count, join.ms, indexed.ms, every.ms);
-    free(region);
 }
+
+/* ---- random regions, in whole numbers */
+
+static long on_planes;
+
+static bool rows_hold(const int32_t *rows, size_t count, const int32_t *p)
+{
+    bool any = false, all = true;
+    for (size_t i = 0; i < count; i++) {
+        const int32_t *r = rows + 5 * i;
+        if (i > 0 && r[0] != r[-5]) { /* a convex begins */
+            any = any || all;
+            all = true;
+        }
+        int64_t product = (int64_t)r[1] * p[0] + (int64_t)r[2] * p[1] + (int64_t)r[3] * p[2], limit = (int64_t)r[4] * K;
+        all = all && product >= limit;
+        on_planes += product == limit;
+    }
+    return any || all;
+}
+
+/* Directions of frames, so that they are pointings; offsets of all sizes, and planes that frames are on. */
+static size_t random_rows(int32_t *rows)
+{
+    static const int32_t axes[][3] = {{0, 0, K}, {0, 0, -K}, {K, 0, 0}, {0, -K, 0}, {741455, -741455, 0}};
+    static const int32_t offsets[] = {0, 0, 524288, -524288, 908093, -908093, 1044586, -1044586};
+    size_t count = 0;
+    int convexes = 1 + (int)(5 * draw());
+    for (int convex = 0; convex < convexes; convex++)
+        for (int k = 1 + (int)(4 * draw()); k > 0; k--) {
+            bool axis = draw() < 0.4;
+            int32_t *row = rows + 5 * count++;
+            row[0] = convex;
+            memcpy(row + 1, axis ? axes[(int)(5 * draw())] : frames[(int)(FRAMES * draw())].p, 3 * sizeof row[0]);
+            row[4] = draw() < 0.5 ? offsets[(int)(8 * draw())] : (int32_t)(K * (2 * draw() - 1));
+        }
+    return count;
+}
+
+static void try_random(int number)
+{
+    static const uint32_t budgets[] = {0, 1, 5, 16, 64, 300, 2048};
+    static uint8_t file[10508];
+    int32_t rows[5 * MOST_ROWS];
+    char name[40];
+    size_t count = random_rows(rows);
+    uint32_t depth = 1 + (uint32_t)(number % 12), budget = budgets[(int)(7 * draw())];
+    int64_t bytes = htm_write(depth, budget, rows, 5 * count, file, sizeof file);
+    snprintf(name, sizeof name, "random region %d", number);
+    if (bytes < 0) {
+        expect(false, "%s is refused %" PRId64, name, -bytes);
+        return;
+    }
+    memset(&every, 0, sizeof every);
+    for (int i = 0; i < FRAMES; i++)
+        every.count += every.times[i] = rows_hold(rows, count, frames[i].p);
+    search(JOIN("frames"), file, (size_t)bytes, 1, &join);
+    same(name, "by the join", &join, &every);
+    check_index(name, file, (size_t)bytes);
+}
+
+/* ---- plans */
 
 /* EXPLAIN QUERY PLAN says so of a search. */
 static void check_plan(const char *sql, const char *want)
@@ -601,14 +723,19 @@ int main(int argc, char **argv)
     double start = now();
     fill();
     printf("%d frames filed in two tables in %.1f s\n", FRAMES, (now() - start) / 1000);
+    fill_index();
     check_plans();
     printf("%-34s %7s %7s %7s %9s %9s %9s\n", "region", "frames", "beyond", "tested", "ms", "by index", "every one");
     for (size_t i = 0; i < SHAPES; i++)
         try_shape(&shapes[i]);
+    for (int i = 0; i < RANDOM; i++)
+        try_random(i);
+    expect(on_planes > 1000, "only %ld frames are on a plane of a random region", on_planes);
     test_stored_regions();
     run("ANALYZE");
     check_plans();
-    printf("sqlite: SQLite %s; %ld calls, %zu regions in %d frames; %ld wrong\n", sqlite3_libversion(), asked, SHAPES, FRAMES, failures);
+    printf("sqlite: SQLite %s; %ld calls, %zu regions and %d random ones in %d frames; %ld wrong\n", sqlite3_libversion(), asked, SHAPES, RANDOM,
+           FRAMES, failures);
     sqlite3_close(db);
     return failures ? 1 : 0;
 }
