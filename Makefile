@@ -5,7 +5,6 @@
 #   make sky         the layer of degrees: random cones and polygons beside long double, and what is refused
 #   make sky-measure what other ways to write cones and polygons would cost
 #   make sqlite      the SQLite extension, target/hosts/htm_sqlite.so: every function, and searches of 300,000 frames beside a test of every frame
-#   make frames      the older SQLite host, whose answers make postgres compares with
 #   make postgres    the same table in private PostgreSQL servers, beside the SQLite host's answers
 #
 # LIB=FILE takes another archive, which is then not built.
@@ -15,7 +14,7 @@ INCLUDE = include
 CFLAGS = -std=c11 -Wall -Wextra -Werror -O2
 COMPILE = $(CC) $(CFLAGS) -I$(INCLUDE)
 
-.PHONY: host test sky sky-measure sqlite sqlite-header frames postgres
+.PHONY: host test sky sky-measure sqlite sqlite-header postgres
 
 host: target/c/host
 	target/c/host
@@ -37,16 +36,6 @@ sky-measure: target/c/sky-measure
 sqlite: sqlite-header target/hosts/htm_sqlite.so target/c/sqlite
 	target/c/sqlite target/hosts/htm_sqlite
 	hosts/sqlite/session hosts/sqlite/README.md
-
-# The table is filled, exported, loaded into another one, and searched there.
-frames: sqlite-header target/c/frames
-	rm -f target/c/frames.db target/c/copy.db
-	target/c/frames create target/c/frames.db 300000
-	target/c/frames export target/c/frames.db > target/c/frames.csv
-	target/c/frames create target/c/copy.db 0
-	cut -d, -f2- target/c/frames.csv | target/c/frames load target/c/copy.db
-	target/c/frames export target/c/copy.db | cmp - target/c/frames.csv
-	target/c/frames test target/c/copy.db
 
 postgres: sqlite-header target/c/frames target/c/region
 	examples/postgres/run.sh
@@ -88,16 +77,6 @@ target/hosts/htm_sqlite.so: hosts/sqlite/htm_sqlite.c hosts/sky/htm_sky.c hosts/
 target/c/sqlite: hosts/sqlite/test.c $(LIB) $(INCLUDE)/htm.h
 	@mkdir -p target/c
 	$(COMPILE) -o $@ hosts/sqlite/test.c $(LIB) -lsqlite3 -lm
-
-FRAMES = examples/sqlite/frames.c examples/sqlite/sky.c examples/sqlite/test.c examples/pieces.c
-
-target/c/frames: $(FRAMES) examples/sqlite/frames.h examples/pieces.h $(LIB) $(INCLUDE)/htm.h
-	@mkdir -p target/c
-	$(COMPILE) -o $@ $(FRAMES) $(LIB) -lsqlite3
-
-target/c/region: examples/postgres/region.c examples/pieces.c examples/pieces.h $(LIB) $(INCLUDE)/htm.h
-	@mkdir -p target/c
-	$(COMPILE) -o $@ examples/postgres/region.c examples/pieces.c $(LIB)
 
 # From nothing the proofs take minutes; what has not changed since is not proved again. What htm depends on comes first, since
 # rt check proves crates beside each other and rt staticlib one after the other.
