@@ -116,7 +116,7 @@ target/lib/libhtm.so.$(MINOR): $(LIB) target/lib/htm.map
 	$(SHARED) -Wl,--version-script,target/lib/htm.map -Wl,--whole-archive $(LIB) -Wl,--no-whole-archive
 	$(LINKS)
 
-target/lib/htm_sky%.o: $(SKY)/htm_sky%.c $(SKY)/htm_sky.h $(INCLUDE)/htm.h
+target/lib/%.o: $(SKY)/%.c $(SKY)/htm_sky.h $(INCLUDE)/htm.h
 	@mkdir -p $(@D)
 	$(COMPILE) -I$(SKY) -fPIC -c -o $@ $<
 
