@@ -2,6 +2,8 @@
 #
 #   make host        builds and runs examples/host.c
 #   make test        every C call on the stored cases of query and archive, the lookups of floats beside C's own product, what examples/host.c prints
+#   make sky         the layer of degrees: random cones and polygons beside long double, and what is refused
+#   make sky-measure what other ways to write cones and polygons would cost
 #   make sqlite      the SQLite host on 300,000 frames: what it delivers beside a test of every frame
 #   make postgres    the same table in private PostgreSQL servers, beside the SQLite host's answers
 #   make install     libraries, headers, pkg-config files, programs, manual pages and the Python module below PREFIX, /usr/local
@@ -21,7 +23,7 @@ INCLUDE = include
 CFLAGS = -std=c11 -Wall -Wextra -Werror -O2
 COMPILE = $(CC) $(CFLAGS) -I$(INCLUDE)
 
-.PHONY: host test sqlite sqlite-header postgres libraries install uninstall install-test python
+.PHONY: host test sky sky-measure sqlite sqlite-header postgres libraries install uninstall install-test python
 
 host: target/c/host
 	target/c/host
@@ -32,6 +34,12 @@ test: target/c/calls target/c/index target/c/reports target/c/host
 	target/c/reports
 	target/c/host | diff examples/host.expected -
 	@echo "host: its output is that of examples/host.expected"
+
+sky: target/c/sky
+	target/c/sky
+
+sky-measure: target/c/sky-measure
+	target/c/sky-measure
 
 # The table is filled, exported, loaded into another one, and searched there.
 sqlite: sqlite-header target/c/frames
@@ -65,6 +73,14 @@ target/c/index: tests/c/index.c $(LIB) $(INCLUDE)/htm.h
 target/c/reports: tests/c/reports.c $(LIB) $(INCLUDE)/htm.h
 	@mkdir -p target/c
 	$(COMPILE) -o $@ tests/c/reports.c $(LIB) -lm
+
+target/c/sky: hosts/sky/test.c hosts/sky/htm_sky.c hosts/sky/htm_sky.h $(LIB) $(INCLUDE)/htm.h
+	@mkdir -p target/c
+	$(COMPILE) -Ihosts/sky -o $@ hosts/sky/test.c hosts/sky/htm_sky.c $(LIB) -lm
+
+target/c/sky-measure: hosts/sky/measure.c hosts/sky/htm_sky.c hosts/sky/htm_sky.h $(LIB) $(INCLUDE)/htm.h
+	@mkdir -p target/c
+	$(COMPILE) -Ihosts/sky -o $@ hosts/sky/measure.c $(LIB) -lm
 
 FRAMES = examples/sqlite/frames.c examples/sqlite/sky.c examples/sqlite/test.c examples/pieces.c
 
