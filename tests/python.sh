@@ -2,10 +2,10 @@
 # The Python module's tests by each interpreter, without numpy and, where it has numpy, with it.
 # tests/python.sh LIBRARIES [INTERPRETER ..]; without interpreters every python3 and python3.N on the path that is 3.9 or later. `make python` calls it.
 set -u
-cd "$(dirname "$0")/.."
-export HTM_LIBRARY_PATH=$PWD/${1#"$PWD"/}
-case $1 in /*) HTM_LIBRARY_PATH=$1 ;; esac
+HTM_LIBRARY_PATH=$(cd "$1" && pwd) || exit 1
+export HTM_LIBRARY_PATH
 shift
+cd "$(dirname "$0")/.."
 work=$(mktemp -d)
 trap 'rm -rf "$work"' EXIT
 failed=0
@@ -34,7 +34,7 @@ print("%d.%d.%d" % sys.version_info[:3], sys.prefix, numpy.__version__ if numpy 
 # run WHAT INTERPRETER [NAME=VALUE]
 run() {
     if env "${@:3}" "$2" -B hosts/python/test_htmsky.py > "$work/out" 2>&1; then
-        echo "$1: $(sed -n 's/^Ran \([0-9]* tests\) .*/\1/p' "$work/out"), all passed"
+        echo "$1: $(sed -n -e 's/^Ran \([0-9]* tests\) .*/\1/p' -e 's/^OK (skipped=\(.*\))/\1 skipped/p' "$work/out" | paste -sd, | sed 's/,/, /'), no failure"
         ran=$((ran + 1))
     else
         echo "$1: FAILED"
