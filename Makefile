@@ -182,7 +182,7 @@ uninstall: target/man/made
 	cd "$(ROOT)/bin" && rm -f $(PROGRAMS:%=htm-%)
 	for section in man1 man3; do for page in target/man/$$section/*; do rm -f "$(ROOT)/share/man/$$section/$${page##*/}"; done; done
 	rm -f "$(ROOT)/share/htm/htmsky.py"
-	-rmdir "$(ROOT)/share/htm"
+	[ ! -d "$(ROOT)/share/htm" ] || rmdir "$(ROOT)/share/htm"
 
 install-test: libraries $(LIB) $(PROGRAMS:%=$(BIN)/%) target/man/made
 	tests/install.sh $(LIB) $(BIN)

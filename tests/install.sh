@@ -125,7 +125,7 @@ host() {
 hosts=0
 lib="$prefix/lib"
 host 'C, shared' examples/host.expected cc -std=c11 "${strict[@]}" examples/host.c "${htm_flags[@]}"
-readelf -dW "$work/host" 2> /dev/null | grep -q "NEEDED.*libhtm.so.$major" || wrong 'the host does not ask for libhtm.so'
+! has readelf || readelf -dW "$work/host" | grep -q "NEEDED.*libhtm.so.$major" || wrong 'the host does not ask for libhtm.so'
 host 'C, static' examples/host.expected cc -std=c11 "${strict[@]}" "${cflags[@]}" examples/host.c "$lib/libhtm.a"
 host 'C, degrees, shared' "$work/sky.expected" cc -std=c11 "${strict[@]}" "$work/sky.c" "${sky_flags[@]}"
 host 'C, degrees, static' "$work/sky.expected" cc -std=c11 "${strict[@]}" "${cflags[@]}" "$work/sky.c" "$lib/libhtm_sky.a" "$lib/libhtm.a" -lm
