@@ -407,8 +407,8 @@ def region(convexes, depth=FILED_DEPTH, budget=64, grouped=False):
 
 
 def cone(ra, dec, radius, depth=0, budget=64):
-    """The region file of all directions within radius degrees of a direction. Nothing within the radius is lost by rounding; what lies less than some
-    seconds of arc beyond may be held. Depth 0 lets the library choose.
+    """The region file of all directions within radius degrees of a direction. None within the radius is lost by rounding. Some just beyond are
+    held: below 2 degrees within 0.5 % of the radius and 1 second of arc, from 2 to 178 degrees within 26 seconds of arc. Depth 0 lets the library choose.
 
     >>> file = cone(10.68, 41.27, 0.5)
     >>> holds_degrees(file, 10.68, 41.7), holds_degrees(file, 10.68, 41.8)

@@ -1,6 +1,7 @@
 """Times of cone searches beside a test of every row: HTM_LIBRARY_PATH=target/lib python3 hosts/python/times.py [ROWS]
 A row is kept as identifier, pointing and unit vector, ready for both. The test of every row is the product of unit vectors beside the cosine. Each time is the
-least of seven, in milliseconds; a search makes its cover anew each time. Ends with 1 where a search misses a row."""
+least of seven, in milliseconds; a search makes its region file and cover anew each time, and is told that the rows are in order. Lists are timed up to 200,000
+rows. Ends with 1 where a search misses a row."""
 import math
 import random
 import sys
@@ -33,11 +34,11 @@ def least(call):
     return result, 1000 * min(times)
 
 
-def table(columns, units, every_row, **named):
+def table(columns, units, every_row):
     print("| radius | rows found | search | test of every row | point test of every row |\n|---|---|---|---|---|")
     for name, radius in RADII:
         file = htmsky.cone(*CENTRE, radius)
-        found, search = least(lambda: htmsky.search(htmsky.cone(*CENTRE, radius), *columns, **named))
+        found, search = least(lambda: htmsky.search(htmsky.cone(*CENTRE, radius), *columns, ordered=True))
         true, every = least(lambda: every_row(units, unit(*CENTRE), math.cos(math.radians(radius))))
         _, point = least(lambda: htmsky.holds(file, *columns[1:]))
         if not set(true) <= set(found):
@@ -62,8 +63,9 @@ def main(count):
     rows = sorted(zip(identifiers, *xyz, ra, dec))
     identifiers, x, y, z, ra, dec = map(list, zip(*rows))
     units = [unit(*row) for row in zip(ra, dec)]
-    print(f"\n{count} rows in lists, python {sys.version.split()[0]}; filing them takes {filing:.0f} ms; ordered=True\n")
-    table((identifiers, x, y, z), units, by_list, ordered=True)
+    if count <= 200_000:
+        print(f"\n{count} rows in lists, python {sys.version.split()[0]}; filing them takes {filing:.0f} ms\n")
+        table((identifiers, x, y, z), units, by_list)
     if np:
         columns = [np.array(column) for column in (identifiers, x, y, z)]
         degrees = np.array(ra), np.array(dec)
