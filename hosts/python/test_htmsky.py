@@ -698,6 +698,14 @@ class Loading(unittest.TestCase):
             self.assertEqual(self.run_in(top / "alone", LD_LIBRARY_PATH=str(top / "elsewhere")), "63963136\n")
             self.assertIn("ImportError: libhtm.so.1 is not found", self.run_in(top / "beside", HTM_LIBRARY_PATH=str(top / "none")))
 
+    def test_shown_cover(self):
+        """README.md shows what program cover prints of its cone."""
+        file = htmsky.cone(83.82, -5.39, 1.5)
+        outer, _, counts = htmsky.cover(file)
+        lines = [f"depth {htmsky.read(file).depth} " + " ".join(f"{what} {n}" for what, n in counts._asdict().items())]
+        lines += [f"o {htmsky.name(low)} {htmsky.name(high)}" for low, high in outer[:2]]
+        self.assertIn("".join(f"    {line}\n" for line in lines), (HERE / "README.md").read_text(encoding="utf-8"))
+
     def test_example(self):
         done = subprocess.run([sys.executable, "-B", str(HERE / "example.py")], stdout=subprocess.PIPE, universal_newlines=True, check=True)
         self.assertEqual(done.stdout, (HERE / "example.expected").read_text())
