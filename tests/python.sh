@@ -56,5 +56,5 @@ for python in "$@"; do
         run "python $version with numpy $numpy" "$python"
     fi
 done
-[ $ran -gt 0 ] || { echo 'no python3 of 3.9 or later ran the tests' >&2; exit 1; }
+[ $((ran + failed)) -gt 0 ] || echo 'skipped: the Python module: there is no python3 of 3.9 or later'
 exit $failed
