@@ -25,8 +25,8 @@ import ctypes
 import numbers
 import operator
 import os
+import reprlib
 import struct
-import sys
 import threading
 from itertools import islice
 from typing import NamedTuple
@@ -52,7 +52,7 @@ _SHARE = 1024
 def _folders():
     """Where the libraries are looked for before the system is asked."""
     said = os.environ.get("HTM_LIBRARY_PATH")
-    if said is not None:
+    if said:
         return [folder for folder in said.split(os.pathsep) if folder]
     here = os.path.dirname(os.path.abspath(__file__))
     return [here, os.path.join(here, "..", "..", "lib")]
@@ -65,12 +65,12 @@ def _load(library):
         path = os.path.join(folder, file)
         if os.path.exists(path):
             return ctypes.CDLL(path)
-    if "HTM_LIBRARY_PATH" not in os.environ:
+    if not os.environ.get("HTM_LIBRARY_PATH"):
         try:
             return ctypes.CDLL(file)
         except OSError:
             pass
-    raise ImportError(f"{file} is not found: make install, or set HTM_LIBRARY_PATH to its folder (it is {os.environ.get('HTM_LIBRARY_PATH', 'not set')})")
+    raise ImportError(f"{file} is not found: make install, or set HTM_LIBRARY_PATH to its folder (it is {os.environ.get('HTM_LIBRARY_PATH') or 'not set'})")
 
 
 _htm = _load("htm")
@@ -152,7 +152,7 @@ def _whole(what, value, low, high):
     try:
         number = operator.index(value)
     except TypeError:
-        raise TypeError(f"{what} is {value!r}: a whole number is expected, not {type(value).__name__}") from None
+        raise TypeError(f"{what} is {reprlib.repr(value)}: a whole number is expected, not {type(value).__name__}") from None
     if not low <= number <= high:
         raise ValueError(f"{what} is {number}: not from {low} to {high}")
     return number
@@ -175,7 +175,7 @@ def _number(what, value):
     try:
         return _double(value).value
     except TypeError:
-        raise TypeError(f"{what} is {value!r}: a number is expected, not {type(value).__name__}") from None
+        raise TypeError(f"{what} is {reprlib.repr(value)}: a number is expected, not {type(value).__name__}") from None
     except OverflowError:
         raise ValueError(f"{what} is too large for a float") from None
 
@@ -353,7 +353,7 @@ def identifier(name):
     63963136
     """
     if not isinstance(name, str):
-        raise TypeError(f"name is {name!r}: a str is expected, not {type(name).__name__}")
+        raise TypeError(f"name is {reprlib.repr(name)}: a str is expected, not {type(name).__name__}")
     letters = name.encode("ascii", "replace")
     found = _identifier(letters, len(letters))
     if not found:

@@ -315,6 +315,12 @@ class BadInput(unittest.TestCase):
         with self.assertRaisesRegex(ValueError, "3 numbers"):
             htmsky.region([[(0, 0, K)]])
 
+    def test_short_messages(self):
+        for call in (lambda: htmsky.lookup(list(range(100000)), 0, 0), lambda: htmsky.cone(list(range(100000)), 0, 1), lambda: htmsky.identifier([0] * 100000)):
+            with self.assertRaises(TypeError) as caught:
+                call()
+            self.assertLess(len(str(caught.exception)), 200)
+
     def test_buffers(self):
         file = htmsky.region(NORTH)
         for kind in (bytearray(file), memoryview(file), array.array("B", file)):
@@ -696,6 +702,7 @@ class Loading(unittest.TestCase):
             self.assertEqual(self.run_in(top / "alone", HTM_LIBRARY_PATH=str(top / "elsewhere")), "63963136\n")
             self.assertEqual(self.run_in(top / "alone", HTM_LIBRARY_PATH=f"{top / 'none'}{os.pathsep}{top / 'elsewhere'}"), "63963136\n")
             self.assertEqual(self.run_in(top / "alone", LD_LIBRARY_PATH=str(top / "elsewhere")), "63963136\n")
+            self.assertEqual(self.run_in(top / "beside", HTM_LIBRARY_PATH=""), "63963136\n")
             self.assertIn("ImportError: libhtm.so.1 is not found", self.run_in(top / "beside", HTM_LIBRARY_PATH=str(top / "none")))
 
     def test_shown_cover(self):
