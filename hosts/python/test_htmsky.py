@@ -174,6 +174,7 @@ class Columns(unittest.TestCase):
         self.assertEqual(htmsky.holds(self.file, [], [], []), [])
         with self.assertRaises(Refused):
             htmsky.holds(b"", [], [], [])
+        self.assertTrue(htmsky._address(array.array("d")))     # the library wants no null pointer
 
     def test_bad_rows(self):
         with self.assertRaisesRegex(ValueError, "row 2: the right ascension"):
@@ -245,6 +246,8 @@ class Columns(unittest.TestCase):
             htmsky.holds(self.file, zero, whole, whole)
         with self.assertRaisesRegex(ValueError, "x is 4294967296"):
             htmsky.holds(self.file, np.array([1 << 32, 0, 0]), whole, whole)
+        with self.assertRaisesRegex(ValueError, "y is -4294967296"):
+            htmsky.holds(self.file, whole, np.array([-1 << 32, 0, 0]), whole)
         with self.assertRaises(ValueError):
             htmsky.lookup_degrees(zero, np.zeros(4))
         with self.assertRaises(Refused) as caught:
