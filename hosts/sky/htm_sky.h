@@ -65,6 +65,13 @@ struct sky_piece {
  * (SKY_PIECES are always enough). */
 int64_t sky_pieces(const uint8_t *file, size_t bytes, struct sky_piece *pieces, size_t room);
 
+/* Columns of n rows, for hosts in which a call of its own for each row would be slow. Row i gets in out[i], or in x[i], y[i] and z[i], what
+ * the call for one row gives; where that is below 0, it stands in out[i], and x[i], y[i] and z[i] are 0, which is no pointing. How many
+ * rows got such a number: 0 where all is well. sky_holds_all gives the refusal of the file, and then nothing is written. */
+int64_t sky_pointing_all(const double *ra, const double *dec, size_t n, int32_t *x, int32_t *y, int32_t *z);
+int64_t sky_lookup_all(const double *ra, const double *dec, size_t n, uint32_t depth, int64_t *out);
+int64_t sky_holds_all(const uint8_t *file, size_t bytes, const int32_t *x, const int32_t *y, const int32_t *z, size_t n, int8_t *out);
+
 #ifdef __cplusplus
 }
 #endif
