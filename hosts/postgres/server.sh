@@ -1,0 +1,81 @@
+# Private PostgreSQL servers with the extension, for test.sh and bench.sh, which source this. No root, and nothing outside a temporary folder
+# and target/postgres: the server's programs are copied, and its libraries and shared files linked, to a tree of their own, where
+# `make install DESTDIR` puts the extension. PostgreSQL finds both relative to its programs. Ends with 3 and one line where that cannot be.
+#
+#   HTM_LIB=FILE        the archive; else target/staticlib/libhtm.a
+#   PG_CONFIG=PROGRAM   the PostgreSQL; else Debian's newest that can build extensions, else that on the path
+
+cannot() {
+    echo "PostgreSQL: $1" >&2
+    exit 3
+}
+
+top=$(cd "$(dirname "${BASH_SOURCE[0]}")/../.." && pwd)
+library=$(realpath "${HTM_LIB:-$top/target/staticlib/libhtm.a}")
+
+find_postgres() {
+    local c
+    config=${PG_CONFIG:-}
+    if [ -z "$config" ]; then
+        for c in /usr/lib/postgresql/*/bin/pg_config "$(command -v pg_config || true)"; do
+            if [ -x "$c" ] && [ -x "$("$c" --bindir)/initdb" ] && [ -f "$("$c" --includedir-server)/postgres.h" ]; then
+                config=$c
+                [ "${c#/usr/lib/postgresql/}" != "$c" ] || break
+            fi
+        done
+    fi
+    [ -n "$config" ] && command -v psql > /dev/null ||
+        cannot "the server or what builds extensions is missing (Debian: apt-get install postgresql postgresql-server-dev-all)"
+}
+
+# The server does not run as root.
+user=$(id -un)
+if [ "$(id -u)" = 0 ]; then
+    user=postgres
+    id "$user" > /dev/null 2>&1 || user=nobody
+fi
+as_user() {
+    if [ "$(id -u)" = 0 ]; then runuser -u "$user" -- "$@"; else "$@"; fi
+}
+
+cleanup() {
+    local pid
+    for pid in "$room"/*/postmaster.pid; do
+        [ ! -f "$pid" ] || (cd / && as_user "$bin/pg_ctl" -s -D "$(dirname "$pid")" -m immediate stop) || true
+    done
+    rm -rf "$room"
+}
+
+# The tree with the extension: $bin has its programs, $room is the folder of the servers and their sockets.
+prepare() {
+    local share lib
+    find_postgres
+    room=$(mktemp -d)
+    trap cleanup EXIT
+    trap 'exit 1' INT TERM
+    [ "$(id -u)" != 0 ] || chown "$user" "$room"
+    bin=$room/root$("$config" --bindir) share=$("$config" --sharedir) lib=$("$config" --pkglibdir)
+    mkdir -p "$bin" "$room/root$share" "$room/root$lib" "$top/target/postgres"
+    cp "$("$config" --bindir)"/{initdb,pg_ctl,postgres} "$bin"
+    cp -rs "$share/." "$room/root$share"
+    cp -rs "$lib/." "$room/root$lib"
+    rm -f "$room/root$lib/htm.so" "$room/root$share"/extension/htm{.control,--*.sql} # of an installed extension
+    make -s -C "$top/target/postgres" -f "$top/hosts/postgres/Makefile" HTM_LIB="$library" PG_CONFIG="$config"
+    make -s -C "$top/target/postgres" -f "$top/hosts/postgres/Makefile" HTM_LIB="$library" PG_CONFIG="$config" DESTDIR="$room/root" \
+        install > /dev/null
+    export PGHOST=$room PGUSER=archive PGDATABASE=archive
+}
+
+# Port numbers only tell the sockets apart.
+start() { # NAME PORT SETTINGS..
+    local settings="-k $room -p $2 -c listen_addresses= -c fsync=off" s
+    for s in "${@:3}"; do settings+=" -c $s"; done
+    (cd "$room" && as_user "$bin/initdb" -D "$room/$1" -A trust -U archive --no-sync > "$room/$1.log" 2>&1 &&
+        as_user "$bin/pg_ctl" -s -w -D "$room/$1" -l "$room/$1/log" -o "$settings" start) ||
+        { cat "$room/$1.log" "$room/$1/log" >&2 || true; cannot "the server does not start"; }
+    PGDATABASE=postgres sql "$2" -c 'CREATE DATABASE archive'
+}
+
+sql() { # PORT WORDS..
+    psql -qX -v ON_ERROR_STOP=1 -p "$@"
+}
