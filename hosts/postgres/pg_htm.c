@@ -25,6 +25,7 @@ PG_MODULE_MAGIC;
 
 #define FILE_BYTES 10508 /* the longest region file */
 #define PARTS 16         /* ranges of a search whose region is known only when it runs */
+#define MOST_RANGES 128  /* ranges of a search whose region is known to the planner: more cost it more than they save */
 
 /* Of what an outer range holds, so much is in the region: about 0.9 at budget 64. */
 #define CHECKED_SHARE 0.9
@@ -289,98 +290,99 @@ Datum pg_htm_ranges(PG_FUNCTION_ARGS)
     SRF_RETURN_NEXT(call, HeapTupleGetDatum(heap_form_tuple(call->tuple_desc, values, nulls)));
 }
 
-/* Outer ranges: neighbouring pieces joined. Gives the place of the last piece that is joined to piece i. */
-static int64 last_joined(const struct pieces *p, int64 i)
-{
-    while (i + 1 < p->count && p->list[i + 1].low == p->list[i].high + 1)
-        i++;
-    return i;
-}
+/* ---- outer ranges, joined over the smallest gaps where they are too many */
 
-/* A region's outer ranges in at most PARTS parts, joined over the smallest gaps. A part that is not needed holds no identifier. */
-struct parts {
-    int64 low[PARTS], high[PARTS];
+struct range {
+    int64 low, high;
 };
 
-/* The place of the widest gap, which is behind that piece, of those that are not yet chosen; -1 where there is none. */
+static uint64 gap_behind(const struct pieces *p, int64 i)
+{
+    return p->list[i + 1].low - p->list[i].high - 1;
+}
+
+/* The piece with the widest gap behind it that is not yet chosen; -1 where every gap is. */
 static int64 widest_gap(const struct pieces *p, const bool *chosen)
 {
     int64 widest = -1;
     uint64 width = 0;
-    for (int64 i = 0; i + 1 < p->count; i++) {
-        uint64 gap = p->list[i + 1].low - p->list[i].high - 1;
-        if (!chosen[i] && gap > width) {
+    for (int64 i = 0; i + 1 < p->count; i++)
+        if (!chosen[i] && gap_behind(p, i) > width) {
             widest = i;
-            width = gap;
+            width = gap_behind(p, i);
         }
-    }
     return widest;
 }
 
-static struct parts join_pieces(const struct pieces *p)
+/* The ranges that hold all pieces, at most so many, from ranges[0] on: how many. The widest gaps stay between them. */
+static int join_pieces(const struct pieces *p, struct range *ranges, int most)
 {
-    struct parts parts;
     bool *chosen = palloc0(SKY_PIECES * sizeof *chosen);
-    int n = 0;
-    for (int i = 0; i < PARTS; i++) {
-        parts.low[i] = PG_INT64_MAX;
-        parts.high[i] = 0;
-    }
-    for (int i = 0; i + 1 < PARTS; i++) {
+    int count = 0;
+    for (int i = 1; i < most; i++) {
         int64 gap = widest_gap(p, chosen);
-        if (gap >= 0)
-            chosen[gap] = true;
+        if (gap < 0)
+            break;
+        chosen[gap] = true;
     }
     for (int64 i = 0; i < p->count; i++) {
-        if (i > 0 && chosen[i - 1])
-            n++;
-        parts.low[n] = Min(parts.low[n], (int64)p->list[i].low);
-        parts.high[n] = (int64)p->list[i].high;
+        if (i == 0 || chosen[i - 1])
+            ranges[count++].low = (int64)p->list[i].low;
+        ranges[count - 1].high = (int64)p->list[i].high;
     }
     pfree(chosen);
+    return count;
+}
+
+/* ---- the ranges of a region that is known only when the search runs */
+
+struct parts {
+    struct range list[PARTS];
+};
+
+/* A part that is not needed holds no identifier. */
+static struct parts find_parts(bytea *region)
+{
+    struct parts parts;
+    struct pieces *p = find_pieces(region);
+    if (p->count < 0)
+        refuse("htm_within", p->count);
+    for (int i = join_pieces(p, parts.list, PARTS); i < PARTS; i++)
+        parts.list[i] = (struct range){PG_INT64_MAX, 0};
+    pfree(p);
     return parts;
 }
 
-/* The parts of a region. A search asks for all of them one after the other, so that those of the last region are kept. */
-static const struct parts *parts_of(const char *call, bytea *region)
+/* A search asks for all parts one after the other, so that those of the last region are kept. */
+static struct range part_of(FunctionCallInfo fcinfo)
 {
     static uint8 file[FILE_BYTES];
-    static size_t bytes = 0; /* no region file has 0 bytes */
+    static size_t length = 0; /* no region file has 0 bytes */
     static struct parts parts;
-    size_t length = VARSIZE_ANY_EXHDR(region);
-    if (bytes != 0 && bytes == length && memcmp(file, VARDATA_ANY(region), length) == 0)
-        return &parts;
-    struct pieces *p = find_pieces(region);
-    if (p->count < 0)
-        refuse(call, p->count);
-    bytes = 0;
-    parts = join_pieces(p);
-    memcpy(file, VARDATA_ANY(region), length);
-    bytes = length;
-    pfree(p);
-    return &parts;
-}
-
-static int part_number(FunctionCallInfo fcinfo)
-{
-    int32 part = PG_GETARG_INT32(1);
-    if (part < 1 || part > PARTS)
-        ereport(ERROR, (errcode(ERRCODE_INVALID_PARAMETER_VALUE), errmsg("htm: a part is from 1 to %d", PARTS)));
-    return part - 1;
+    bytea *region = PG_GETARG_BYTEA_PP(0);
+    int32 number = PG_GETARG_INT32(1);
+    size_t bytes = VARSIZE_ANY_EXHDR(region);
+    if (number < 1 || number > PARTS)
+        ereport(ERROR, (errcode(ERRCODE_INVALID_PARAMETER_VALUE), errmsg("htm_within: a part is from 1 to %d", PARTS)));
+    if (length == 0 || length != bytes || memcmp(file, VARDATA_ANY(region), bytes) != 0) {
+        parts = find_parts(region); /* a refusal leaves all three as they are */
+        memcpy(file, VARDATA_ANY(region), bytes);
+        length = bytes;
+    }
+    PG_FREE_IF_COPY(region, 0);
+    return parts.list[number - 1];
 }
 
 PG_FUNCTION_INFO_V1(pg_htm_part_low);
 Datum pg_htm_part_low(PG_FUNCTION_ARGS)
 {
-    int part = part_number(fcinfo);
-    PG_RETURN_INT64(parts_of("htm_part_low", PG_GETARG_BYTEA_PP(0))->low[part]);
+    PG_RETURN_INT64(part_of(fcinfo).low);
 }
 
 PG_FUNCTION_INFO_V1(pg_htm_part_high);
 Datum pg_htm_part_high(PG_FUNCTION_ARGS)
 {
-    int part = part_number(fcinfo);
-    PG_RETURN_INT64(parts_of("htm_part_high", PG_GETARG_BYTEA_PP(0))->high[part]);
+    PG_RETURN_INT64(part_of(fcinfo).high);
 }
 
 /* ---- the planner: htm_within as ranges that an index or a partitioned table serves
@@ -422,9 +424,9 @@ static Node *constant(Oid type, Datum value)
 }
 
 /* An identifier of depth 12 as a constant of the column's type; it is below 2^26. */
-static Node *identifier(Node *htm, uint64 id)
+static Node *identifier(Node *htm, int64 id)
 {
-    return exprType(htm) == INT4OID ? constant(INT4OID, Int32GetDatum((int32)id)) : constant(INT8OID, Int64GetDatum((int64)id));
+    return exprType(htm) == INT4OID ? constant(INT4OID, Int32GetDatum((int32)id)) : constant(INT8OID, Int64GetDatum(id));
 }
 
 static Node *any_of(List *ranges)
@@ -474,16 +476,15 @@ static Node *by_constant(const struct within *w)
     static const Oid degrees[] = {INT8OID, FLOAT8OID, FLOAT8OID, BYTEAOID, INT8ARRAYOID};
     Oid checked = w->degrees ? sibling(w->call, "htm_checked_degrees", 5, degrees) : sibling(w->call, "htm_checked", 6, xyz);
     struct pieces *p = find_pieces(DatumGetByteaPP(((Const *)w->region)->constvalue));
+    struct range outer[MOST_RANGES];
     List *ranges = NIL;
     if (p->count < 0 || checked == InvalidOid)
         return NULL; /* a bad region is refused when a row is tested */
     if (p->count == 0)
         return makeBoolConst(false, false);
-    for (int64 i = 0; i < p->count; i++) {
-        int64 last = last_joined(p, i);
-        ranges = lappend(ranges, between(w->htm, identifier(w->htm, p->list[i].low), identifier(w->htm, p->list[last].high)));
-        i = last;
-    }
+    int count = join_pieces(p, outer, MOST_RANGES);
+    for (int i = 0; i < count; i++)
+        ranges = lappend(ranges, between(w->htm, identifier(w->htm, outer[i].low), identifier(w->htm, outer[i].high)));
     Node *htm = copyObject(w->htm);
     if (exprType(htm) == INT4OID)
         htm = (Node *)makeFuncExpr(F_INT8_INT4, INT8OID, list_make1(htm), InvalidOid, InvalidOid, COERCE_IMPLICIT_CAST);
