@@ -13,15 +13,17 @@
 
 /* A rounded direction is at most sqrt(3)/2 units from K times the true one. So n.p is within (sqrt(3) + 0.75/K) K, that is 1.732052 K, of
  * K^2 times the true product, for every rounded n and p. */
-#define HALFSPACE_MARGIN 1.733  /* taken from the offset of a cone of one halfspace */
-#define CIRCLE_MARGIN 1.74      /* added to the radius of a cone of circles, in units of 1/K */
-#define SIDE_OFFSET (-2)        /* the offset of a polygon's side */
+#define HALFSPACE_MARGIN 1.733 /* taken from the offset of a halfspace around a centre */
+#define CIRCLE_MARGIN 0.74     /* added to the radius that circles touch, in units of 1/K, beside .. */
+#define CIRCLE_OFFSET (-1)     /* .. the offset of a circle, 1/K more */
+#define SIDE_OFFSET (-2)       /* the offset of a polygon's side */
 
-#define CIRCLES 32              /* great circles around a small cone */
-#define CIRCLES_BELOW 2.0       /* degrees: from this radius on one halfspace holds less beyond the cone than the circles would */
+#define CIRCLES 32             /* circles around a small cone */
+#define CIRCLES_BELOW 2.0      /* degrees: from this radius on one halfspace alone holds hardly more beyond the cone */
+#define GUARD_BELOW 1.0        /* degrees: a polygon that reaches less far has a halfspace around it before its sides */
 
-#define CLOSE 1e-6              /* the sine of the least angle between two corners in a row, and of the least from opposite */
-#define DENT 1e-7               /* how far a corner may be on the outer side of a side, in radians */
+#define CLOSE 1e-6 /* the sine of the least angle between two corners in a row, and of the least from opposite */
+#define DENT 1e-7  /* how far a corner may be on the outer side of a side, in radians */
 
 /* ---- directions */
 
@@ -93,39 +95,48 @@ static void put_row(int32_t *row, int32_t convex, struct direction n, double off
     row[4] = (int32_t)offset;
 }
 
-/* The depth for a region that reaches so many radians from its middle. */
-static uint32_t choose_depth(double reach)
+/* The depth for a region that reaches so many radians from its middle: 12 for up to 2 degrees within a budget of 64, and one less for each
+ * doubling of the reach or halving of the budget. One more would take twice the time and hardly leave less to test. */
+static uint32_t choose_depth(double reach, uint32_t budget)
 {
-    (void)reach;
-    return MOST_DEPTH;
+    uint32_t depth = MOST_DEPTH;
+    for (double r = 2 * DEGREE * (budget ? budget : HTM_DEFAULT_BUDGET) / 64; reach > r && depth > 1; r *= 2)
+        depth--;
+    return depth;
 }
 
 static int64_t write_region(uint32_t depth, double reach, uint32_t budget, const int32_t *rows, size_t count, uint8_t *file, size_t bytes)
 {
-    uint32_t d = depth == SKY_CHOOSE_DEPTH ? choose_depth(reach) : depth;
+    uint32_t d = depth == SKY_CHOOSE_DEPTH ? choose_depth(reach, budget) : depth;
     return htm_write(d, budget, rows, ROW * count, file, bytes);
 }
 
-/* Great circles that touch the cone of the padded radius r, the cone on their inner side: u at the angle r from the centre has n.u >= 0 for
- * each of their directions n. */
-static size_t circle_rows(double ra, double dec, double r, int32_t *rows)
+/* The halfspace that holds all directions within r radians of the centre. Its offset may be less than -K. */
+static double halfspace_offset(double r)
 {
-    double a = ra * DEGREE;
-    struct direction centre = toward(ra, dec), east = {-sin(a), cos(a), 0}, north = cross(centre, east);
-    for (int i = 0; i < CIRCLES; i++) {
-        double t = 360.0 / CIRCLES * i * DEGREE;
-        struct direction side = mix(cos(t), east, sin(t), north);
-        put_row(rows + ROW * i, 0, mix(sin(r), centre, cos(r), side), 0);
-    }
-    return CIRCLES;
+    return floor(K * cos(r) - HALFSPACE_MARGIN);
 }
 
-/* One halfspace; or the whole sky, two that overlap, where the offset would be less than -K. */
+/* A halfspace around the cone, and circles that touch the cone of the padded radius: a direction u in it has m.u >= 0 for each of their
+ * directions m. The halfspace holds more than the circles do, but one look at it leaves out most of the sky. */
+static size_t circle_rows(double ra, double dec, double r, int32_t *rows)
+{
+    double a = ra * DEGREE, padded = r + CIRCLE_MARGIN / K;
+    struct direction centre = toward(ra, dec), east = {-sin(a), cos(a), 0}, north = cross(centre, east);
+    put_row(rows, 0, centre, halfspace_offset(r));
+    for (int i = 1; i <= CIRCLES; i++) {
+        double t = 360.0 / CIRCLES * i * DEGREE;
+        struct direction side = mix(cos(t), east, sin(t), north);
+        put_row(rows + ROW * i, 0, mix(sin(padded), centre, cos(padded), side), CIRCLE_OFFSET);
+    }
+    return CIRCLES + 1;
+}
+
+/* One halfspace; or the whole sky, two that overlap, where its offset would be less than -K. */
 static size_t halfspace_rows(double ra, double dec, double r, int32_t *rows)
 {
-    double offset = floor(K * cos(r) - HALFSPACE_MARGIN);
-    if (offset >= -K) {
-        put_row(rows, 0, toward(ra, dec), offset);
+    if (halfspace_offset(r) >= -K) {
+        put_row(rows, 0, toward(ra, dec), halfspace_offset(r));
         return 1;
     }
     put_row(rows, 0, (struct direction){0, 0, 1}, -K / 2);
@@ -135,14 +146,14 @@ static size_t halfspace_rows(double ra, double dec, double r, int32_t *rows)
 
 int64_t sky_cone(double ra, double dec, double radius, uint32_t depth, uint32_t budget, uint8_t *file, size_t bytes)
 {
-    int32_t rows[ROW * CIRCLES];
+    int32_t rows[ROW * (CIRCLES + 1)];
     int64_t bad = check_degrees(ra, dec);
     if (bad)
         return bad;
     if (!(radius >= 0 && radius <= 180))
         return SKY_RADIUS;
     double r = radius * DEGREE;
-    size_t count = radius < CIRCLES_BELOW ? circle_rows(ra, dec, r + CIRCLE_MARGIN / K, rows) : halfspace_rows(ra, dec, r, rows);
+    size_t count = radius < CIRCLES_BELOW ? circle_rows(ra, dec, r, rows) : halfspace_rows(ra, dec, r, rows);
     return write_region(depth, r, budget, rows, count, file, bytes);
 }
 
@@ -236,6 +247,17 @@ static double reach_of(const struct polygon *p)
     return acos(fmax(least, -1));
 }
 
+/* The sides, after a halfspace around all of a small polygon. */
+static size_t side_rows(const struct polygon *p, int sense, double reach, int32_t *rows)
+{
+    size_t guard = reach < GUARD_BELOW * DEGREE && p->count < MOST_CORNERS;
+    if (guard)
+        put_row(rows, 0, p->middle, halfspace_offset(reach));
+    for (size_t i = 0; i < p->count; i++)
+        put_row(rows + ROW * (guard + i), 0, mix(sense, p->side[i], 0, p->side[i]), SIDE_OFFSET);
+    return guard + p->count;
+}
+
 int64_t sky_polygon(const double *degrees, size_t corners, uint32_t depth, uint32_t budget, uint8_t *file, size_t bytes)
 {
     struct polygon p;
@@ -248,9 +270,8 @@ int64_t sky_polygon(const double *degrees, size_t corners, uint32_t depth, uint3
     int sense = find_sense(&p);
     if (sense == 0 || !find_middle(&p) || turns(&p) != sense)
         return SKY_CONVEX;
-    for (size_t i = 0; i < p.count; i++)
-        put_row(rows + ROW * i, 0, mix(sense, p.side[i], 0, p.side[i]), SIDE_OFFSET);
-    return write_region(depth, reach_of(&p), budget, rows, p.count, file, bytes);
+    double reach = reach_of(&p);
+    return write_region(depth, reach, budget, rows, side_rows(&p, sense, reach, rows), file, bytes);
 }
 
 /* ---- pieces */
