@@ -3,7 +3,7 @@
 #   make host        builds and runs examples/host.c
 #   make test        every C call on the stored cases of query and archive, the lookups of floats beside C's own product, what examples/host.c prints
 #   make sqlite      the SQLite host on 300,000 frames: what it delivers beside a test of every frame
-#   make postgres    the same table in private PostgreSQL servers, beside the SQLite host's answers
+#   make postgres    the PostgreSQL extension on 300,000 frames in private servers: what it delivers beside a test of every frame
 #
 # LIB=FILE takes another archive, which is then not built.
 
@@ -34,8 +34,8 @@ sqlite: sqlite-header target/c/frames
 	target/c/frames export target/c/copy.db | cmp - target/c/frames.csv
 	target/c/frames test target/c/copy.db
 
-postgres: sqlite-header target/c/frames target/c/region
-	examples/postgres/run.sh
+postgres: $(LIB)
+	HTM_LIB=$(LIB) hosts/postgres/test.sh
 
 sqlite-header:
 	@echo '#include <sqlite3.h>' | $(CC) -E - > /dev/null 2>&1 || \
