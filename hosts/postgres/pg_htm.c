@@ -25,7 +25,7 @@ PG_MODULE_MAGIC;
 
 #define FILE_BYTES 10508 /* the longest region file */
 #define PARTS 16         /* ranges of a search whose region is known only when it runs */
-#define MOST_RANGES 128  /* ranges of a search whose region is known to the planner: more cost it more than they save */
+#define MOST_RANGES 32   /* ranges of a search whose region is known to the planner; README.md has what more of them cost */
 
 /* Of what an outer range holds, so much is in the region: about 0.9 at budget 64. */
 #define CHECKED_SHARE 0.9
@@ -334,6 +334,14 @@ static int join_pieces(const struct pieces *p, struct range *ranges, int most)
     return count;
 }
 
+/* For qsort: the widest range comes first, since most rows are in it. */
+static int by_width(const void *a, const void *b)
+{
+    const struct range *r = a, *s = b;
+    int64 difference = (s->high - s->low) - (r->high - r->low);
+    return difference > 0 ? 1 : difference < 0 ? -1 : r->low < s->low ? -1 : 1;
+}
+
 /* ---- the ranges of a region that is known only when the search runs */
 
 struct parts {
@@ -483,6 +491,7 @@ static Node *by_constant(const struct within *w)
     if (p->count == 0)
         return makeBoolConst(false, false);
     int count = join_pieces(p, outer, MOST_RANGES);
+    qsort(outer, count, sizeof outer[0], by_width);
     for (int i = 0; i < count; i++)
         ranges = lappend(ranges, between(w->htm, identifier(w->htm, outer[i].low), identifier(w->htm, outer[i].high)));
     Node *htm = copyObject(w->htm);
