@@ -3,7 +3,7 @@
 # `make install DESTDIR` puts the extension. PostgreSQL finds both relative to its programs. Ends with 3 and one line where that cannot be.
 #
 #   HTM_LIB=FILE        the archive; else target/staticlib/libhtm.a
-#   PG_CONFIG=PROGRAM   the PostgreSQL; else Debian's newest that can build extensions, else that on the path
+#   PG_CONFIG=PROGRAM   the PostgreSQL; else that on the path, else Debian's newest
 
 cannot() {
     echo "PostgreSQL: $1" >&2
@@ -11,21 +11,21 @@ cannot() {
 }
 
 top=$(cd "$(dirname "${BASH_SOURCE[0]}")/../.." && pwd)
-library=$(realpath "${HTM_LIB:-$top/target/staticlib/libhtm.a}")
+library=$(realpath -m "${HTM_LIB:-$top/target/staticlib/libhtm.a}")
+
+complete() { # PG_CONFIG: whether it has a server and what builds extensions
+    [ -x "$1" ] && [ -x "$("$1" --bindir)/initdb" ] && [ -f "$("$1" --includedir-server)/postgres.h" ]
+}
 
 find_postgres() {
     local c
-    config=${PG_CONFIG:-}
-    if [ -z "$config" ]; then
-        for c in /usr/lib/postgresql/*/bin/pg_config "$(command -v pg_config || true)"; do
-            if [ -x "$c" ] && [ -x "$("$c" --bindir)/initdb" ] && [ -f "$("$c" --includedir-server)/postgres.h" ]; then
-                config=$c
-                [ "${c#/usr/lib/postgresql/}" != "$c" ] || break
-            fi
-        done
-    fi
+    config=
+    for c in "${PG_CONFIG:-$(command -v pg_config || true)}" $(ls /usr/lib/postgresql/*/bin/pg_config 2> /dev/null | sort -rV); do
+        if [ -z "$config" ] && complete "$c"; then config=$c; fi
+        [ -z "${PG_CONFIG:-}" ] || break
+    done
     [ -n "$config" ] && command -v psql > /dev/null ||
-        cannot "the server or what builds extensions is missing (Debian: apt-get install postgresql postgresql-server-dev-all)"
+        cannot "the server, or what builds extensions, is missing (Debian: apt-get install postgresql postgresql-server-dev-all)"
 }
 
 # The server does not run as root.
@@ -50,6 +50,7 @@ cleanup() {
 prepare() {
     local share lib
     find_postgres
+    [ -f "$library" ] || { echo "$library is missing: rt staticlib htm writes it" >&2; exit 1; }
     room=$(mktemp -d)
     trap cleanup EXIT
     trap 'exit 1' INT TERM

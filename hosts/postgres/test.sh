@@ -93,6 +93,15 @@ if [ "$(ask "SELECT to_regclass('spread') IS NOT NULL")" = t ]; then
     line=$(ask "SELECT tables, sent LIKE '%htm_checked%' AND sent LIKE '%htm >= %' FROM scans('SELECT * FROM spread WHERE htm_within(htm, x, y, z, $cone)')")
     [ "$line" = 'spread_north | t' ] || fail "machines: $line"
     echo "machines: it asks spread_north only, and sends ranges and point test"
+    for name in '5 degrees' '90 degrees' 'a hemisphere, budget 2048'; do
+        for shape in parted 'parted ranges' spread 'spread ranges'; do
+            query=$(ask "SELECT format(query, region) FROM shapes AS s, regions AS r WHERE s.name = '$shape' AND r.name = '$name'")
+            ask "$query" > /dev/null
+            began=${EPOCHREALTIME/./}
+            ask "$query" > /dev/null
+            printf '%s, %s: %d ms\n' "$name" "$shape" $(((${EPOCHREALTIME/./} - began) / 1000))
+        done
+    done
 fi
 
 # Memory: five thousand covers, read to the end and left after the first row.
