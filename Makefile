@@ -2,8 +2,10 @@
 #
 #   make host        builds and runs examples/host.c
 #   make test        every C call on the stored cases of query and archive, the lookups of floats beside C's own product, what examples/host.c prints
-#   make sqlite      the SQLite host on 300,000 frames: what it delivers beside a test of every frame
-#   make postgres    the PostgreSQL extension on 300,000 frames in private servers: what it delivers beside a test of every frame
+#   make sky         the layer of degrees: random cones and polygons beside long double, and what is refused
+#   make sky-measure what other ways to write cones and polygons would cost
+#   make sqlite      the SQLite extension, target/hosts/htm_sqlite.so: every function, and searches of 300,000 frames beside a test of every frame
+#   make postgres    the PostgreSQL extension in private servers: every function, and searches of 300,000 frames beside a test of every frame
 #
 # LIB=FILE takes another archive, which is then not built.
 
@@ -12,7 +14,7 @@ INCLUDE = include
 CFLAGS = -std=c11 -Wall -Wextra -Werror -O2
 COMPILE = $(CC) $(CFLAGS) -I$(INCLUDE)
 
-.PHONY: host test sqlite sqlite-header postgres
+.PHONY: host test sky sky-measure sqlite sqlite-header postgres
 
 host: target/c/host
 	target/c/host
@@ -24,15 +26,16 @@ test: target/c/calls target/c/index target/c/reports target/c/host
 	target/c/host | diff examples/host.expected -
 	@echo "host: its output is that of examples/host.expected"
 
-# The table is filled, exported, loaded into another one, and searched there.
-sqlite: sqlite-header target/c/frames
-	rm -f target/c/frames.db target/c/copy.db
-	target/c/frames create target/c/frames.db 300000
-	target/c/frames export target/c/frames.db > target/c/frames.csv
-	target/c/frames create target/c/copy.db 0
-	cut -d, -f2- target/c/frames.csv | target/c/frames load target/c/copy.db
-	target/c/frames export target/c/copy.db | cmp - target/c/frames.csv
-	target/c/frames test target/c/copy.db
+sky: target/c/sky
+	target/c/sky
+
+sky-measure: target/c/sky-measure
+	target/c/sky-measure
+
+# The extension in SQLite's library, then what the README shows in SQLite's shell.
+sqlite: sqlite-header target/hosts/htm_sqlite.so target/c/sqlite
+	target/c/sqlite target/hosts/htm_sqlite
+	hosts/sqlite/session hosts/sqlite/README.md
 
 postgres: $(LIB)
 	HTM_LIB=$(LIB) hosts/postgres/test.sh
@@ -57,15 +60,23 @@ target/c/reports: tests/c/reports.c $(LIB) $(INCLUDE)/htm.h
 	@mkdir -p target/c
 	$(COMPILE) -o $@ tests/c/reports.c $(LIB) -lm
 
-FRAMES = examples/sqlite/frames.c examples/sqlite/sky.c examples/sqlite/test.c examples/pieces.c
-
-target/c/frames: $(FRAMES) examples/sqlite/frames.h examples/pieces.h $(LIB) $(INCLUDE)/htm.h
+target/c/sky: hosts/sky/test.c hosts/sky/htm_sky.c hosts/sky/htm_sky.h $(LIB) $(INCLUDE)/htm.h
 	@mkdir -p target/c
-	$(COMPILE) -o $@ $(FRAMES) $(LIB) -lsqlite3
+	$(COMPILE) -Ihosts/sky -o $@ hosts/sky/test.c hosts/sky/htm_sky.c $(LIB) -lm
 
-target/c/region: examples/postgres/region.c examples/pieces.c examples/pieces.h $(LIB) $(INCLUDE)/htm.h
+target/c/sky-measure: hosts/sky/measure.c hosts/sky/htm_sky.c hosts/sky/htm_sky.h $(LIB) $(INCLUDE)/htm.h
 	@mkdir -p target/c
-	$(COMPILE) -o $@ examples/postgres/region.c examples/pieces.c $(LIB)
+	$(COMPILE) -Ihosts/sky -o $@ hosts/sky/measure.c $(LIB) -lm
+
+# The library, the layer of degrees and nothing else is in it; only the two names by which SQLite loads it are visible.
+target/hosts/htm_sqlite.so: hosts/sqlite/htm_sqlite.c hosts/sky/htm_sky.c hosts/sky/htm_sky.h $(LIB) $(INCLUDE)/htm.h
+	@mkdir -p target/hosts
+	$(COMPILE) -Ihosts/sky -fPIC -fvisibility=hidden -shared -o $@ hosts/sqlite/htm_sqlite.c hosts/sky/htm_sky.c $(LIB) -lm \
+	  -Wl,-Bsymbolic -Wl,--exclude-libs,ALL -Wl,-z,defs
+
+target/c/sqlite: hosts/sqlite/test.c $(LIB) $(INCLUDE)/htm.h
+	@mkdir -p target/c
+	$(COMPILE) -o $@ hosts/sqlite/test.c $(LIB) -lsqlite3 -lm
 
 # From nothing the proofs take minutes; what has not changed since is not proved again. What htm depends on comes first, since
 # rt check proves crates beside each other and rt staticlib one after the other.

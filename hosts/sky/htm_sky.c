@@ -76,14 +76,15 @@ int64_t sky_pointing(double ra, double dec, int32_t p[3])
     return bad;
 }
 
+/* A quotient by K is exact, so that the lookup of floats gets these very numbers. lookup would do too, but beside shared objects a host's own
+ * function of that name would be called in its place. */
 int64_t sky_lookup(double ra, double dec, uint32_t depth)
 {
     int32_t p[3];
     int64_t bad = sky_pointing(ra, dec, p);
     if (bad)
         return bad;
-    uint64_t id = lookup(p[0], p[1], p[2], depth);
-    return id ? (int64_t)id : -5; /* a rounded direction is a pointing, so that only the depth can be refused */
+    return htm_lookup_f64((double)p[0] / K, (double)p[1] / K, (double)p[2] / K, depth);
 }
 
 /* ---- regions */

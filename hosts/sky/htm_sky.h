@@ -24,10 +24,10 @@ enum {
     SKY_FEW = -104,     /* a polygon of fewer than three corners */
     SKY_MANY = -105,    /* a polygon of more than 100 corners */
     SKY_CLOSE = -106,   /* two corners in a row that are the same, opposite, or too close to tell their side's direction */
-    SKY_CONVEX = -107   /* corners that do not go around a convex polygon once */
+    SKY_CONVEX = -107   /* corners that do not go around a convex polygon once, or that are all on one great circle */
 };
 
-/* Where depth or budget may be chosen here: 0 as a depth lets the call choose by the region's size. */
+/* 0 as a depth lets the call choose one by the region's size and the budget. 64 is a good budget for a table in one database. */
 #define SKY_CHOOSE_DEPTH 0
 #define SKY_BUDGET 64
 
@@ -40,13 +40,15 @@ int64_t sky_pointing(double ra, double dec, int32_t p[3]);
 /* The identifier of the trixel of the given depth, 1 to 12, in which the direction lies; or SKY_RA, SKY_DEC, then -5. */
 int64_t sky_lookup(double ra, double dec, uint32_t depth);
 
-/* A region file of all directions within radius degrees of (ra, dec), from file[0] on: its length. One halfspace where its radius allows, else
- * great circles around the cone. It is padded by so little that rounding loses no direction within the radius: README.md has the figures
- * of what it holds beyond. SKY_RA, SKY_DEC, SKY_RADIUS, then a refusal of htm_write. */
+/* A region file of all directions within radius degrees of (ra, dec), from file[0] on: its length. It is one halfspace from 2 degrees on, and
+ * below a halfspace and 32 circles. It is padded by just so much that rounding loses no direction within the radius: README.md has the
+ * figures of what it holds beyond. SKY_RA, SKY_DEC, SKY_RADIUS, then a refusal of htm_write. */
 int64_t sky_cone(double ra, double dec, double radius, uint32_t depth, uint32_t budget, uint8_t *file, size_t bytes);
 
 /* A region file of a convex polygon with great circles as sides, padded alike; degrees has ra and dec of each corner, in either sense, the
- * last joined to the first. SKY_FEW, SKY_MANY, then corner by corner SKY_RA, SKY_DEC, then SKY_CLOSE, SKY_CONVEX, then a refusal of htm_write. */
+ * last joined to the first. A corner may lie within a side; 0.02 seconds of arc inwards are taken as on it. Of the two parts of the sky
+ * that the sides bound it is the convex one, which is smaller than a hemisphere. SKY_FEW, SKY_MANY, then corner by corner SKY_RA, SKY_DEC,
+ * then SKY_CLOSE, SKY_CONVEX, then a refusal of htm_write. */
 int64_t sky_polygon(const double *degrees, size_t corners, uint32_t depth, uint32_t budget, uint8_t *file, size_t bytes);
 
 /* Ranges of depth-12 identifiers as a database searches them. They ascend and do not overlap. What lies in an inner piece is in the region;
