@@ -46,12 +46,23 @@ cleanup() {
     rm -rf "$room"
 }
 
+# A temporary folder in which a copied program can be started.
+make_room() {
+    local place
+    for place in "${TMPDIR:-/tmp}" /tmp /var/tmp; do
+        room=$(mktemp -d -p "$place") || continue
+        if cp "$(type -P true)" "$room/true" && "$room/true" 2> /dev/null; then return; fi
+        rm -rf "$room"
+    done
+    cannot "no temporary folder lets programs be started"
+}
+
 # The tree with the extension: $bin has its programs, $room is the folder of the servers and their sockets.
 prepare() {
     local share lib
     find_postgres
     [ -f "$library" ] || { echo "$library is missing: rt staticlib htm writes it" >&2; exit 1; }
-    room=$(mktemp -d)
+    make_room
     trap cleanup EXIT
     trap 'exit 1' INT TERM
     [ "$(id -u)" != 0 ] || chown "$user" "$room"
