@@ -5,7 +5,7 @@
 #   make sky         the layer of degrees: random cones and polygons beside long double, and what is refused
 #   make sky-measure what other ways to write cones and polygons would cost
 #   make sqlite      the SQLite extension, target/hosts/htm_sqlite.so: every function, and searches of 300,000 frames beside a test of every frame
-#   make postgres    the same table in private PostgreSQL servers, beside the SQLite host's answers
+#   make postgres    the PostgreSQL extension in private servers: every function, and searches of 300,000 frames beside a test of every frame
 #   make install     libraries, headers, pkg-config files, programs, manual pages and the Python module below PREFIX, /usr/local
 #   make uninstall   removes what make install puts there; directories stay
 #   make install-test   installs to a temporary directory, and tries all that is there
@@ -46,8 +46,8 @@ sqlite: sqlite-header target/hosts/htm_sqlite.so target/c/sqlite
 	target/c/sqlite target/hosts/htm_sqlite
 	hosts/sqlite/session hosts/sqlite/README.md
 
-postgres: sqlite-header target/c/frames target/c/region
-	examples/postgres/run.sh
+postgres: $(LIB)
+	HTM_LIB=$(LIB) hosts/postgres/test.sh
 
 sqlite-header:
 	@echo '#include <sqlite3.h>' | $(CC) -E - > /dev/null 2>&1 || \

@@ -1,4 +1,5 @@
 -- The table on each machine of a spread archive: the frames of its range of identifiers.
+CREATE EXTENSION htm;
 CREATE TABLE frames (
     htm integer NOT NULL,
     number bigint NOT NULL,
