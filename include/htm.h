@@ -51,6 +51,9 @@ extern "C" {
  * 0 for a refusal: a depth not from 1 to 12, or a pointing that breaks the rule above. No identifier is 0. */
 uint64_t lookup(int32_t x, int32_t y, int32_t z, uint32_t depth);
 
+/* The same with the refusal's number: the identifier, below 2^26, or -N for refusal N: 5, then 8. */
+int64_t htm_lookup(int32_t x, int32_t y, int32_t z, uint32_t depth);
+
 /* As above, for a mount's report, three floats in double or in single precision: each is multiplied by K and truncated toward zero,
  * so that -0.3 becomes -314572; then the lookup follows. The identifier, below 2^26.
  * -N for refusal N: 5, then 12 where a float is a NaN, an infinity or beyond 1 in size, then 8. */

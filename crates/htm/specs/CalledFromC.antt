@@ -1,7 +1,7 @@
 -- The calls for a host in C: a number instead of an answer. Document 01, 'What is sent back', 'Regions', 'The two lists'; document 02, F-10 to F-12.
--- A refusal is minus its number, and comes before any list is written. The lookup and the identifier of a name give 0 instead: `lookupForC`
+-- A refusal is minus its number, and comes before any list is written. The call `lookup` and the identifier of a name give 0 instead: `lookupForC`
 -- (Answers), `orZero`. How an answer becomes a number, and a value the numbers of a list: htm_abi/specs/Values. The lengths of `nameAnswer` (mesh)
--- and `writeAnswer` (region) and the identifiers of `lookupReport` and `locateLine` (Answers) go by `numberForC`, the point test by `heldForC`.
+-- and `writeAnswer` (region) and the identifiers of `lookup` (mesh), `lookupReport` and `locateLine` (Answers) go by `numberForC`, the point test by `heldForC`.
 --   cornersForC i out, cornersAfterC   the corners or the refusal, 11, then 10; the lent list afterwards (`cornersList`)
 --   inBoth n a list      what a call has to write, or its refusal; then 10 where the second lent list has fewer than n elements
 --   readForC, rowsAfterC, headerAfterC     the reader's header; the lent list and the header's afterwards (`headerList`)

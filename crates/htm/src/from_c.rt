@@ -13,6 +13,7 @@ ghost use mathlib.Core.Path.{_≡_};
 ghost use lib.ListN.{length};
 ghost use Rattle.vector.specs.Vectors.{vec};
 ghost use Rattle.mount.specs.Reports.{singleReport, doubleReport};
+ghost use Rattle.mesh.specs.Lookup as mesh_lookup;
 ghost use Rattle.mesh.specs.Names.{identifierOf};
 ghost use Rattle.mesh.specs.Answers.{nameAnswer, nameAfter};
 ghost use Rattle.region.specs.Writer.{writeGrouped};
@@ -28,6 +29,14 @@ pub extern "C" fn lookup(x: i32, y: i32, z: i32, depth: u32) -> u64
     ensures { λ r. ⌜ r ≡ lookupForC x y z depth ⌝ }
 {
     htm_abi::or_zero(crate::locate(x, y, z, depth))
+}
+
+// The same lookup: the identifier, or minus the number of the refusal.
+#[no_mangle]
+pub extern "C" fn htm_lookup(x: i32, y: i32, z: i32, depth: u32) -> i64
+    ensures { λ r. ⌜ r ≡ numberForC (mesh_lookup.lookup (vec x y z) depth) ⌝ }
+{
+    htm_abi::number_or_minus(crate::locate(x, y, z, depth))
 }
 
 // The lookup of a mount's report in single precision: the identifier, or minus the number of the refusal.
