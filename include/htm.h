@@ -87,6 +87,11 @@ int64_t htm_corners(uint64_t id, int32_t *out, size_t elements);
  * (2560 are always enough) or header fewer than 3. */
 int64_t htm_read(const uint8_t *file, size_t bytes, int32_t *rows, size_t elements, uint64_t *header, size_t n);
 
+/* What a region file of so many bytes says without its rows: header[0] is the count of halfspaces, header[1] the depth and header[2]
+ * the budget as written, all three as htm_read gives them, and header[3] the count of convexes, 1 to 64.
+ * 0, or -N for refusal N: that of the file's first failed check, 1 to 9 or 14; then -10 where header has fewer than 4 elements. */
+int64_t htm_header(const uint8_t *file, size_t bytes, uint64_t *header, size_t n);
+
 /* The region file of rows as htm_read gives them, from out[0] on. elements is how many numbers there are, five a row: the first
  * row's convex is 0, each next row's is the same or one more. depth is 1 to 12, budget 0 to 2048. The file's length, 36 to 10508.
  * -N for refusal N: 5, 6, then 4 where there are no rows or no whole fives, then row by row 4, 7, 8, 9; then -10 where out has

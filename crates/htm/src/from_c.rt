@@ -3,6 +3,7 @@
 use crate::CoverOf;
 use answer::SPACE;
 use covering::COVER_COUNTS;
+use limits::HALFSPACES;
 use mesh::CornersOf;
 use mount::Double;
 use mount::Report;
@@ -21,7 +22,7 @@ ghost use Rattle.region.specs.Converting.{toGrouped, toPlain};
 ghost use Rattle.region.specs.Answers.{pointTest, fileAnswer, fileAfter, writeAnswer, writeAfter};
 ghost use Rattle.htm_abi.specs.Values.{orZero, numberForC, heldForC, statusOf};
 ghost use Rattle.htm.specs.Answers.{lookupReport, locateLine, lookupForC};
-ghost use Rattle.htm.specs.CalledFromC.{cornersForC, cornersAfterC, readForC, rowsAfterC, headerAfterC, coverForC, coverAfterC, countsAfterC};
+ghost use Rattle.htm.specs.CalledFromC.{cornersForC, cornersAfterC, readForC, rowsAfterC, headerAfterC, contentsForC, contentsAfterC, coverForC, coverAfterC, countsAfterC};
 
 // The lookup: the identifier, or 0 for a refusal.
 #[no_mangle]
@@ -169,6 +170,28 @@ pub extern "C" fn htm_read(file: &[u8], rows: &mut [i32], header: &mut [u64]) ->
     match answer {
         HeaderOf::Gives(h) => {
             htm_abi::put_header(header, h);
+            0
+        }
+        HeaderOf::Refused(n) => htm_abi::minus(n),
+    }
+}
+
+// What a region file says without its rows: 0, with the count of halfspaces, depth, budget and the count of convexes at the beginning of `header`, or
+// minus the number of the refusal, 10 where `header` has fewer than four elements.
+#[no_mangle]
+pub extern "C" fn htm_header(file: &[u8], header: &mut [u64]) -> i64
+    ensures { λ r. ⌜ r ≡ statusOf (contentsForC (now (file .entry)) (now (header .entry))) ⌝ }
+    ensures { λ r. ⌜ now (header .exit) ≡ contentsAfterC (now (file .entry)) (now (header .entry)) ⌝ }
+{
+    let mut rows = [0i32; 5 * HALFSPACES];
+    let said = region_reader::decode(file, &mut rows);
+    match said {
+        HeaderOf::Gives(h) => {
+            if header.len() < 4 {
+                return htm_abi::minus(SPACE);
+            }
+            let convexes = region_reader::convexes_in(&rows, h.count as usize);
+            htm_abi::put_contents(header, h, convexes);
             0
         }
         HeaderOf::Refused(n) => htm_abi::minus(n),
