@@ -36,7 +36,7 @@ struct tally {
 
 static struct text line, wanted;         /* the case at hand */
 static struct tally *now;                /* its call's tally */
-static struct tally headers;             /* that of htm_header, which no line asks for */
+static struct tally headers;             /* that of htm_header, made on each line's region file */
 static size_t line_number;
 static char printed[1 << 18];            /* the answer through C */
 static size_t printed_n;
@@ -655,9 +655,10 @@ static long report_call(const char *call, const struct tally *t)
 
 static long report(long skipped)
 {
-    long differ = report_call("htm_header", &headers);
+    long differ = 0;
     for (size_t i = 0; i < COMMANDS; i++)
         differ += report_call(commands[i].call, &commands[i].tally);
+    differ += report_call("htm_header", &headers);
     printf("%ld lines of another shape skipped, since query answers them with usage\n", skipped);
     return differ;
 }

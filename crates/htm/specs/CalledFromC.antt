@@ -3,7 +3,7 @@
 -- (Answers), `orZero`. How an answer becomes a number, and a value the numbers of a list: htm_abi/specs/Values. The lengths of `nameAnswer` (mesh)
 -- and `writeAnswer` (region) and the identifiers of `lookup` (mesh), `lookupReport` and `locateLine` (Answers) go by `numberForC`, the point test by `heldForC`.
 --   cornersForC i out, cornersAfterC   the corners or the refusal, 11, then 10; the lent list afterwards (`cornersList`)
---   inBoth n a list      what a call has to write, or its refusal; then 10 where the second lent list has fewer than n elements
+--   inBoth n a list      what a call has to write, or its refusal; then 10 where the list lent for its numbers has fewer than n elements
 --   readForC, rowsAfterC, headerAfterC     the reader's header; the lent list and the header's afterwards (`headerList`)
 --   contentsForC f header, contentsAfterC  the file or its refusal, then 10; the lent list afterwards: what the file says without its rows (`contentsList`)
 --   coverForC, coverAfterC, countsAfterC   the cover's counts; the lent list and the list of counts afterwards (`countsList`)
@@ -59,7 +59,7 @@ entryForC i l out = then (entryAnswer i l) (entryRoom out)
 unfoldable pub entryAfterC : ℕ → List ℤ → List ℤ → List ℤ
 entryAfterC i l out = stored entryInto (entryForC i l out) out
 
--- ---- a file, with two lent lists
+-- ---- a file, with one lent list or two
 
 abbrev pub inBoth : ℕ → Answer File → List ℕ → Answer File
 inBoth n a list = then a (λ x. room n list x)

@@ -21,9 +21,6 @@ read : (c : tie.After-result) (g : Region) → FilledRows g (c .before .args .n)
     → toZ w32 (ofZ w32 (getD (now (c .before .args .rows)) (5 * (c .before .args .n - 1)) (pos 0))) ≡ pos (length g - 1)
 read c g r = toZ-ofZ (record { sfits = c .result .given }) ∙ last-number r
 
-own : (c : tie.After-result) → let g = c .before .pre .0 in toZ w32 (ofZ w32 (getD (now (c .before .args .rows)) (5 * (c .before .args .n - 1)) (pos 0))) ≡ pos (length g - 1)
-own c = read c (c .before .pre .0) (c .before .pre .1)
-
 pub convexes-in-spec : {M : Type 1} → statement M
 convexes-in-spec =
     tie.close
@@ -32,6 +29,6 @@ convexes-in-spec =
     (λ c. omega (arith, c .pre .1 .most))
     (λ c. omega (arith, c .pre .1 .most))
     (λ c. omega (arith, c .pre .1 .most, rows-some (c .pre .1)))
-    (λ c. subst (λ z. T (nonNeg z) × Fits w64 (natAbs z)) (sym (own c)) (tt, record { fits = omega (arith, c .before .pre .1 .few) }))
-    (λ c. record { fits = omega (arith, ap natAbs (own c), c .before .pre .1 .few) })
+    (λ c. subst (λ z. T (nonNeg z) × Fits w64 (natAbs z)) (sym (read c _ (c .before .pre .1))) (tt, record { fits = omega (arith, c .before .pre .1 .few) }))
+    (λ c. record { fits = omega (arith, ap natAbs (read c _ (c .before .pre .1)), c .before .pre .1 .few) })
     (λ c g r. omega (arith, ap natAbs (read c g r), r .some)))
