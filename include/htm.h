@@ -51,6 +51,9 @@ extern "C" {
  * 0 for a refusal: a depth not from 1 to 12, or a pointing that breaks the rule above. No identifier is 0. */
 uint64_t lookup(int32_t x, int32_t y, int32_t z, uint32_t depth);
 
+/* The same with the refusal's number: the identifier, below 2^26, or -N for refusal N: 5, then 8. */
+int64_t htm_lookup(int32_t x, int32_t y, int32_t z, uint32_t depth);
+
 /* As above, for a mount's report, three floats in double or in single precision: each is multiplied by K and truncated toward zero,
  * so that -0.3 becomes -314572; then the lookup follows. The identifier, below 2^26.
  * -N for refusal N: 5, then 12 where a float is a NaN, an infinity or beyond 1 in size, then 8. */
@@ -83,6 +86,11 @@ int64_t htm_corners(uint64_t id, int32_t *out, size_t elements);
  * 0, or -N for refusal N: that of the file's first failed check, 1 to 9 or 14; then -10 where rows has fewer than 5 * count elements
  * (2560 are always enough) or header fewer than 3. */
 int64_t htm_read(const uint8_t *file, size_t bytes, int32_t *rows, size_t elements, uint64_t *header, size_t n);
+
+/* What a region file of so many bytes says without its rows: header[0] is the count of halfspaces, header[1] the depth and header[2]
+ * the budget as written, all three as htm_read gives them, and header[3] the count of convexes, 1 to 64.
+ * 0, or -N for refusal N: that of the file's first failed check, 1 to 9 or 14; then -10 where header has fewer than 4 elements. */
+int64_t htm_header(const uint8_t *file, size_t bytes, uint64_t *header, size_t n);
 
 /* The region file of rows as htm_read gives them, from out[0] on. elements is how many numbers there are, five a row: the first
  * row's convex is 0, each next row's is the same or one more. depth is 1 to 12, budget 0 to 2048. The file's length, 36 to 10508.

@@ -18,6 +18,7 @@
 #define CORNERS (9 + BEHIND)
 #define ROWS (2560 + BEHIND)
 #define THREE (3 + BEHIND)
+#define FOUR (4 + BEHIND)
 #define COUNTS (6 + BEHIND)
 #define FILE_BYTES (10508 + BEHIND)
 #define LISTS (8192 + BEHIND)
@@ -35,6 +36,7 @@ struct tally {
 
 static struct text line, wanted;         /* the case at hand */
 static struct tally *now;                /* its call's tally */
+static struct tally headers;             /* that of htm_header, made on each line's region file */
 static size_t line_number;
 static char printed[1 << 18];            /* the answer through C */
 static size_t printed_n;
@@ -257,6 +259,35 @@ static int64_t try_read(const uint8_t *file, size_t bytes, int32_t rows[ROWS], u
     return answer;
 }
 
+/* htm_header on a region file that a line has, beside the reader: the reader's three numbers, and one more than the last row's. */
+static void try_header(const uint8_t *file, size_t bytes)
+{
+    static int32_t rows[ROWS];
+    uint64_t header[THREE], four[FOUR], again[FOUR];
+    const size_t all = sizeof four, number = sizeof four[0];
+    struct tally *call = now;
+    now = &headers;
+    long differ = now->differ;
+    paint(four, all);
+    paint(again, all);
+    int64_t accepted = htm_read(file, bytes, rows, ROWS, header, THREE);
+    int64_t answer = htm_header(file, bytes, four, FOUR);
+    must_fit(answer == accepted, "reader and header answer alike");
+    if (answer < 0) {
+        now->refused++;
+        must_refuse(answer, htm_header(file, bytes, again, 0), stays(four, 0, all) && stays(again, 0, all));
+    } else {
+        must_fit(header[0] >= 1 && header[0] <= 512, "a file has 1 to 512 rows");
+        must(memcmp(four, header, 3 * number) == 0, "count, depth and budget are the reader's");
+        must(four[3] == (uint64_t)rows[5 * (header[0] - 1)] + 1, "there is one convex more than the last row's number");
+        must(stays(four, 4 * number, all), "what is behind the four numbers stays");
+        must_be_short(htm_header(file, bytes, again, 3), stays(again, 0, all));
+        must_be_exact(htm_header(file, bytes, again, 4) == 0 && memcmp(again, four, all) == 0);
+    }
+    now->equal += now->differ == differ;
+    now = call;
+}
+
 /* What a region file is made of: rows with depth and budget, or another file. */
 struct source {
     uint32_t depth, budget;
@@ -364,26 +395,22 @@ static void print_name(uint64_t id)
         print("%.*s", (int)n, (const char *)name);
 }
 
-/* lookup X Y Z DEPTH. The call gives 0 for a refusal, whose number is left out of the comparison. */
-static void answer_lookup(struct text rest)
-{
-    int32_t x = take_whole(&rest), y = take_whole(&rest), z = take_whole(&rest);
-    uint64_t id = lookup(x, y, z, (uint32_t)take_natural(&rest));
-    if (id == 0) {
-        print("refused");
-        now->refused++;
-        return;
-    }
-    print("%" PRIu64 " ", id);
-    print_name(id);
-}
-
 static void print_found(int64_t answer)
 {
     if (print_refusal(answer))
         return;
     print("%" PRId64 " ", answer);
     print_name((uint64_t)answer);
+}
+
+/* lookup X Y Z DEPTH, by both calls: one gives 0 for a refusal, the other its number. */
+static void answer_lookup(struct text rest)
+{
+    int32_t x = take_whole(&rest), y = take_whole(&rest), z = take_whole(&rest);
+    uint32_t depth = (uint32_t)take_natural(&rest);
+    int64_t answer = htm_lookup(x, y, z, depth);
+    must(lookup(x, y, z, depth) == (answer < 0 ? 0 : (uint64_t)answer), "lookup gives the same, and 0 for a refusal");
+    print_found(answer);
 }
 
 /* double X Y Z DEPTH */
@@ -443,6 +470,7 @@ static void answer_rows(struct text rest)
     static int32_t rows[ROWS];
     uint64_t header[THREE];
     size_t bytes = take_file(&rest, file);
+    try_header(file, bytes);
     if (print_refusal(try_read(file, bytes, rows, header)))
         return;
     print("%" PRIu64 " %" PRIu64 " %" PRIu64, header[1], header[2], header[0]);
@@ -490,6 +518,7 @@ static void print_converted(making *make, struct text rest)
     struct source from = {0};
     from.file = file;
     from.n = take_file(&rest, file);
+    try_header(file, from.n);
     print_file(make, &from);
 }
 
@@ -511,6 +540,7 @@ static void answer_holds(struct text rest)
     static uint8_t file[MOST_BYTES];
     size_t bytes = take_file(&rest, file);
     int32_t x = take_whole(&rest), y = take_whole(&rest), z = take_whole(&rest);
+    try_header(file, bytes);
     int64_t held = htm_holds(file, bytes, x, y, z);
     must(held <= 1, "the point test answers 1 or 0");
     if (!print_refusal(held))
@@ -537,6 +567,7 @@ static void answer_cover(struct text rest)
     size_t bytes = take_file(&rest, file);
     int64_t accepted = htm_read(file, bytes, rows, ROWS, header, THREE);
     size_t budget = header[2] ? (size_t)header[2] : HTM_DEFAULT_BUDGET;
+    try_header(file, bytes);
     int64_t answer = try_cover(file, bytes, budget, lists, counts);
     must(answer == accepted, "reader and cover refuse alike");
     if (print_refusal(answer) || accepted < 0)
@@ -554,7 +585,7 @@ static struct command {
     void (*answer)(struct text rest);
     struct tally tally;
 } commands[] = {
-    {"lookup", "lookup", answer_lookup, {0}},         {"double", "htm_lookup_f64", answer_double, {0}},
+    {"lookup", "htm_lookup", answer_lookup, {0}},     {"double", "htm_lookup_f64", answer_double, {0}},
     {"single", "htm_lookup_f32", answer_single, {0}}, {"line", "htm_lookup_line", answer_line, {0}},
     {"name", "htm_name", answer_name, {0}},           {"id", "htm_identifier", answer_id, {0}},
     {"corners", "htm_corners", answer_corners, {0}},  {"rows", "htm_read", answer_rows, {0}},
@@ -569,20 +600,12 @@ static bool is(struct text t, const char *word)
     return t.n == strlen(word) && memcmp(t.at, word, t.n) == 0;
 }
 
-/* Equal, or `refused` alone from the lookup where query has the number too. */
-static bool as_wanted(void)
-{
-    if (printed_n == 7 && memcmp(printed, "refused", 7) == 0)
-        return wanted.n > 8 && memcmp(wanted.at, "refused ", 8) == 0;
-    return printed_n == wanted.n && memcmp(printed, wanted.at, wanted.n) == 0;
-}
-
 static void compare(struct command *c, struct text rest)
 {
     now = &c->tally;
     printed_n = 0;
     c->answer(rest);
-    if (as_wanted()) {
+    if (printed_n == wanted.n && memcmp(printed, wanted.at, wanted.n) == 0) {
         now->equal++;
         return;
     }
@@ -620,20 +643,22 @@ static struct text read_all(const char *path)
     return (struct text){bytes, n};
 }
 
-/* The tallies, a line each. The result is how many differences there are. */
+/* The tally of a call, in a line. The result is how many differences there are; no case is one. */
+static long report_call(const char *call, const struct tally *t)
+{
+    printf("%-17s %4ld cases equal, %3ld refusals; lent lists: %3ld short by one, %3ld exact; %ld differences\n", call, t->equal, t->refused,
+           t->shorter, t->exact, t->differ);
+    if (t->equal == 0)
+        printf("%s: no case\n", call);
+    return t->differ + (t->equal == 0);
+}
+
 static long report(long skipped)
 {
     long differ = 0;
-    for (size_t i = 0; i < COMMANDS; i++) {
-        const struct tally *t = &commands[i].tally;
-        printf("%-17s %4ld cases equal, %3ld refusals; lent lists: %3ld short by one, %3ld exact; %ld differences\n", commands[i].call,
-               t->equal, t->refused, t->shorter, t->exact, t->differ);
-        differ += t->differ;
-        if (t->equal == 0) {
-            printf("%s: no case\n", commands[i].call);
-            differ++;
-        }
-    }
+    for (size_t i = 0; i < COMMANDS; i++)
+        differ += report_call(commands[i].call, &commands[i].tally);
+    differ += report_call("htm_header", &headers);
     printf("%ld lines of another shape skipped, since query answers them with usage\n", skipped);
     return differ;
 }

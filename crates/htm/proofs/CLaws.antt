@@ -2,13 +2,14 @@
 use Prim.Native.Nat.{ℕ, _-_, _≤_, _<_}
 use native.Mathlib.Omega.{arith}
 use mathlib.Core.Path.{_≡_, sym, ap, subst, _∙_}
-use mathlib.Core.List.{List}
+use mathlib.Core.List.{List, [], _∷_, _++_}
 use lib.Dec.{leb}
 use lib.ListN.{length}
 use lib.IntN.{ℤ, pos}
+use borrow.Author.Tests.{le-leb, lt-leb}
 use Rattle.answer.specs.Answer.{Answer, refused, gives, check, then, with-value, Space, Name}
 use Rattle.answer.specs.Lent.{put, stored, room}
-use Rattle.answer.proofs.AnswerLaws.{check-gives, same-value, value-gives}
+use Rattle.answer.proofs.AnswerLaws.{check-gives, same-value, value-gives, value-refused}
 use Rattle.answer.proofs.LentLaws.{room-gives}
 use Rattle.mesh.specs.declared.Corners.{Corners}
 use Rattle.mesh.specs.Identifiers.{depthOf, isIdentifier, trixel, cornersOf, corners}
@@ -26,6 +27,8 @@ use Rattle.region.specs.Answers.{readInto, readAnswer, readAfter, fileAnswer}
 use Rattle.region.proofs.ReaderLaws.{accepted-short}
 use Rattle.region.proofs.WriteBack.{write-back}
 use Rattle.region.proofs.ConvertLaws.{converted}
+use Rattle.region_reader.specs.Reading.{FilledRows}
+use Rattle.covering_calls.specs.Decoded.{Decoded}
 use Rattle.covering.specs.declared.Counts.{Counts}
 use Rattle.covering.specs.Cover.{coverCounts, countsList}
 use Rattle.htm.specs.Answers.{coverInto, coverAnswer, coverAfter}
@@ -34,7 +37,7 @@ use Rattle.index.specs.Entries.{Width, numbers, Placed}
 use Rattle.index.specs.Answers.{entryAnswer}
 use Rattle.htm_abi.specs.ShortLists.{refusalOf}
 use Rattle.htm_abi.specs.Values.{foundForC, statusOf, cornersList, headerList}
-use Rattle.htm.specs.CalledFromC.{entryForC, entryAfterC, cornersForC, cornersAfterC, readForC, rowsAfterC, headerAfterC, coverForC, coverAfterC, countsAfterC}
+use Rattle.htm.specs.CalledFromC.{entryForC, entryAfterC, cornersForC, cornersAfterC, readForC, rowsAfterC, headerAfterC, coverForC, coverAfterC, countsAfterC, inBoth, contentsList, contentsForC, contentsAfterC}
 use Rattle.htm.proofs.RoomLaws.{room-short, room-enough, refused-by, in-any-case}
 
 -- ---- lengths are small: 32 bytes a name, 10508 a file
@@ -148,6 +151,43 @@ module _ (f : List ℕ) (rs : List ℤ) (header : List ℕ) where
   pub reads : 3 ≤ length header → (a : Answer Header) (xs : List ℤ) → a ≡ readAnswer f rs → xs ≡ readAfter f rs → Reads (statusOf a) xs (stored (λ v l. put 0 (headerList v) l) a header)
   unfolding readForC rowsAfterC headerAfterC readAnswer readAfter
   reads h a xs e g = let enough = room-enough 3 header h (readInto f rs) in (cc, (cc, cc))
+
+-- ---- a file without its rows
+
+module _ (f header : List ℕ) where
+  abbrev Says : ℤ → List ℕ → Type 0
+  Says status ns = (status ≡ statusOf (contentsForC f header)) × (ns ≡ contentsAfterC f header)
+
+  says : (a : Answer File) → contentsForC f header ≡ a → Says (statusOf a) (stored (λ x before. put 0 (contentsList x) before) a header)
+  unfolding contentsAfterC
+  says a e = (ap statusOf (sym e), ap (λ b. stored (λ x before. put 0 (contentsList x) before) b header) (sym e))
+
+  contents-into : (a : Answer File) → read f ≡ a → contentsForC f header ≡ inBoth 4 a header
+  unfolding contentsForC
+  contents-into a e = ap (λ b. inBoth 4 b header) e
+
+  pub no-contents : (n : ℕ) → refused n ≡ with-value headerOf (read f) → Says (statusOf {A = File} (refused n)) header
+  no-contents n e = says (refused n) (contents-into (refused n) (value-refused headerOf (read f) n (sym e)))
+
+  module _ (x : File) (e : read f ≡ gives x) where
+    pub no-contents-room : length header < 4 → Says (statusOf {A = File} (refused Space)) header
+    no-contents-room h = says (refused Space) (contents-into (gives x) e ∙ ap (λ t. check Space t (gives x)) (lt-leb 4 (length header) h))
+
+    pub contents-put : 4 ≤ length header → Says (pos 0) (put 0 (contentsList x) header)
+    contents-put h = says (gives x) (contents-into (gives x) e ∙ ap (λ t. check Space t (gives x)) (le-leb 4 (length header) h))
+
+-- the file was decoded: its header is h, and its rows stand at the beginning of the array rs
+module _ {f : List ℕ} {h : Header} {rs : List ℤ} (k : Decoded f h rs) where
+  pub filled-rows : FilledRows (k .file .region) (h .count) rs
+  filled-rows =
+      let r = k .rows in
+      record { count = r .count; most = r .most; some = r .some; few = r .few; filled = r .filled; more = r .more; list = r .list }
+
+  pub contents-left : (header : List ℕ) {after : List ℕ} {n : ℕ} → n ≡ length (k .file .region) → after ≡ put 0 (headerList h ++ n ∷ []) header
+      → after ≡ put 0 (contentsList (k .file)) header
+  contents-left header e q = q ∙ (λ i. put 0 (headerList (sym (k .header) i) ++ e i ∷ []) header)
+
+-- ---- the cover, with two lent lists
 
 module _ (f out counts : List ℕ) where
   -- what the call answers, and both lists afterwards

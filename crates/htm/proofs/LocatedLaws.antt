@@ -17,6 +17,11 @@ use Rattle.mesh.specs.Lookup.{lookup}
 use Rattle.mesh.proofs.LookupLaws.{lookup-is, identifier-small}
 use Rattle.htm.specs.Answers.{located, lookupReport, locateLine}
 
+-- ---- what the lookup gives is small
+
+pub lookup-small : (v : Vec3) (d i : ℕ) → lookup v d ≡ gives i → i < 2 ^ 26
+lookup-small v d i e = let h = lookup-is v d i e in omega (arith, identifier-small v d (h .1), h .2)
+
 -- ---- the checks in their order
 
 -- i is what the lookup gives at the pointing that p gives, a vector
@@ -44,10 +49,7 @@ module _ (p : Answer Vec3) (d : ℕ) where
       (t .0, t .1, lookup-is (t .0) d i (t .2) .0, t .2)
 
   pub located-small : (i : ℕ) → located p d ≡ gives i → i < 2 ^ 26
-  located-small i e =
-      let t = located-at i e in
-      let h = lookup-is (t .0) d i (t .3) in
-      omega (arith, identifier-small (t .0) d (h .1), h .2)
+  located-small i e = let t = located-at i e in lookup-small (t .0) d i (t .3)
 
 -- ---- a mount's report, a catalogue line
 

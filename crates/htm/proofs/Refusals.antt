@@ -26,7 +26,7 @@ use Rattle.frames.specs.Walk.{deliveredBy}
 use Rattle.frames.specs.Answers.{framesInto, walkOf, framesBy, framesList, framesAnswer, rangesAfter, numbersAfter}
 use Rattle.htm.specs.Answers.{coverInto, coverAnswer, bothLists, coverAfter}
 use Rattle.htm_abi.specs.Values.{cornersList, headerList}
-use Rattle.htm.specs.CalledFromC.{entryInto, entryAfterC, cornersForC, cornersAfterC, inBoth, readForC, rowsAfterC, headerAfterC, coverForC, coverAfterC, countsAfterC, framesIntoC, framesForC, rangesAfterC, numbersAfterC, framesAfterC}
+use Rattle.htm.specs.CalledFromC.{entryInto, entryAfterC, cornersForC, cornersAfterC, inBoth, readForC, rowsAfterC, headerAfterC, contentsList, contentsForC, contentsAfterC, coverForC, coverAfterC, countsAfterC, framesIntoC, framesForC, rangesAfterC, numbersAfterC, framesAfterC}
 use Rattle.trial.specs.declared.Setting.{Setting}
 use Rattle.trial.specs.declared.Trial.{Trial}
 use Rattle.trial.specs.Trials.{trialOf}
@@ -66,7 +66,7 @@ module _ (o : ℕ) (l : List ℤ) (f first second : List ℕ) (s t : Setting) wh
   trial-refused n e = behind (isOwner o) (read f) ∙ ap (λ a. then a rooms) e
 
 pub space-last : SpaceLast
-unfolding trialAnswer trialForC nameAnswer readAnswer fileAnswer coverAnswer cornersForC readForC coverForC framesAnswer framesForC
+unfolding trialAnswer trialForC nameAnswer readAnswer fileAnswer coverAnswer cornersForC readForC contentsForC coverForC framesAnswer framesForC
 space-last = record {
   name = λ i before n. first-refusal length _ _ n;
   reader = λ f before n. first-refusal headerOf _ _ n;
@@ -79,6 +79,7 @@ space-last = record {
   trial = λ o l f s t first second n e. ap (with-value (λ x. trialOf o l (x .region) s t)) (trial-refused o l f first second s t n e);
   corners-C = λ i out n e. rw e;
   reader-C = λ f rows header n e. rw e;
+  contents-C = λ f header n e. rw e;
   cover-C = λ f out counts n e. rw e;
   frames-C = λ o l f ranges numbers counts n e. first-refusal (λ x. framesBy (walkOf o l x)) (framesInto o l f ranges numbers) _ n (frames-refused o l f ranges numbers n e);
   trial-C = λ o l f s t first second numbers n e.
@@ -95,7 +96,7 @@ module _ (o : ℕ) (l : List ℤ) where
   deliver x before = put 0 (deliveredBy (walkOf o l x)) before
 
 pub lent-lists-stay : LentListsStay
-unfolding nameAnswer nameAfter readAnswer readAfter fileAnswer fileAfter coverAnswer coverAfter beginAnswer beginAfter addAnswer addAfter removeAnswer removeAfter framesAnswer rangesAfter numbersAfter trialAnswer firstAfter secondAfter cornersAfterC readForC rowsAfterC headerAfterC coverForC coverAfterC countsAfterC entryAfterC framesForC rangesAfterC numbersAfterC framesAfterC trialForC firstAfterC secondAfterC trialAfterC chosenAfterC
+unfolding nameAnswer nameAfter readAnswer readAfter fileAnswer fileAfter coverAnswer coverAfter beginAnswer beginAfter addAnswer addAfter removeAnswer removeAfter framesAnswer rangesAfter numbersAfter trialAnswer firstAfter secondAfter cornersAfterC readForC rowsAfterC headerAfterC contentsAfterC coverForC coverAfterC countsAfterC entryAfterC framesForC rangesAfterC numbersAfterC framesAfterC trialForC firstAfterC secondAfterC trialAfterC chosenAfterC
 lent-lists-stay = record {
   name = λ i before n. not-stored length (put 0) (nameInto i before) before n;
   reader = λ f before n. not-stored headerOf rowsInto (readInto f before) before n;
@@ -114,6 +115,7 @@ lent-lists-stay = record {
   corners-C = λ i out n. ap (λ a. stored (λ c before. put 0 (cornersList c) before) a out);
   reader-C = λ f rows header.
       (λ n. not-stored headerOf rowsInto (inBoth 3 (readInto f rows) header) rows n, λ n. ap (λ a. stored (λ h before. put 0 (headerList h) before) a header));
+  contents-C = λ f header n. ap (λ a. stored (λ x before. put 0 (contentsList x) before) a header);
   cover-C = λ f out counts. (
     λ n. not-stored (λ x. countsOf (cover x)) bothLists (inBoth coverCounts (coverInto f out) counts) out n,
     λ n. ap (λ a. stored (λ c before. put 0 (countsList c) before) a counts),

@@ -1,10 +1,11 @@
 -- The calls for a host in C: a number instead of an answer. Document 01, 'What is sent back', 'Regions', 'The two lists'; document 02, F-10 to F-12.
--- A refusal is minus its number, and comes before any list is written. The lookup and the identifier of a name give 0 instead: `lookupForC`
+-- A refusal is minus its number, and comes before any list is written. The call `lookup` and the identifier of a name give 0 instead: `lookupForC`
 -- (Answers), `orZero`. How an answer becomes a number, and a value the numbers of a list: htm_abi/specs/Values. The lengths of `nameAnswer` (mesh)
--- and `writeAnswer` (region) and the identifiers of `lookupReport` and `locateLine` (Answers) go by `numberForC`, the point test by `heldForC`.
+-- and `writeAnswer` (region) and the identifiers of `lookup` (mesh), `lookupReport` and `locateLine` (Answers) go by `numberForC`, the point test by `heldForC`.
 --   cornersForC i out, cornersAfterC   the corners or the refusal, 11, then 10; the lent list afterwards (`cornersList`)
---   inBoth n a list      what a call has to write, or its refusal; then 10 where the second lent list has fewer than n elements
+--   inBoth n a list      what a call has to write, or its refusal; then 10 where the list lent for its numbers has fewer than n elements
 --   readForC, rowsAfterC, headerAfterC     the reader's header; the lent list and the header's afterwards (`headerList`)
+--   contentsForC f header, contentsAfterC  the file or its refusal, then 10; the lent list afterwards: what the file says without its rows (`contentsList`)
 --   coverForC, coverAfterC, countsAfterC   the cover's counts; the lent list and the list of counts afterwards (`countsList`)
 --   entryForC i l out, entryAfterC         the entry at place i of the index l, that there is none, or the refusal; 10 where an entry needs more room (`entryRoom`);
 --                        the lent list afterwards (`entryInto`)
@@ -12,14 +13,16 @@
 -- The entry goes by `foundForC`. The other calls on an index answer `statusOf` and `numberForC` of what its calls answer (index/specs/Answers).
 use Prim.Native.Nat.{ℕ}
 use mathlib.Core.Path.{_≡_}
-use mathlib.Core.List.{List}
+use mathlib.Core.List.{List, [], _∷_}
+use lib.ListN.{length}
 use lib.IntN.{ℤ}
 use Rattle.answer.specs.Answer.{Answer, gives, then, with-value}
 use Rattle.answer.specs.Lent.{put, stored, room}
 use Rattle.mesh.specs.declared.Corners.{Corners}
 use Rattle.mesh.specs.Identifiers.{corners}
 use Rattle.region.specs.declared.Header.{Header}
-use Rattle.region.specs.Reader.{File}
+use Rattle.region.specs.Building.{total}
+use Rattle.region.specs.Reader.{File, read}
 use Rattle.region.specs.Answers.{headerOf, readInto, rowsInto}
 use Rattle.covering.specs.declared.Counts.{Counts}
 use Rattle.covering.specs.Cover.{cover, countsOf, coverCounts, countsList}
@@ -56,7 +59,7 @@ entryForC i l out = then (entryAnswer i l) (entryRoom out)
 unfoldable pub entryAfterC : ℕ → List ℤ → List ℤ → List ℤ
 entryAfterC i l out = stored entryInto (entryForC i l out) out
 
--- ---- a file, with two lent lists
+-- ---- a file, with one lent list or two
 
 abbrev pub inBoth : ℕ → Answer File → List ℕ → Answer File
 inBoth n a list = then a (λ x. room n list x)
@@ -69,6 +72,16 @@ rowsAfterC f rows header = stored rowsInto (inBoth 3 (readInto f rows) header) r
 
 unfoldable pub headerAfterC : List ℕ → List ℤ → List ℕ → List ℕ
 headerAfterC f rows header = stored (λ h before. put 0 (headerList h) before) (readForC f rows header) header
+
+-- the counts of halfspaces and of convexes, with depth and budget as written between them
+abbrev pub contentsList : File → List ℕ
+contentsList x = total (x .region) ∷ x .depth ∷ x .budget ∷ length (x .region) ∷ []
+
+unfoldable pub contentsForC : List ℕ → List ℕ → Answer File
+contentsForC f header = inBoth 4 (read f) header
+
+unfoldable pub contentsAfterC : List ℕ → List ℕ → List ℕ
+contentsAfterC f header = stored (λ x before. put 0 (contentsList x) before) (contentsForC f header) header
 
 unfoldable pub coverForC : List ℕ → List ℕ → List ℕ → Answer Counts
 coverForC f out counts = with-value (λ x. countsOf (cover x)) (inBoth coverCounts (coverInto f out) counts)

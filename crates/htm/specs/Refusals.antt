@@ -25,7 +25,7 @@ use Rattle.frames.specs.Answers.{framesAnswer, rangesAfter, numbersAfter}
 use Rattle.trial.specs.declared.Setting.{Setting}
 use Rattle.trial.specs.Answers.{checkSetting, trialAnswer, firstAfter, secondAfter}
 use Rattle.htm.specs.Answers.{coverAnswer, coverAfter}
-use Rattle.htm.specs.CalledFromC.{entryForC, entryAfterC, cornersForC, cornersAfterC, readForC, rowsAfterC, headerAfterC}
+use Rattle.htm.specs.CalledFromC.{entryForC, entryAfterC, cornersForC, cornersAfterC, readForC, rowsAfterC, headerAfterC, contentsForC, contentsAfterC}
 use Rattle.htm.specs.CalledFromC.{coverForC, coverAfterC, countsAfterC, framesForC, rangesAfterC, numbersAfterC, framesAfterC}
 use Rattle.htm.specs.TrialFromC.{trialForC, firstAfterC, secondAfterC, trialAfterC, chosenForC, chosenAfterC}
 
@@ -56,6 +56,7 @@ pub record SpaceLast : Type 0 where
   pub trial : (o : ℕ) (l : List ℤ) (f : List ℕ) (s t : Setting) (first second : List ℕ) → Keeps (triedFile o f s t) (trialAnswer o l f s t first second)
   pub corners-C : (i : ℕ) (out : List ℤ) → Keeps (corners i) (cornersForC i out)
   pub reader-C : (f : List ℕ) (rows : List ℤ) (header : List ℕ) → Keeps (read f) (readForC f rows header)
+  pub contents-C : (f header : List ℕ) → Keeps (read f) (contentsForC f header)
   pub cover-C : (f out counts : List ℕ) → Keeps (read f) (coverForC f out counts)
   pub frames-C : (o : ℕ) (l : List ℤ) (f ranges numbers counts : List ℕ) → Keeps (ownFile o f) (framesForC o l f ranges numbers counts)
   pub trial-C : (o : ℕ) (l : List ℤ) (f : List ℕ) (s t : Setting) (first second numbers : List ℕ)
@@ -80,6 +81,7 @@ pub record LentListsStay : Type 0 where
   pub corners-C : (i : ℕ) (out : List ℤ) → Stays (cornersForC i out) (cornersAfterC i out) out
   pub reader-C : (f : List ℕ) (rows : List ℤ) (header : List ℕ)
       → Stays (readForC f rows header) (rowsAfterC f rows header) rows × Stays (readForC f rows header) (headerAfterC f rows header) header
+  pub contents-C : (f header : List ℕ) → Stays (contentsForC f header) (contentsAfterC f header) header
   pub cover-C : (f out counts : List ℕ)
       → Stays (coverForC f out counts) (coverAfterC f out counts) out × Stays (coverForC f out counts) (countsAfterC f out counts) counts
   pub entry-C : (i : ℕ) (l out : List ℤ) → Stays (entryForC i l out) (entryAfterC i l out) out

@@ -3,6 +3,7 @@
 use crate::CoverOf;
 use answer::SPACE;
 use covering::COVER_COUNTS;
+use limits::HALFSPACES;
 use mesh::CornersOf;
 use mount::Double;
 use mount::Report;
@@ -13,6 +14,7 @@ ghost use mathlib.Core.Path.{_≡_};
 ghost use lib.ListN.{length};
 ghost use Rattle.vector.specs.Vectors.{vec};
 ghost use Rattle.mount.specs.Reports.{singleReport, doubleReport};
+ghost use Rattle.mesh.specs.Lookup as mesh_lookup;
 ghost use Rattle.mesh.specs.Names.{identifierOf};
 ghost use Rattle.mesh.specs.Answers.{nameAnswer, nameAfter};
 ghost use Rattle.region.specs.Writer.{writeGrouped};
@@ -20,7 +22,7 @@ ghost use Rattle.region.specs.Converting.{toGrouped, toPlain};
 ghost use Rattle.region.specs.Answers.{pointTest, fileAnswer, fileAfter, writeAnswer, writeAfter};
 ghost use Rattle.htm_abi.specs.Values.{orZero, numberForC, heldForC, statusOf};
 ghost use Rattle.htm.specs.Answers.{lookupReport, locateLine, lookupForC};
-ghost use Rattle.htm.specs.CalledFromC.{cornersForC, cornersAfterC, readForC, rowsAfterC, headerAfterC, coverForC, coverAfterC, countsAfterC};
+ghost use Rattle.htm.specs.CalledFromC.{cornersForC, cornersAfterC, readForC, rowsAfterC, headerAfterC, contentsForC, contentsAfterC, coverForC, coverAfterC, countsAfterC};
 
 // The lookup: the identifier, or 0 for a refusal.
 #[no_mangle]
@@ -28,6 +30,14 @@ pub extern "C" fn lookup(x: i32, y: i32, z: i32, depth: u32) -> u64
     ensures { λ r. ⌜ r ≡ lookupForC x y z depth ⌝ }
 {
     htm_abi::or_zero(crate::locate(x, y, z, depth))
+}
+
+// The same lookup: the identifier, or minus the number of the refusal.
+#[no_mangle]
+pub extern "C" fn htm_lookup(x: i32, y: i32, z: i32, depth: u32) -> i64
+    ensures { λ r. ⌜ r ≡ numberForC (mesh_lookup.lookup (vec x y z) depth) ⌝ }
+{
+    htm_abi::number_or_minus(crate::locate(x, y, z, depth))
 }
 
 // The lookup of a mount's report in single precision: the identifier, or minus the number of the refusal.
@@ -160,6 +170,28 @@ pub extern "C" fn htm_read(file: &[u8], rows: &mut [i32], header: &mut [u64]) ->
     match answer {
         HeaderOf::Gives(h) => {
             htm_abi::put_header(header, h);
+            0
+        }
+        HeaderOf::Refused(n) => htm_abi::minus(n),
+    }
+}
+
+// What a region file says without its rows: 0, with the count of halfspaces, depth, budget and the count of convexes at the beginning of `header`, or
+// minus the number of the refusal, 10 where `header` has fewer than four elements.
+#[no_mangle]
+pub extern "C" fn htm_header(file: &[u8], header: &mut [u64]) -> i64
+    ensures { λ r. ⌜ r ≡ statusOf (contentsForC (now (file .entry)) (now (header .entry))) ⌝ }
+    ensures { λ r. ⌜ now (header .exit) ≡ contentsAfterC (now (file .entry)) (now (header .entry)) ⌝ }
+{
+    let mut rows = [0i32; 5 * HALFSPACES];
+    let said = region_reader::decode(file, &mut rows);
+    match said {
+        HeaderOf::Gives(h) => {
+            if header.len() < 4 {
+                return htm_abi::minus(SPACE);
+            }
+            let convexes = region_reader::convexes_in(&rows, h.count as usize);
+            htm_abi::put_contents(header, h, convexes);
             0
         }
         HeaderOf::Refused(n) => htm_abi::minus(n),

@@ -1,5 +1,5 @@
 -- What a host in C gets: a number instead of an answer, and the numbers of a value in a lent list. Document 01, 'What is sent back' and 'Regions'.
--- A refusal is minus its number; the lookup and the identifier of a name give 0 instead. The calls that answer so: htm/specs/CalledFromC.
+-- A refusal is minus its number; the call `lookup` and the identifier of a name give 0 instead. The calls that answer so: htm/specs/CalledFromC.
 --   orZero a        the identifier, or 0 for a refusal
 --   numberForC a    the number that is asked for, or minus the number of the refusal
 --   heldForC a      1 held, 0 not, or minus the number of the refusal

@@ -13,6 +13,7 @@ use region::Header;
 use region::HeaderOf;
 use vector::Vec3;
 ghost use mathlib.Core.Path.{_≡_};
+ghost use mathlib.Core.List.{[], _∷_, _++_};
 ghost use Prim.Native.Nat.{ℕ, _+_, _^_, _≤_};
 ghost use lib.ListN.{length};
 ghost use lib.IntN.{pos, negℤ};
@@ -123,6 +124,15 @@ pub fn put_header(header: &mut [u64], h: Header)
     header[0] = h.count as u64;
     header[1] = h.depth as u64;
     header[2] = h.budget as u64;
+}
+
+// The same, and then the count of convexes.
+pub fn put_contents(header: &mut [u64], h: Header, convexes: u64)
+    requires { ⌜ 4 ≤ length (now header) ⌝ }
+    ensures { λ _. ⌜ now (header .exit) ≡ put 0 (headerList h ++ convexes ∷ []) (now (header .entry)) ⌝ }
+{
+    put_header(header, h);
+    header[3] = convexes;
 }
 
 // The refusal of an owner and a file for which a lent list is too short: 18, the file's own, or 10.

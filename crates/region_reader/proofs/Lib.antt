@@ -1,3 +1,4 @@
+pub mod LastRow
 pub mod ReadAnswers
 pub mod ReadingLaws
 pub mod RecordLaws

@@ -2,9 +2,10 @@
 --   Recorded ..            a record of a file of the style t is taken, whatever region state and array stand for
 --   recordsAfter t h f     the records of the file f, of the style t, after its header h
 --   RowsGiven a before rs  the array after a pass with the answer a: the rows of the file that a gives, at the beginning of what the array was before
-use Prim.Native.Nat.{ℕ, _+_}
+--   FilledRows g n rs      the array begins with the n rows of the region g, of 1 to 64 convexes, each with a halfspace
+use Prim.Native.Nat.{ℕ, _+_, _≤_, _<_}
 use mathlib.Core.Path.{_≡_}
-use mathlib.Core.List.{List, []}
+use mathlib.Core.List.{List, [], _++_}
 use lib.Dec.{eqb}
 use lib.ListN.{length, drop}
 use lib.IntN.{ℤ}
@@ -12,9 +13,12 @@ use Rattle.answer.specs.Answer.{Answer, gives}
 use Rattle.answer.specs.Lent.{put}
 use Rattle.region.specs.declared.Header.{Header}
 use Rattle.region.specs.declared.Style.{Style}
+use Rattle.region.specs.Regions.{Region}
+use Rattle.region.specs.Building.{total}
 use Rattle.region.specs.Rows.{rows}
 use Rattle.region.specs.Records.{Styles}
 use Rattle.region.specs.Reader.{File, lengthOf, kindOf, recordIn, recordsIn}
+use Rattle.region.proofs.FilledLaws.{Filled}
 use Rattle.region_payloads.specs.declared.State.{State}
 use Rattle.region_payloads.specs.declared.Outcome.{Outcome}
 use Rattle.region_payloads.specs.Payloads.{Stands, RecordAfter}
@@ -32,3 +36,12 @@ recordsAfter t h f = recordsIn (Styles.only t) (length f) (headedFile h) (drop 8
 
 abbrev pub RowsGiven : Answer File → List ℤ → List ℤ → Type 0
 RowsGiven a before rs = (x : File) → a ≡ gives x → rs ≡ put 0 (rows (x .region)) before
+
+pub record FilledRows (g : Region) (n : ℕ) (rs : List ℤ) : Type 0 where
+  pub count : n ≡ total g
+  pub most : n ≤ 512
+  pub some : 0 < length g
+  pub few : length g ≤ 64
+  pub filled : Filled g
+  pub more : List ℤ
+  pub list : rs ≡ rows g ++ more

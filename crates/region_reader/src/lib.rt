@@ -18,6 +18,7 @@ ghost use lib.ListN.{length, take};
 ghost use Rattle.answer.specs.Answer.{gives, with-value};
 ghost use Rattle.answer.specs.Lent.{put};
 ghost use Rattle.region.specs.declared.Record.{Record};
+ghost use Rattle.region.specs.Regions.{Region};
 ghost use Rattle.region.specs.Rows as region;
 ghost use Rattle.region.specs.Records.{sameStyle, Styles};
 ghost use Rattle.region.specs.Records as records;
@@ -25,7 +26,7 @@ ghost use Rattle.region.specs.Reader.{File, styleOf};
 ghost use Rattle.region.specs.Reader as rule;
 ghost use Rattle.region.specs.Answers.{headerOf, headerGiven, readAnswer, readAfter};
 ghost use Rattle.region.proofs.ReaderLaws.{Begins};
-ghost use Rattle.region_reader.specs.Reading.{Recorded, recordsAfter, RowsGiven};
+ghost use Rattle.region_reader.specs.Reading.{Recorded, recordsAfter, RowsGiven, FilledRows};
 
 // Whether two styles are the same.
 pub fn same_style(s: Style, t: Style) -> bool
@@ -150,6 +151,14 @@ pub fn decode(file: &[u8], rows: &mut [i32; 5 * HALFSPACES]) -> HeaderOf
         }
         HeaderOf::Refused(n) => HeaderOf::Refused(n),
     }
+}
+
+// How many convexes the region of n decoded rows has: one more than the number of its last row.
+pub fn convexes_in(rows: &[i32; 5 * HALFSPACES], n: usize) -> u64
+    requires { ⌜ ((g : Region) × FilledRows g n (now rows)) ⌝ }
+    ensures { λ r. ⌜ ((g : Region) → FilledRows g n (now (rows .entry)) → r ≡ length g) ⌝ }
+{
+    rows[5 * (n - 1)] as u64 + 1
 }
 
 // Copies the first n elements of `from` to the beginning of `to`.
