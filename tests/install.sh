@@ -15,9 +15,10 @@ wrong() { echo "wrong: $*"; failed=$((failed + 1)); }
 good() { [ $failed -ne $parts ] || echo "install: $*"; parts=$failed; }
 same() { diff "$1" "$2" > "$work/diff" || { wrong "$3:"; cat "$work/diff"; }; }
 skipped() { echo "skipped: $*"; }
-major=$(sed -n 's/^VERSION = \([0-9]*\)\..*/\1/p' Makefile)
-minor=$(sed -n 's/^VERSION = \([0-9]*\.[0-9]*\)\..*/\1/p' Makefile)
-version=$(sed -n 's/^VERSION = //p' Makefile)
+number() { sed -n "s/^#define HTM_VERSION_$1 //p" include/htm.h; }
+major=$(number MAJOR)
+minor=$major.$(number MINOR)
+version=$minor.$(number PATCH)
 
 # ---- files
 make -s install "${given[@]}" DESTDIR="$work/dest" PREFIX=/opt/htm > "$work/out" 2>&1 || { cat "$work/out"; exit 1; }
