@@ -121,7 +121,8 @@ int64_t htm_lookup_f32(float x, float y, float z, uint32_t depth);
  * feed, with nothing after it, in ASCII. A decimal is an optional minus, a 0 or 1, a point and one
  * to seven digits. Its value times HTM_K is truncated toward zero, and the sign belongs to the
  * whole number: -0.5 is -524288, -0.0 is 0. Then the lookup follows.
- * Arguments: the line, its line feed included, at most 33 bytes; the depth, 1 to HTM_MAX_DEPTH.
+ * Arguments: the line, its line feed included, of which the longest has 33 bytes; the depth, 1 to
+ * HTM_MAX_DEPTH.
  * Returns: the identifier of the trixel, below 2^26; or minus the first of: HTM_DEPTH; HTM_LINE;
  * HTM_VECTOR. */
 int64_t htm_lookup_line(const uint8_t *line, size_t line_bytes, uint32_t depth);
@@ -149,7 +150,7 @@ uint64_t htm_identifier(const uint8_t *name, size_t name_bytes);
 int64_t htm_corners(uint64_t id, int32_t *corners, size_t corners_length);
 
 /* Reads a region file.
- * Arguments: the file, of any bytes.
+ * Arguments: the file, in either style.
  * Writes: rows, from rows[0] on, five numbers for each halfspace: the number of its convex, from 0
  * on, its direction x, y, z and its offset d. header[0] is the count of the rows, header[1] the
  * depth and header[2] the budget, as written: a budget of 0, which counts as HTM_DEFAULT_BUDGET in
@@ -250,7 +251,7 @@ int64_t htm_index_count(const int64_t *index, size_t index_length);
 
 /* Gives one entry of an index.
  * Arguments: the index; the place of the entry, from 0 on.
- * Writes: entry[0] to entry[5]: identifier, number, owner, x, y, z.
+ * Writes: entry[0] to entry[5], where there is an entry: identifier, number, owner, x, y, z.
  * Returns: 1; 0 where the place is not below the count, so that there is no entry, and then entry
  * may have any length; or -HTM_SPACE where index_length is under HTM_INDEX_LENGTH, or there is an
  * entry and entry_length is under HTM_ENTRY_LENGTH. */
