@@ -1,7 +1,8 @@
 # The hosts in C and their tests, over the archive that `rt staticlib htm` proves and writes. All output goes to target/.
 #
 #   make host        builds and runs examples/host.c
-#   make test        every C call on the stored cases of query and archive, the lookups of floats beside C's own product, what examples/host.c prints
+#   make test        every C call on the stored cases of query and archive, the lookups of floats beside C's own product, what the header says beside the
+#                    calls, the stack of each call, what examples/host.c prints
 #   make sky         the layer of degrees: random cones and polygons beside long double, and what is refused
 #   make sky-measure what other ways to write cones and polygons would cost
 #   make sqlite      the SQLite extension, target/hosts/htm_sqlite.so: every function, and searches of 300,000 frames beside a test of every frame
@@ -14,12 +15,12 @@
 # LIB=FILE takes another archive, BIN=DIR takes the programs in another directory: these are then not built.
 # PREFIX is where the files shall be used, DESTDIR a directory before it, for packages. PYTHONS names the interpreters of make python.
 
-VERSION = 1.0.0
 PREFIX = /usr/local
 DESTDIR =
 LIB = target/staticlib/libhtm.a
 BIN = target/bin
 INCLUDE = include
+VERSION := $(shell sed -n 's/^.define HTM_VERSION "\(.*\)"$$/\1/p' $(INCLUDE)/htm.h)
 CFLAGS = -std=c11 -Wall -Wextra -Werror -O2
 COMPILE = $(CC) $(CFLAGS) -I$(INCLUDE)
 
@@ -28,10 +29,12 @@ COMPILE = $(CC) $(CFLAGS) -I$(INCLUDE)
 host: target/c/host
 	target/c/host
 
-test: target/c/calls target/c/index target/c/reports target/c/host
+test: target/c/calls target/c/index target/c/reports target/c/header target/c/stack target/c/host
 	target/c/calls crates/query/stdin crates/query/stdout
 	target/c/index crates/archive/stdin crates/archive/stdout
 	target/c/reports
+	target/c/header
+	target/c/stack
 	target/c/host | diff examples/host.expected -
 	@echo "host: its output is that of examples/host.expected"
 
@@ -68,6 +71,14 @@ target/c/index: tests/c/index.c $(LIB) $(INCLUDE)/htm.h
 target/c/reports: tests/c/reports.c $(LIB) $(INCLUDE)/htm.h
 	@mkdir -p target/c
 	$(COMPILE) -o $@ tests/c/reports.c $(LIB) -lm
+
+target/c/header: tests/c/header.c $(LIB) $(INCLUDE)/htm.h
+	@mkdir -p target/c
+	$(COMPILE) -o $@ tests/c/header.c $(LIB)
+
+target/c/stack: tests/c/stack.c $(LIB) $(INCLUDE)/htm.h
+	@mkdir -p target/c
+	$(COMPILE) -o $@ tests/c/stack.c $(LIB) -lm
 
 target/c/sky: hosts/sky/test.c hosts/sky/htm_sky.c hosts/sky/htm_sky.h $(LIB) $(INCLUDE)/htm.h
 	@mkdir -p target/c

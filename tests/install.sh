@@ -15,9 +15,10 @@ wrong() { echo "wrong: $*"; failed=$((failed + 1)); }
 good() { [ $failed -ne $parts ] || echo "install: $*"; parts=$failed; }
 same() { diff "$1" "$2" > "$work/diff" || { wrong "$3:"; cat "$work/diff"; }; }
 skipped() { echo "skipped: $*"; }
-major=$(sed -n 's/^VERSION = \([0-9]*\)\..*/\1/p' Makefile)
-minor=$(sed -n 's/^VERSION = \([0-9]*\.[0-9]*\)\..*/\1/p' Makefile)
-version=$(sed -n 's/^VERSION = //p' Makefile)
+number() { sed -n "s/^#define HTM_VERSION_$1 //p" include/htm.h; }
+major=$(number MAJOR)
+minor=$major.$(number MINOR)
+version=$minor.$(number PATCH)
 
 # ---- files
 make -s install "${given[@]}" DESTDIR="$work/dest" PREFIX=/opt/htm > "$work/out" 2>&1 || { cat "$work/out"; exit 1; }
@@ -57,7 +58,7 @@ done
 good "$(wc -l < "$work/expected") files, below PREFIX and below DESTDIR"
 
 # ---- symbols
-if has nm && has readelf; then
+if has nm && has readelf && has size; then
     for name in htm htm_sky; do
         so="$prefix/lib/lib$name.so.$minor"
         nm -D --defined-only "$so" | awk '$2 != "A" { sub(/@.*/, "", $3); print $3 }' | sort > "$work/visible"
@@ -67,10 +68,11 @@ if has nm && has readelf; then
     done
     nm -D --undefined-only "$prefix/lib/libhtm.so" | awk '$1 == "U" { sub(/@.*/, "", $2); print $2 }' | sort | tr '\n' ' ' > "$work/needed"
     [ "$(cat "$work/needed")" = 'memcpy memset ' ] || wrong "libhtm.so needs $(cat "$work/needed")"
+    [ "$(size "$prefix/lib/libhtm.a" | awk 'NR > 1 { print $2 + $3 }')" = 0 ] || wrong 'libhtm.a has global state: data that is written'
     readelf -dW "$prefix/lib/libhtm_sky.so" | grep -q "NEEDED.*\[libhtm.so.$major\]" || wrong "libhtm_sky.so does not name libhtm.so.$major"
     good "visible are the $(wc -l < "$work/htm.calls") calls of htm.h and the $(wc -l < "$work/htm_sky.calls") of htm_sky.h, and nothing else"
 else
-    skipped 'visible symbols: nm or readelf is missing (Debian: apt-get install binutils)'
+    skipped 'visible symbols: nm, readelf or size is missing (Debian: apt-get install binutils)'
 fi
 
 # ---- hosts
@@ -80,7 +82,7 @@ cat > "$work/sky.c" <<'END'
 int main(void)
 {
     static struct sky_piece pieces[SKY_PIECES];
-    uint8_t file[10508];
+    uint8_t file[HTM_FILE_BYTES];
     int32_t p[3];
     double ra[] = {83.63, 90}, dec[] = {-5.01, 0};
     int64_t ids[2];
@@ -106,7 +108,7 @@ if has pkg-config; then
     # The prefix has a blank, which pkg-config escapes for a shell.
     eval "htm_flags=($(pkg-config --cflags --libs htm)) sky_flags=($(pkg-config --cflags --libs htm_sky)) cflags=($(pkg-config --cflags htm))"
 else
-    skipped 'the pkg-config files: pkg-config is missing (Debian: apt-get install -y pkg-config)'
+    skipped 'the pkg-config files: pkg-config is missing (Debian: apt-get install pkg-config)'
     cflags=(-I"$prefix/include")
     htm_flags=("${cflags[@]}" -L"$prefix/lib" -lhtm) sky_flags=("${cflags[@]}" -L"$prefix/lib" -lhtm_sky -lhtm)
 fi
@@ -127,6 +129,8 @@ lib="$prefix/lib"
 host 'C, shared' examples/host.expected cc -std=c11 "${strict[@]}" examples/host.c "${htm_flags[@]}"
 ! has readelf || readelf -dW "$work/host" | grep -q "NEEDED.*libhtm.so.$major" || wrong 'the host does not ask for libhtm.so'
 host 'C, static' examples/host.expected cc -std=c11 "${strict[@]}" "${cflags[@]}" examples/host.c "$lib/libhtm.a"
+host 'C99, shared' examples/host.expected cc -std=c99 "${strict[@]}" examples/host.c "${htm_flags[@]}"
+host 'C99, static' examples/host.expected cc -std=c99 "${strict[@]}" "${cflags[@]}" examples/host.c "$lib/libhtm.a"
 host 'C, degrees, shared' "$work/sky.expected" cc -std=c11 "${strict[@]}" "$work/sky.c" "${sky_flags[@]}"
 host 'C, degrees, static' "$work/sky.expected" cc -std=c11 "${strict[@]}" "${cflags[@]}" "$work/sky.c" "$lib/libhtm_sky.a" "$lib/libhtm.a" -lm
 host 'C, degrees, beside a lookup of its own' "$work/sky.expected" cc -std=c11 "${strict[@]}" "$work/sky.c" "$work/own.c" "${sky_flags[@]}"

@@ -23,9 +23,8 @@
 
 PG_MODULE_MAGIC;
 
-#define FILE_BYTES 10508 /* the longest region file */
-#define PARTS 16         /* ranges of a search whose region is known only when it runs */
-#define MOST_RANGES 32   /* ranges of a search whose region is known to the planner; README.md has what more of them cost */
+#define PARTS 16       /* ranges of a search whose region is known only when it runs */
+#define MOST_RANGES 32 /* ranges of a search whose region is known to the planner; README.md has what more of them cost */
 
 /* Of what an outer range holds, so much is in the region: about 0.9 at budget 64. */
 #define CHECKED_SHARE 0.9
@@ -44,11 +43,10 @@ static void refuse(const char *call, int64 code)
 PG_FUNCTION_INFO_V1(pg_htm_lookup);
 Datum pg_htm_lookup(PG_FUNCTION_ARGS)
 {
-    int32 depth = PG_GETARG_INT32(3);
-    uint64 id = lookup(PG_GETARG_INT32(0), PG_GETARG_INT32(1), PG_GETARG_INT32(2), (uint32)depth);
-    if (id == 0)
-        refuse("htm_lookup", depth < 1 || depth > SKY_FILED_DEPTH ? -5 : -8);
-    PG_RETURN_INT64((int64)id);
+    int64 id = htm_lookup(PG_GETARG_INT32(0), PG_GETARG_INT32(1), PG_GETARG_INT32(2), (uint32)PG_GETARG_INT32(3));
+    if (id < 0)
+        refuse("htm_lookup", id);
+    PG_RETURN_INT64(id);
 }
 
 PG_FUNCTION_INFO_V1(pg_htm_lookup_degrees);
@@ -79,7 +77,7 @@ Datum pg_htm_pointing(PG_FUNCTION_ARGS)
 PG_FUNCTION_INFO_V1(pg_htm_name);
 Datum pg_htm_name(PG_FUNCTION_ARGS)
 {
-    uint8 name[32];
+    uint8 name[HTM_NAME_BYTES];
     int64 length = htm_name((uint64)PG_GETARG_INT64(0), name, sizeof name);
     if (length < 0)
         refuse("htm_name", length);
@@ -92,7 +90,7 @@ Datum pg_htm_identifier(PG_FUNCTION_ARGS)
     text *name = PG_GETARG_TEXT_PP(0);
     uint64 id = htm_identifier((const uint8 *)VARDATA_ANY(name), VARSIZE_ANY_EXHDR(name));
     if (id == 0)
-        refuse("htm_identifier", -11);
+        refuse("htm_identifier", -HTM_NAME);
     PG_FREE_IF_COPY(name, 0);
     PG_RETURN_INT64((int64)id);
 }
@@ -101,7 +99,7 @@ Datum pg_htm_identifier(PG_FUNCTION_ARGS)
 
 static bytea *new_file(void)
 {
-    return palloc(VARHDRSZ + FILE_BYTES);
+    return palloc(VARHDRSZ + HTM_FILE_BYTES);
 }
 
 /* What a call wrote into a new file: its length, or why not. */
@@ -127,7 +125,7 @@ Datum pg_htm_cone(PG_FUNCTION_ARGS)
     bytea *file = new_file();
     PG_RETURN_DATUM(written("htm_cone", file,
                             sky_cone(PG_GETARG_FLOAT8(0), PG_GETARG_FLOAT8(1), PG_GETARG_FLOAT8(2), (uint32)PG_GETARG_INT32(3),
-                                     (uint32)PG_GETARG_INT32(4), (uint8 *)VARDATA(file), FILE_BYTES)));
+                                     (uint32)PG_GETARG_INT32(4), (uint8 *)VARDATA(file), HTM_FILE_BYTES)));
 }
 
 PG_FUNCTION_INFO_V1(pg_htm_polygon);
@@ -140,7 +138,7 @@ Datum pg_htm_polygon(PG_FUNCTION_ARGS)
         ereport(ERROR, (errcode(ERRCODE_INVALID_PARAMETER_VALUE), errmsg("htm_polygon: a corner is two numbers, ra and dec")));
     PG_RETURN_DATUM(written("htm_polygon", file,
                             sky_polygon((const double *)ARR_DATA_PTR(degrees), count / 2, SKY_CHOOSE_DEPTH, SKY_BUDGET,
-                                        (uint8 *)VARDATA(file), FILE_BYTES)));
+                                        (uint8 *)VARDATA(file), HTM_FILE_BYTES)));
 }
 
 PG_FUNCTION_INFO_V1(pg_htm_region);
@@ -151,7 +149,7 @@ Datum pg_htm_region(PG_FUNCTION_ARGS)
     bytea *file = new_file();
     PG_RETURN_DATUM(written("htm_region", file,
                             htm_write((uint32)PG_GETARG_INT32(0), (uint32)PG_GETARG_INT32(1), (const int32_t *)ARR_DATA_PTR(numbers), count,
-                                      (uint8 *)VARDATA(file), FILE_BYTES)));
+                                      (uint8 *)VARDATA(file), HTM_FILE_BYTES)));
 }
 
 /* ---- the point test */
@@ -364,7 +362,7 @@ static struct parts find_parts(bytea *region)
 /* A search asks for all parts one after the other, so that those of the last region are kept. */
 static struct range part_of(FunctionCallInfo fcinfo)
 {
-    static uint8 file[FILE_BYTES];
+    static uint8 file[HTM_FILE_BYTES];
     static size_t length = 0; /* no region file has 0 bytes */
     static struct parts parts;
     bytea *region = PG_GETARG_BYTEA_PP(0);

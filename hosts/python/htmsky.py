@@ -39,12 +39,16 @@ K = 1048576
 FILED_DEPTH = 12
 WORDS = dict(enumerate("long torn kind order depth budget crowd vector offset space name float line mixed twice full absent owner".split(), 1))
 
-_FILE_BYTES = 10508
-_ROW_NUMBERS = 2560
-_PIECES = 3 * 2048
-_DEFAULT_BUDGET = 16
-_INDEX_LENGTH = 12289
-_SHARE = 1024
+# Limits and lengths of lists, those of htm.h
+_MAX_DEPTH, _MAX_NAME_DEPTH = 12, 31
+_DEFAULT_BUDGET, _MAX_BUDGET = 16, 2048
+_NAME_BYTES, _CORNERS_LENGTH = 32, 9
+_FILE_BYTES, _ROWS_LENGTH, _HEADER_LENGTH = 10508, 2560, 3
+_RANGES_LENGTH, _COVER_COUNTS = 8192, 6
+_INDEX_LENGTH, _ENTRY_LENGTH = 12289, 6
+_NUMBERS_LENGTH, _FRAME_COUNTS = 1024, 2
+_TRIAL_COUNTS, _PART_LENGTH = 11, 2
+_PIECES = 3 * _MAX_BUDGET
 
 
 # ---- the libraries
@@ -87,7 +91,7 @@ def _call(library, called, gives, *takes):
     return found
 
 
-_lookup = _call(_htm, "lookup", _u64, _i32, _i32, _i32, _u32)
+_lookup = _call(_htm, "htm_lookup", _i64, _i32, _i32, _i32, _u32)
 _lookup_f64 = _call(_htm, "htm_lookup_f64", _i64, _double, _double, _double, _u32)
 _lookup_f32 = _call(_htm, "htm_lookup_f32", _i64, _float, _float, _float, _u32)
 _lookup_line = _call(_htm, "htm_lookup_line", _i64, _list, _size, _u32)
@@ -234,12 +238,9 @@ class _Columns:
         return column.reshape(self.shape)[()] if self.np else column.tolist()
 
 
-_NOTHING = (_u64 * 1)()     # an empty list has an address too
-
-
 def _address(kept):
-    """Where the elements of an array are. It is never null."""
-    return (kept.buffer_info()[0] if isinstance(kept, array.array) else kept.ctypes.data) or ctypes.addressof(_NOTHING)
+    """Where the elements of an array are. It may be null where there are none."""
+    return kept.buffer_info()[0] if isinstance(kept, array.array) else kept.ctypes.data
 
 
 def _typed(code, what, values):
@@ -294,11 +295,7 @@ def lookup(x, y, z, depth=FILED_DEPTH):
     >>> lookup(0, 0, 1048576), lookup(0, 0, 1048576, 1)
     (63963136, 15)
     """
-    depth = _uint32("depth", depth)
-    found = _lookup(_int32("x", x), _int32("y", y), _int32("z", z), depth)
-    if not found:
-        raise Refused(8 if 1 <= depth <= 12 else 5)
-    return found
+    return _good(_lookup(_int32("x", x), _int32("y", y), _int32("z", z), _uint32("depth", depth)))
 
 
 def lookup_degrees(ra, dec, depth=FILED_DEPTH):
@@ -341,8 +338,8 @@ def name(identifier):
     >>> name(63963136)
     'N310000000000'
     """
-    out = ctypes.create_string_buffer(32)
-    length = _good(_name(_uint64("identifier", identifier), out, 32))
+    out = ctypes.create_string_buffer(_NAME_BYTES)
+    length = _good(_name(_uint64("identifier", identifier), out, _NAME_BYTES))
     return out.raw[:length].decode("ascii")
 
 
@@ -367,8 +364,8 @@ def corners(identifier):
     >>> corners(8)
     ((1048576, 0, 0), (0, 0, -1048576), (0, 1048576, 0))
     """
-    out = (_i32 * 9)()
-    _good(_corners(_uint64("identifier", identifier), out, 9))
+    out = (_i32 * _CORNERS_LENGTH)()
+    _good(_corners(_uint64("identifier", identifier), out, _CORNERS_LENGTH))
     return tuple(out[0:3]), tuple(out[3:6]), tuple(out[6:9])
 
 
@@ -446,8 +443,8 @@ def read(file):
     Region(depth=2, budget=5, convexes=[[(0, 0, 1048576, 0)]])
     """
     file = _bytes("file", file)
-    rows, header = (_i32 * _ROW_NUMBERS)(), (_u64 * 3)()
-    _good(_read(file, len(file), rows, _ROW_NUMBERS, header, 3))
+    rows, header = (_i32 * _ROWS_LENGTH)(), (_u64 * _HEADER_LENGTH)()
+    _good(_read(file, len(file), rows, _ROWS_LENGTH, header, _HEADER_LENGTH))
     convexes = []
     for k in range(0, 5 * header[0], 5):
         convex, *halfspace = rows[k:k + 5]
@@ -522,15 +519,15 @@ def cover(file):
     """
     file = _bytes("file", file)
     budget = _budget(file)
-    out, counts = (_u64 * (4 * budget))(), (_u64 * 6)()
-    _good(_cover(file, len(file), out, 4 * budget, counts, 6))
+    out, counts = (_u64 * (4 * budget))(), (_u64 * _COVER_COUNTS)()
+    _good(_cover(file, len(file), out, 4 * budget, counts, _COVER_COUNTS))
     return Cover(_pairs(out, 0, counts[0]), _pairs(out, 2 * budget, counts[1]), Counts(*counts))
 
 
 def _budget(file):
     """The budget that counts for a region file."""
-    rows, header = (_i32 * _ROW_NUMBERS)(), (_u64 * 3)()
-    _good(_read(file, len(file), rows, _ROW_NUMBERS, header, 3))
+    rows, header = (_i32 * _ROWS_LENGTH)(), (_u64 * _HEADER_LENGTH)()
+    _good(_read(file, len(file), rows, _ROWS_LENGTH, header, _HEADER_LENGTH))
     return header[2] or _DEFAULT_BUDGET
 
 
@@ -693,9 +690,9 @@ class Index:
         """The entries in order: all, or those of one owner."""
         if owner is not None and _uint32("owner", owner) > 1:
             raise Refused(18)
-        found, out, place = [], (_i64 * 6)(), 0
+        found, out, place = [], (_i64 * _ENTRY_LENGTH)(), 0
         with self._lock:
-            while _good(_index_entry(self._list, _INDEX_LENGTH, place, out, 6)):
+            while _good(_index_entry(self._list, _INDEX_LENGTH, place, out, _ENTRY_LENGTH)):
                 found.append(Entry(*out))
                 place += 1
         return [entry for entry in found if owner is None or entry.owner == owner]
@@ -715,9 +712,9 @@ class Index:
     def frames(self, owner, file):
         """The owner's exposures that the region of a region file holds."""
         owner, file = _uint32("owner", owner), _bytes("file", file)
-        lists, found, counts = (_u64 * 8192)(), (_u32 * _SHARE)(), (_u64 * 2)()
+        lists, found, counts = (_u64 * _RANGES_LENGTH)(), (_u32 * _NUMBERS_LENGTH)(), (_u64 * _FRAME_COUNTS)()
         with self._lock:
-            _good(_frames(self._list, _INDEX_LENGTH, owner, file, len(file), lists, 8192, found, _SHARE, counts, 2))
+            _good(_frames(self._list, _INDEX_LENGTH, owner, file, len(file), lists, _RANGES_LENGTH, found, _NUMBERS_LENGTH, counts, _FRAME_COUNTS))
         return Frames(found[:counts[0]], counts[1])
 
     def trial(self, owner, file, first, second):
@@ -727,9 +724,10 @@ class Index:
         for what, setting in (("first", first), ("second", second)):
             depth, budget = setting
             settings += [_uint32(f"depth of {what}", depth), _uint32(f"budget of {what}", budget)]
-        lists = (_u64 * 8192)(), (_u64 * 8192)()
-        result, part = (_u64 * 11)(), (_u64 * 2)()
+        lists = (_u64 * _RANGES_LENGTH)(), (_u64 * _RANGES_LENGTH)()
+        both = lists[0], _RANGES_LENGTH, lists[1], _RANGES_LENGTH
+        result, part = (_u64 * _TRIAL_COUNTS)(), (_u64 * _PART_LENGTH)()
         with self._lock:
-            status = _good(_trial(self._list, _INDEX_LENGTH, owner, file, len(file), *settings, lists[0], 8192, lists[1], 8192, result, 11))
-        _good(_chosen(status, result, 11, lists[0], 8192, lists[1], 8192, part, 2))
+            status = _good(_trial(self._list, _INDEX_LENGTH, owner, file, len(file), *settings, *both, result, _TRIAL_COUNTS))
+        _good(_chosen(status, result, _TRIAL_COUNTS, *both, part, _PART_LENGTH))
         return Trial(Result(*result[0:5]), Result(*result[5:10]), result[10], _pairs(lists[part[0] - 1], 0, part[1] // 2))

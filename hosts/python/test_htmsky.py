@@ -92,6 +92,35 @@ class Table:
         return self.identifiers, self.x, self.y, self.z
 
 
+class Header(unittest.TestCase):
+    """The module's numbers are those of include/htm.h and hosts/sky/htm_sky.h."""
+
+    def setUp(self):
+        self.header = (HERE / "../../include/htm.h").read_text(encoding="utf-8")
+        self.constants = {name: int(value) for name, value in re.findall(r"^#define HTM_(\w+) (\d+)\b", self.header, re.M)}
+
+    def test_constants(self):
+        self.assertEqual(self.constants.pop("K"), K)
+        for part in ("MAJOR", "MINOR", "PATCH"):
+            del self.constants["VERSION_" + part]
+        self.assertEqual(self.constants, {name: getattr(htmsky, "_" + name, None) for name in self.constants})
+        self.assertGreaterEqual(len(self.constants), 17)
+
+    def test_refusals(self):
+        named = re.findall(r"^    HTM_([A-Z]+) = (\d+),? ", self.header, re.M)
+        self.assertEqual(htmsky.WORDS, {int(number): name.lower() for name, number in named})
+
+    def test_version(self):
+        self.assertIn(f'lib{{library}}.so.{self.constants["VERSION_MAJOR"]}"', (HERE / "htmsky.py").read_text(encoding="utf-8"))
+
+    def test_pieces(self):
+        sky = (HERE / "../sky/htm_sky.h").read_text(encoding="utf-8")
+        self.assertIn("#define SKY_PIECES (3 * HTM_MAX_BUDGET)\n", sky)
+        self.assertEqual(htmsky._PIECES, 3 * self.constants["MAX_BUDGET"])
+        self.assertIn("#define SKY_FILED_DEPTH HTM_MAX_DEPTH\n", sky)
+        self.assertEqual(htmsky.FILED_DEPTH, self.constants["MAX_DEPTH"])
+
+
 class Directions(unittest.TestCase):
     def test_axes(self):
         self.assertEqual(htmsky.pointing(0, 0), (K, 0, 0))
@@ -174,7 +203,6 @@ class Columns(unittest.TestCase):
         self.assertEqual(htmsky.holds(self.file, [], [], []), [])
         with self.assertRaises(Refused):
             htmsky.holds(b"", [], [], [])
-        self.assertTrue(htmsky._address(array.array("d")))     # the library wants no null pointer
 
     def test_bad_rows(self):
         with self.assertRaisesRegex(ValueError, "row 2: the right ascension"):

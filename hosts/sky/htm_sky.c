@@ -3,12 +3,9 @@
 
 #include <math.h>
 
-#define K 1048576
+#define K HTM_K
 #define DEGREE (3.14159265358979323846 / 180) /* in radians */
-#define MOST_DEPTH 12
-#define MOST_BUDGET 2048
 #define ROW 5             /* numbers a halfspace: convex, x, y, z, offset */
-#define MOST_ROWS 512     /* halfspaces of a region file */
 #define MOST_CORNERS 100  /* halfspaces of one convex */
 
 /* A rounded direction is at most sqrt(3)/2 units from K times the true one. So n.p is within (sqrt(3) + 0.75/K) K, that is 1.732052 K, of
@@ -76,15 +73,12 @@ int64_t sky_pointing(double ra, double dec, int32_t p[3])
     return bad;
 }
 
-/* A quotient by K is exact, so that the lookup of floats gets these very numbers. lookup would do too, but beside shared objects a host's own
- * function of that name would be called in its place. */
+/* By htm_lookup, since beside shared objects a host's own function of the name lookup would be called in the place of that one. */
 int64_t sky_lookup(double ra, double dec, uint32_t depth)
 {
     int32_t p[3];
     int64_t bad = sky_pointing(ra, dec, p);
-    if (bad)
-        return bad;
-    return htm_lookup_f64((double)p[0] / K, (double)p[1] / K, (double)p[2] / K, depth);
+    return bad ? bad : htm_lookup(p[0], p[1], p[2], depth);
 }
 
 /* ---- regions */
@@ -100,7 +94,7 @@ static void put_row(int32_t *row, int32_t convex, struct direction n, double off
  * doubling of the reach or halving of the budget. One more would take twice the time and hardly leave less to test. */
 static uint32_t choose_depth(double reach, uint32_t budget)
 {
-    uint32_t depth = MOST_DEPTH;
+    uint32_t depth = HTM_MAX_DEPTH;
     for (double r = 2 * DEGREE * (budget ? budget : HTM_DEFAULT_BUDGET) / 64; reach > r && depth > 1; r *= 2)
         depth--;
     return depth;
@@ -279,24 +273,23 @@ int64_t sky_polygon(const double *degrees, size_t corners, uint32_t depth, uint3
 
 /* The two lists of a cover at the file's depth. */
 struct lists {
-    uint64_t pairs[4 * MOST_BUDGET], outer, inner; /* how many ranges each has; the outer one begins at pairs[0] */
+    uint64_t pairs[HTM_RANGES_LENGTH], outer, inner; /* how many ranges each has; the outer one begins at pairs[0] */
     const uint64_t *inner_pairs;
     unsigned shift; /* an identifier of the file's depth, shifted so many bits, is the first of depth 12 below it */
 };
 
 static int64_t find_lists(const uint8_t *file, size_t bytes, struct lists *l)
 {
-    int32_t rows[ROW * MOST_ROWS];
-    uint64_t header[3], counts[6];
-    int64_t answer = htm_read(file, bytes, rows, ROW * MOST_ROWS, header, 3);
+    uint64_t contents[HTM_CONTENTS_LENGTH], counts[HTM_COVER_COUNTS];
+    int64_t answer = htm_header(file, bytes, contents, HTM_CONTENTS_LENGTH);
     if (answer == 0)
-        answer = htm_cover(file, bytes, l->pairs, 4 * MOST_BUDGET, counts, 6);
+        answer = htm_cover(file, bytes, l->pairs, HTM_RANGES_LENGTH, counts, HTM_COVER_COUNTS);
     if (answer < 0)
         return answer;
     l->outer = counts[0];
     l->inner = counts[1];
-    l->inner_pairs = l->pairs + 2 * (header[2] ? header[2] : HTM_DEFAULT_BUDGET);
-    l->shift = 2 * (unsigned)(SKY_FILED_DEPTH - header[1]);
+    l->inner_pairs = l->pairs + 2 * (contents[2] ? contents[2] : HTM_DEFAULT_BUDGET);
+    l->shift = 2 * (unsigned)(SKY_FILED_DEPTH - contents[1]);
     return 0;
 }
 
@@ -334,32 +327,32 @@ int64_t sky_pieces(const uint8_t *file, size_t bytes, struct sky_piece *pieces, 
     if (answer < 0)
         return answer;
     if (part(&l, NULL) > room)
-        return -10;
+        return -HTM_SPACE;
     return (int64_t)part(&l, pieces);
 }
 
 /* ---- words */
 
 static const char *const refusals[] = {
-    "no refusal",
-    "refused 1 (long): the region file has more than 10508 bytes",
-    "refused 2 (torn): a record of the region file does not fit what is left of it",
-    "refused 3 (kind): a record of the region file is of an unknown kind, or not of its length",
-    "refused 4 (order): records or rows are out of order, or missing",
-    "refused 5 (depth): not from 1 to 12",
-    "refused 6 (budget): over 2048",
-    "refused 7 (crowd): over 64 convexes, 100 halfspaces in one, or 512 in all",
-    "refused 8 (vector): a direction or a point that is no pointing",
-    "refused 9 (offset): not from -1048576 to 1048576",
-    "refused 10 (space): a list is too short",
-    "refused 11 (name): no name or identifier",
-    "refused 12 (float): a number that is not finite, or beyond 1 in size",
-    "refused 13 (line): a catalogue line of another shape",
-    "refused 14 (mixed): a record of the other style",
-    "refused 15 (twice): the number is its owner's",
-    "refused 16 (full): 1024 exposures are the owner's",
-    "refused 17 (absent): no such number of its owner's",
-    "refused 18 (owner): not 0 or 1",
+    [0] = "no refusal",
+    [HTM_LONG] = "refused 1 (long): the region file has more than 10508 bytes",
+    [HTM_TORN] = "refused 2 (torn): a record of the region file does not fit what is left of it",
+    [HTM_KIND] = "refused 3 (kind): a record of the region file is of an unknown kind, or not of its length",
+    [HTM_ORDER] = "refused 4 (order): records or rows are out of order, or missing",
+    [HTM_DEPTH] = "refused 5 (depth): not from 1 to 12",
+    [HTM_BUDGET] = "refused 6 (budget): over 2048",
+    [HTM_CROWD] = "refused 7 (crowd): over 64 convexes, 100 halfspaces in one, or 512 in all",
+    [HTM_VECTOR] = "refused 8 (vector): a direction or a point that is no pointing",
+    [HTM_OFFSET] = "refused 9 (offset): not from -1048576 to 1048576",
+    [HTM_SPACE] = "refused 10 (space): a list is too short",
+    [HTM_NAME] = "refused 11 (name): no name or identifier",
+    [HTM_FLOAT] = "refused 12 (float): a number that is not finite, or beyond 1 in size",
+    [HTM_LINE] = "refused 13 (line): a catalogue line of another shape",
+    [HTM_MIXED] = "refused 14 (mixed): a record of the other style",
+    [HTM_TWICE] = "refused 15 (twice): the number is its owner's",
+    [HTM_FULL] = "refused 16 (full): 1024 exposures are the owner's",
+    [HTM_ABSENT] = "refused 17 (absent): no such number of its owner's",
+    [HTM_OWNER] = "refused 18 (owner): not 0 or 1",
 };
 
 const char *sky_message(int64_t code)
@@ -382,5 +375,5 @@ const char *sky_message(int64_t code)
     }
     if (code > 0)
         return refusals[0];
-    return code >= -18 ? refusals[-code] : "no code of this library";
+    return code >= -HTM_OWNER ? refusals[-code] : "no code of this library";
 }

@@ -4,7 +4,7 @@
  * Axes: equatorial coordinates in degrees, right ascension ra from -360 to 360 and declination dec from -90 to 90. x points to ra 0 and
  * dec 0, y to ra 90 and dec 0, z to dec 90, the north pole:
  *     x = K cos(dec) cos(ra),   y = K cos(dec) sin(ra),   z = K sin(dec),   each rounded to the nearest whole number.
- * K is 1048576, so that a direction moves by less than 0.18 seconds of arc when it is rounded.
+ * K is HTM_K, 1048576, so that a direction moves by less than 0.18 seconds of arc when it is rounded.
  *
  * Answers: a call gives 0 or more where it succeeds, -N for refusal N of the library (htm.h), and one of the numbers below where the
  * degrees are wrong. After either, nothing is written. sky_message gives the words. */
@@ -37,7 +37,7 @@ const char *sky_message(int64_t code);
 /* The pointing of a direction: p[0] to p[2] are x, y, z by the formula above. 0, or SKY_RA, then SKY_DEC. */
 int64_t sky_pointing(double ra, double dec, int32_t p[3]);
 
-/* The identifier of the trixel of the given depth, 1 to 12, in which the direction lies; or SKY_RA, SKY_DEC, then -5. */
+/* The identifier of the trixel of the given depth, 1 to 12, in which the direction lies; or SKY_RA, SKY_DEC, then -HTM_DEPTH. */
 int64_t sky_lookup(double ra, double dec, uint32_t depth);
 
 /* A region file of all directions within radius degrees of (ra, dec), from file[0] on: its length. It is one halfspace from 2 degrees on, and
@@ -53,15 +53,15 @@ int64_t sky_polygon(const double *degrees, size_t corners, uint32_t depth, uint3
 
 /* Ranges of depth-12 identifiers as a database searches them. They ascend and do not overlap. What lies in an inner piece is in the region;
  * what lies in another piece is in it where htm_holds says so; what lies in no piece is not. */
-#define SKY_FILED_DEPTH 12
-#define SKY_PIECES (3 * 2048)
+#define SKY_FILED_DEPTH HTM_MAX_DEPTH
+#define SKY_PIECES (3 * HTM_MAX_BUDGET)
 
 struct sky_piece {
     uint64_t low, high; /* both in it */
     int inner;          /* 1: all of it is in the region; 0: htm_holds decides */
 };
 
-/* The pieces of a region file's cover, from pieces[0] on: how many. A refusal of the file; then -10 where there are more than room
+/* The pieces of a region file's cover, from pieces[0] on: how many. A refusal of the file; then -HTM_SPACE where there are more than room
  * (SKY_PIECES are always enough). */
 int64_t sky_pieces(const uint8_t *file, size_t bytes, struct sky_piece *pieces, size_t room);
 

@@ -1,8 +1,6 @@
 /* Columns of rows: each row by the call for one row. */
 #include "htm_sky.h"
 
-#define NORTH 1048576 /* z of the north pole */
-
 int64_t sky_pointing_all(const double *ra, const double *dec, size_t n, int32_t *x, int32_t *y, int32_t *z)
 {
     int64_t bad = 0;
@@ -29,7 +27,7 @@ int64_t sky_lookup_all(const double *ra, const double *dec, size_t n, uint32_t d
 /* The point test of a true pointing, the north pole, is refused for the file's sake only. */
 int64_t sky_holds_all(const uint8_t *file, size_t bytes, const int32_t *x, const int32_t *y, const int32_t *z, size_t n, int8_t *out)
 {
-    int64_t bad = htm_holds(file, bytes, 0, 0, NORTH);
+    int64_t bad = htm_holds(file, bytes, 0, 0, HTM_K);
     if (bad < 0)
         return bad;
     bad = 0;

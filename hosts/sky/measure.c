@@ -52,14 +52,14 @@ struct cost {
 
 static void time_cover(struct cost *t, const int32_t *rows, size_t count)
 {
-    static uint8_t file[10508];
-    static uint64_t lists[4 * MOST_BUDGET];
-    uint64_t counts[6];
+    static uint8_t file[HTM_FILE_BYTES];
+    static uint64_t lists[HTM_RANGES_LENGTH];
+    uint64_t counts[HTM_COVER_COUNTS];
     double least = 1e9;
-    size_t bytes = (size_t)htm_write(MOST_DEPTH, SKY_BUDGET, rows, ROW * count, file, sizeof file);
+    size_t bytes = (size_t)htm_write(HTM_MAX_DEPTH, SKY_BUDGET, rows, ROW * count, file, sizeof file);
     for (int i = 0; i < 5; i++) {
         double start = now();
-        htm_cover(file, bytes, lists, 4 * MOST_BUDGET, counts, 6);
+        htm_cover(file, bytes, lists, HTM_RANGES_LENGTH, counts, HTM_COVER_COUNTS);
         least = fmin(least, now() - start);
     }
     t->us += least / TRIALS;
@@ -179,7 +179,7 @@ static void print_sides(void)
 /* The time of pieces, and the area of those that are to be tested, beside the cone's own. */
 static struct cost cost_of_depth(double radius, uint32_t depth, uint32_t budget, unsigned *taken)
 {
-    static uint8_t file[10508];
+    static uint8_t file[HTM_FILE_BYTES];
     static struct sky_piece pieces[SKY_PIECES];
     struct cost t = {0};
     state = 36;

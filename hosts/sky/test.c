@@ -12,10 +12,10 @@
 #include <string.h>
 #include <time.h>
 
-#define K 1048576
+#define K HTM_K
 #define PI 3.14159265358979323846264338327950288L
 #define DEGREE (PI / 180)
-#define FILE_BYTES 10508
+#define FILE_BYTES HTM_FILE_BYTES
 #define ROUNDING 1.7321L /* n.p / K is off by so much at most, when both are rounded */
 #define SPECIAL 8        /* centres on axes and other places */
 #define CENTRES 24       /* those, and some anywhere */
@@ -150,17 +150,18 @@ static void find_pieces(struct region *r, int64_t bytes)
 /* Beside the cover's own lists: as many identifiers, in all and in inner ranges. */
 static void check_pieces(const struct region *r)
 {
-    static int32_t rows[2560];
-    static uint64_t lists[8192];
-    uint64_t header[3], counts[6], inner = 0, all = 0, want = 0;
-    if (htm_read(r->file, r->bytes, rows, 2560, header, 3) || htm_cover(r->file, r->bytes, lists, 8192, counts, 6))
+    static int32_t rows[HTM_ROWS_LENGTH];
+    static uint64_t lists[HTM_RANGES_LENGTH];
+    uint64_t header[HTM_HEADER_LENGTH], counts[HTM_COVER_COUNTS], inner = 0, all = 0, want = 0;
+    if (htm_read(r->file, r->bytes, rows, HTM_ROWS_LENGTH, header, HTM_HEADER_LENGTH) ||
+        htm_cover(r->file, r->bytes, lists, HTM_RANGES_LENGTH, counts, HTM_COVER_COUNTS))
         return; /* refused, and told so before */
     for (int64_t i = 0; i < r->count; i++) {
         uint64_t size = r->pieces[i].high - r->pieces[i].low + 1;
         all += size;
         inner += r->pieces[i].inner ? size : 0;
     }
-    unsigned shift = 2 * (unsigned)(12 - header[1]);
+    unsigned shift = 2 * (unsigned)(SKY_FILED_DEPTH - header[1]);
     const uint64_t *list = lists + 2 * (header[2] ? header[2] : HTM_DEFAULT_BUDGET);
     for (uint64_t i = 0; i < counts[1]; i++)
         want += (list[2 * i + 1] - list[2 * i] + 1) << shift;
@@ -312,7 +313,7 @@ static void test_cones(void)
 static void test_settings(void)
 {
     static const double radii[] = {0, 1e-6, 0.01, 1, 3, 40, 100, 180};
-    static const uint32_t budgets[] = {0, 1, 5, 64, 2048};
+    static const uint32_t budgets[] = {0, 1, 5, 64, HTM_MAX_BUDGET};
     for (size_t i = 0; i < 8; i++)
         for (uint32_t depth = 1; depth <= 12; depth++)
             for (size_t k = 0; k < 5; k++) {
@@ -448,12 +449,12 @@ static void test_bad_cones(void)
     }
     refused("radius", sky_cone(0, 0, -1e-300, 12, 64, region.file, FILE_BYTES), SKY_RADIUS);
     refused("radius", sky_cone(0, 0, 180.0000001, 12, 64, region.file, FILE_BYTES), SKY_RADIUS);
-    refused("depth", sky_lookup(0, 0, 0), -5);
-    refused("depth", sky_lookup(0, 0, 13), -5);
-    refused("depth", sky_cone(0, 0, 1, 13, 9999, region.file, 0), -5);
-    refused("budget", sky_cone(0, 0, 1, 0, 2049, region.file, 0), -6);
-    refused("space", sky_cone(0, 0, 1, 0, 64, region.file, 675), -10);
-    refused("space", sky_cone(0, 0, 5, 0, 64, region.file, 35), -10);
+    refused("depth", sky_lookup(0, 0, 0), -HTM_DEPTH);
+    refused("depth", sky_lookup(0, 0, 13), -HTM_DEPTH);
+    refused("depth", sky_cone(0, 0, 1, 13, 9999, region.file, 0), -HTM_DEPTH);
+    refused("budget", sky_cone(0, 0, 1, 0, 2049, region.file, 0), -HTM_BUDGET);
+    refused("space", sky_cone(0, 0, 1, 0, 64, region.file, 675), -HTM_SPACE);
+    refused("space", sky_cone(0, 0, 5, 0, 64, region.file, 35), -HTM_SPACE);
     expect(p[0] == 7 && p[1] == 7 && p[2] == 7, "a refused pointing is written");
 }
 
@@ -509,9 +510,9 @@ static void test_bad_polygons(void)
     memset(region.file, SPOT, FILE_BYTES);
     refused("101 corners", sky_polygon(ring, 101, 0, 64, region.file, FILE_BYTES), SKY_MANY);
     refused("no corner", sky_polygon(ring, 0, 0, 64, region.file, FILE_BYTES), SKY_FEW);
-    refused("depth", sky_polygon(ring, 100, 13, 2049, region.file, 0), -5);
-    refused("budget", sky_polygon(ring, 100, 0, 2049, region.file, 0), -6);
-    refused("space", sky_polygon(ring, 100, 0, 64, region.file, 2015), -10);
+    refused("depth", sky_polygon(ring, 100, 13, 2049, region.file, 0), -HTM_DEPTH);
+    refused("budget", sky_polygon(ring, 100, 0, 2049, region.file, 0), -HTM_BUDGET);
+    refused("space", sky_polygon(ring, 100, 0, 64, region.file, 2015), -HTM_SPACE);
     expect(sky_polygon(ring, 100, 0, 64, region.file, 2016) == 2016, "100 corners in 2016 bytes");
 }
 
@@ -522,12 +523,12 @@ static void test_bad_pieces(void)
     static struct sky_piece pieces[SKY_PIECES];
     for (int i = 0; i < SKY_PIECES; i++)
         pieces[i] = spot;
-    expect(sky_pieces(region.file, (size_t)bytes - 1, pieces, SKY_PIECES) == -2, "a torn file");
-    expect(sky_pieces(region.file, 0, pieces, 0) == -2, "an empty file");
+    expect(sky_pieces(region.file, (size_t)bytes - 1, pieces, SKY_PIECES) == -HTM_TORN, "a torn file");
+    expect(sky_pieces(region.file, 0, pieces, 0) == -HTM_TORN, "an empty file");
     expect(pieces[0].low == 1, "pieces of a refused file");
     count = sky_pieces(region.file, (size_t)bytes, region.pieces, SKY_PIECES);
     expect(count > 3, "no pieces");
-    expect(sky_pieces(region.file, (size_t)bytes, pieces, (size_t)count - 1) == -10, "one piece too many");
+    expect(sky_pieces(region.file, (size_t)bytes, pieces, (size_t)count - 1) == -HTM_SPACE, "one piece too many");
     expect(pieces[0].low == 1, "pieces without room are written");
     expect(sky_pieces(region.file, (size_t)bytes, pieces, (size_t)count) == count, "room for all pieces");
     expect(pieces[count - 1].low > 1 && pieces[count].low == 1, "as many pieces as there are");

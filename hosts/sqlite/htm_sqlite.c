@@ -9,11 +9,8 @@
 
 SQLITE_EXTENSION_INIT1
 
-#define MOST_FILE 10508
 #define MOST_CORNERS 100
-#define MOST_NUMBERS 2560 /* of rows: five a halfspace, 512 halfspaces */
-#define LONGEST_NAME 32
-#define NAMED 5           /* arguments that have a name in messages */
+#define NAMED 5 /* arguments that have a name in messages */
 
 /* A function of SQL. It hangs on its SQLite function as user data, for messages. */
 struct function {
@@ -140,13 +137,12 @@ static int degrees_at(sqlite3_context *c, sqlite3_value **v, int i, int32_t p[3]
     return bad == 0;
 }
 
-/* The bytes of a blob. SQLite gives a null pointer for an empty one, and the library takes none. */
+/* The bytes of a blob. SQLite gives a null pointer for an empty one. */
 static const uint8_t *bytes_of(sqlite3_value *v, size_t *bytes)
 {
-    static const uint8_t none[1];
     const uint8_t *file = sqlite3_value_blob(v);
     *bytes = file ? (size_t)sqlite3_value_bytes(v) : 0;
-    return file ? file : none;
+    return file;
 }
 
 static int region_at(sqlite3_context *c, sqlite3_value **v, int i)
@@ -179,8 +175,7 @@ static void give_file(sqlite3_context *c, int64_t answer, const uint8_t *file)
 
 static void give_lookup(sqlite3_context *c, const int32_t p[3], uint32_t depth)
 {
-    uint64_t id = lookup(p[0], p[1], p[2], depth);
-    give(c, id ? (int64_t)id : depth < 1 || depth > 12 ? -5 : -8);
+    give(c, htm_lookup(p[0], p[1], p[2], depth));
 }
 
 static void give_holds(sqlite3_context *c, sqlite3_value *region, const int32_t p[3])
@@ -211,11 +206,11 @@ static void call_lookup_degrees(sqlite3_context *c, int n, sqlite3_value **v)
 /* An identifier of depth 31 has bit 63, and is a negative number in SQL. */
 static void call_name(sqlite3_context *c, int n, sqlite3_value **v)
 {
-    uint8_t name[LONGEST_NAME];
+    uint8_t name[HTM_NAME_BYTES];
     int64_t id;
     if (any_null(n, v) || !whole_at(c, v, 0, &id))
         return;
-    int64_t length = htm_name((uint64_t)id, name, LONGEST_NAME);
+    int64_t length = htm_name((uint64_t)id, name, HTM_NAME_BYTES);
     if (length < 0)
         fail(c, sky_message(length));
     else
@@ -235,7 +230,7 @@ static void call_identifier(sqlite3_context *c, int n, sqlite3_value **v)
     if (id)
         sqlite3_result_int64(c, (int64_t)id);
     else
-        fail(c, sky_message(-11));
+        fail(c, sky_message(-HTM_NAME));
 }
 
 static void call_holds(sqlite3_context *c, int n, sqlite3_value **v)
@@ -254,7 +249,7 @@ static void call_holds_degrees(sqlite3_context *c, int n, sqlite3_value **v)
 
 static void call_cone(sqlite3_context *c, int n, sqlite3_value **v)
 {
-    uint8_t file[MOST_FILE];
+    uint8_t file[HTM_FILE_BYTES];
     double at[3];
     uint32_t depth = SKY_CHOOSE_DEPTH, budget = SKY_BUDGET;
     if (any_null(n, v))
@@ -263,12 +258,12 @@ static void call_cone(sqlite3_context *c, int n, sqlite3_value **v)
         if (!number_at(c, v, i, &at[i]))
             return;
     if (setting_at(c, n, v, 3, &depth) && setting_at(c, n, v, 4, &budget))
-        give_file(c, sky_cone(at[0], at[1], at[2], depth, budget, file, MOST_FILE), file);
+        give_file(c, sky_cone(at[0], at[1], at[2], depth, budget, file, HTM_FILE_BYTES), file);
 }
 
 static void call_polygon(sqlite3_context *c, int n, sqlite3_value **v)
 {
-    uint8_t file[MOST_FILE];
+    uint8_t file[HTM_FILE_BYTES];
     double degrees[2 * MOST_CORNERS];
     if (any_null(n, v))
         return;
@@ -283,13 +278,13 @@ static void call_polygon(sqlite3_context *c, int n, sqlite3_value **v)
     for (int i = 0; i < n; i++)
         if (!number_at(c, v, i, &degrees[i]))
             return;
-    give_file(c, sky_polygon(degrees, (size_t)n / 2, SKY_CHOOSE_DEPTH, SKY_BUDGET, file, MOST_FILE), file);
+    give_file(c, sky_polygon(degrees, (size_t)n / 2, SKY_CHOOSE_DEPTH, SKY_BUDGET, file, HTM_FILE_BYTES), file);
 }
 
 static void call_region(sqlite3_context *c, int n, sqlite3_value **v)
 {
-    uint8_t file[MOST_FILE];
-    int32_t rows[MOST_NUMBERS];
+    uint8_t file[HTM_FILE_BYTES];
+    int32_t rows[HTM_ROWS_LENGTH];
     uint32_t depth, budget;
     if (any_null(n, v))
         return;
@@ -297,8 +292,8 @@ static void call_region(sqlite3_context *c, int n, sqlite3_value **v)
         fail(c, "depth, budget and rows of five numbers are expected");
         return;
     }
-    if (n - 2 > MOST_NUMBERS) {
-        fail(c, sky_message(-7));
+    if (n - 2 > HTM_ROWS_LENGTH) {
+        fail(c, sky_message(-HTM_CROWD));
         return;
     }
     if (!setting_at(c, n, v, 0, &depth) || !setting_at(c, n, v, 1, &budget))
@@ -306,7 +301,7 @@ static void call_region(sqlite3_context *c, int n, sqlite3_value **v)
     for (int i = 2; i < n; i++)
         if (!signed_at(c, v, i, &rows[i - 2]))
             return;
-    give_file(c, htm_write(depth, budget, rows, (size_t)n - 2, file, MOST_FILE), file);
+    give_file(c, htm_write(depth, budget, rows, (size_t)n - 2, file, HTM_FILE_BYTES), file);
 }
 
 static const struct function functions[] = {

@@ -16,12 +16,12 @@
 
 #include "htm.h"
 
-#define K 1048576
+#define K HTM_K
 #define FRAMES 300000
 #define PI 3.14159265358979323846264338327950288L
 #define DEGREE (PI / 180)
 #define MOST_CORNERS 8
-#define SHARE 1024       /* frames of one owner in an index */
+#define SHARE HTM_NUMBERS_LENGTH /* frames of one owner in an index */
 #define RANDOM 60        /* random regions */
 #define MOST_ROWS 20     /* of a random region */
 
@@ -570,11 +570,12 @@ static void fill_index(void)
 
 static void check_index(const char *name, const uint8_t *region, size_t bytes)
 {
-    static uint64_t lists[8192];
+    static uint64_t lists[HTM_RANGES_LENGTH];
     uint32_t numbers[SHARE];
-    uint64_t counts[2];
+    uint64_t counts[HTM_FRAME_COUNTS];
     uint8_t times[SHARE] = {0};
-    int64_t answer = htm_frames(index_list, HTM_INDEX_LENGTH, 1, region, bytes, lists, 8192, numbers, SHARE, counts, 2);
+    int64_t answer = htm_frames(index_list, HTM_INDEX_LENGTH, 1, region, bytes, lists, HTM_RANGES_LENGTH, numbers, SHARE, counts,
+                                HTM_FRAME_COUNTS);
     expect(answer == 0, "%s: htm_frames refuses %" PRId64, name, -answer);
     for (uint64_t i = 0; answer == 0 && i < counts[0]; i++)
         times[numbers[i]]++;
@@ -583,7 +584,7 @@ static void check_index(const char *name, const uint8_t *region, size_t bytes)
 
 static uint8_t *region_of(const char *sql, size_t *bytes)
 {
-    static uint8_t file[10508];
+    static uint8_t file[HTM_FILE_BYTES];
     char text[500];
     sqlite3_stmt *s;
     snprintf(text, sizeof text, "SELECT %s", sql);
@@ -652,12 +653,12 @@ static size_t random_rows(int32_t *rows)
 
 static void try_random(int number)
 {
-    static const uint32_t budgets[] = {0, 1, 5, 16, 64, 300, 2048};
-    static uint8_t file[10508];
+    static const uint32_t budgets[] = {0, 1, 5, 16, 64, 300, HTM_MAX_BUDGET};
+    static uint8_t file[HTM_FILE_BYTES];
     int32_t rows[5 * MOST_ROWS];
     char name[40];
     size_t count = random_rows(rows);
-    uint32_t depth = 1 + (uint32_t)(number % 12), budget = budgets[(int)(7 * draw())];
+    uint32_t depth = 1 + (uint32_t)(number % HTM_MAX_DEPTH), budget = budgets[(int)(7 * draw())];
     int64_t bytes = htm_write(depth, budget, rows, 5 * count, file, sizeof file);
     snprintf(name, sizeof name, "random region %d", number);
     if (bytes < 0) {

@@ -12,16 +12,15 @@
 
 #include "htm.h"
 
-#define SPACE (-10)
 #define BEHIND 16 /* elements of a lent list that no answer reaches */
-#define NAME (32 + BEHIND)
-#define CORNERS (9 + BEHIND)
-#define ROWS (2560 + BEHIND)
-#define THREE (3 + BEHIND)
-#define FOUR (4 + BEHIND)
-#define COUNTS (6 + BEHIND)
-#define FILE_BYTES (10508 + BEHIND)
-#define LISTS (8192 + BEHIND)
+#define NAME (HTM_NAME_BYTES + BEHIND)
+#define CORNERS (HTM_CORNERS_LENGTH + BEHIND)
+#define ROWS (HTM_ROWS_LENGTH + BEHIND)
+#define HEADER (HTM_HEADER_LENGTH + BEHIND)
+#define CONTENTS (HTM_CONTENTS_LENGTH + BEHIND)
+#define COUNTS (HTM_COVER_COUNTS + BEHIND)
+#define FILE_BYTES (HTM_FILE_BYTES + BEHIND)
+#define LISTS (HTM_RANGES_LENGTH + BEHIND)
 #define MOST 32768 /* no command line has more numbers */
 #define MOST_BYTES (1 << 18) /* no stored case has a longer file */
 
@@ -184,7 +183,7 @@ static void must_refuse(int64_t number, int64_t without_room, bool all_stays)
 
 static void must_be_short(int64_t number, bool all_stays)
 {
-    must(number == SPACE, "a list shorter by one element is refused with 10");
+    must(number == -HTM_SPACE, "a list shorter by one element is refused with 10");
     must(all_stays, "refusal 10 changes no lent element");
     now->shorter++;
 }
@@ -207,7 +206,7 @@ static int64_t try_name(uint64_t id, uint8_t out[NAME])
         must_refuse(n, htm_name(id, again, 0), stays(out, 0, NAME) && stays(again, 0, NAME));
         return n;
     }
-    must_fit(n <= NAME - BEHIND, "a name has at most 32 bytes");
+    must_fit(n <= HTM_NAME_BYTES, "a name has at most HTM_NAME_BYTES bytes");
     must(stays(out, (size_t)n, NAME), "what is behind the name stays");
     must_be_short(htm_name(id, again, (size_t)n - 1), stays(again, 0, NAME));
     must_be_exact(htm_name(id, again, (size_t)n) == n && memcmp(again, out, NAME) == 0);
@@ -225,36 +224,36 @@ static int64_t try_corners(uint64_t id, int32_t out[CORNERS])
         must_refuse(answer, htm_corners(id, again, 0), stays(out, 0, all) && stays(again, 0, all));
         return answer;
     }
-    must(stays(out, 9 * sizeof out[0], all), "what is behind nine numbers stays");
-    must_be_short(htm_corners(id, again, 8), stays(again, 0, all));
-    must_be_exact(htm_corners(id, again, 9) == 0 && memcmp(again, out, all) == 0);
+    must(stays(out, HTM_CORNERS_LENGTH * sizeof out[0], all), "what is behind nine numbers stays");
+    must_be_short(htm_corners(id, again, HTM_CORNERS_LENGTH - 1), stays(again, 0, all));
+    must_be_exact(htm_corners(id, again, HTM_CORNERS_LENGTH) == 0 && memcmp(again, out, all) == 0);
     return answer;
 }
 
-static int64_t try_read(const uint8_t *file, size_t bytes, int32_t rows[ROWS], uint64_t header[THREE])
+static int64_t try_read(const uint8_t *file, size_t bytes, int32_t rows[ROWS], uint64_t header[HEADER])
 {
-    const size_t all = ROWS * sizeof rows[0], three = THREE * sizeof header[0];
+    const size_t all = ROWS * sizeof rows[0], three = HEADER * sizeof header[0];
     static int32_t again[ROWS];
-    uint64_t head[THREE];
+    uint64_t head[HEADER];
     paint(rows, all);
     paint(header, three);
     paint(again, all);
     paint(head, three);
-    int64_t answer = htm_read(file, bytes, rows, ROWS, header, THREE);
+    int64_t answer = htm_read(file, bytes, rows, ROWS, header, HEADER);
     if (answer < 0) {
         bool kept = stays(rows, 0, all) && stays(header, 0, three);
         must_refuse(answer, htm_read(file, bytes, again, 0, head, 0), kept && stays(again, 0, all) && stays(head, 0, three));
         return answer;
     }
-    must_fit(header[0] <= 512, "a file has at most 512 rows");
+    must_fit(header[0] * 5 <= HTM_ROWS_LENGTH, "HTM_ROWS_LENGTH elements are enough for every file");
     size_t n = (size_t)header[0] * 5;
     must(stays(rows, n * sizeof rows[0], all), "what is behind the rows stays");
-    must(stays(header, 3 * sizeof header[0], three), "what is behind count, depth and budget stays");
-    int64_t short_rows = htm_read(file, bytes, again, n - 1, head, THREE);
+    must(stays(header, HTM_HEADER_LENGTH * sizeof header[0], three), "what is behind count, depth and budget stays");
+    int64_t short_rows = htm_read(file, bytes, again, n - 1, head, HEADER);
     must_be_short(short_rows, stays(again, 0, all) && stays(head, 0, three));
-    int64_t short_head = htm_read(file, bytes, again, ROWS, head, 2);
+    int64_t short_head = htm_read(file, bytes, again, ROWS, head, HTM_HEADER_LENGTH - 1);
     must_be_short(short_head, stays(again, 0, all) && stays(head, 0, three));
-    int64_t exact = htm_read(file, bytes, again, n, head, 3);
+    int64_t exact = htm_read(file, bytes, again, n, head, HTM_HEADER_LENGTH);
     must_be_exact(exact == 0 && memcmp(again, rows, all) == 0 && memcmp(head, header, three) == 0);
     return answer;
 }
@@ -263,15 +262,15 @@ static int64_t try_read(const uint8_t *file, size_t bytes, int32_t rows[ROWS], u
 static void try_header(const uint8_t *file, size_t bytes)
 {
     static int32_t rows[ROWS];
-    uint64_t header[THREE], four[FOUR], again[FOUR];
+    uint64_t header[HEADER], four[CONTENTS], again[CONTENTS];
     const size_t all = sizeof four, number = sizeof four[0];
     struct tally *call = now;
     now = &headers;
     long differ = now->differ;
     paint(four, all);
     paint(again, all);
-    int64_t accepted = htm_read(file, bytes, rows, ROWS, header, THREE);
-    int64_t answer = htm_header(file, bytes, four, FOUR);
+    int64_t accepted = htm_read(file, bytes, rows, ROWS, header, HEADER);
+    int64_t answer = htm_header(file, bytes, four, CONTENTS);
     must_fit(answer == accepted, "reader and header answer alike");
     if (answer < 0) {
         now->refused++;
@@ -329,7 +328,7 @@ static int64_t try_making(making *make, const struct source *from, uint8_t out[F
         must_refuse(n, without_room, stays(out, 0, FILE_BYTES) && stays(again, 0, FILE_BYTES));
         return n;
     }
-    must_fit(n <= FILE_BYTES - BEHIND, "a file has at most 10508 bytes");
+    must_fit(n <= HTM_FILE_BYTES, "a file has at most HTM_FILE_BYTES bytes");
     must(stays(out, (size_t)n, FILE_BYTES), "what is behind the file stays");
     must_be_short(make(from, again, (size_t)n - 1), stays(again, 0, FILE_BYTES));
     int64_t exact = make(from, again, (size_t)n);
@@ -365,13 +364,13 @@ static int64_t try_cover(const uint8_t *file, size_t bytes, size_t budget, uint6
     must_fit(counts[0] <= budget && counts[1] <= budget, "both lists keep to the budget");
     must(stays(out, counts[0] * pair, budget * pair), "what is between both lists stays");
     must(stays(out, (budget + counts[1]) * pair, all), "what is behind the inner list stays");
-    must(stays(counts, 6 * sizeof counts[0], six), "what is behind the counts stays");
+    must(stays(counts, HTM_COVER_COUNTS * sizeof counts[0], six), "what is behind the counts stays");
     must(contained(out, counts[0]) == counts[3] + counts[4] + counts[5], "the outer ranges contain full + partial + swallowed");
     int64_t short_lists = htm_cover(file, bytes, again, 4 * budget - 1, tally, COUNTS);
     must_be_short(short_lists, stays(again, 0, all) && stays(tally, 0, six));
-    int64_t short_counts = htm_cover(file, bytes, again, LISTS, tally, 5);
+    int64_t short_counts = htm_cover(file, bytes, again, LISTS, tally, HTM_COVER_COUNTS - 1);
     must_be_short(short_counts, stays(again, 0, all) && stays(tally, 0, six));
-    int64_t exact = htm_cover(file, bytes, again, 4 * budget, tally, 6);
+    int64_t exact = htm_cover(file, bytes, again, 4 * budget, tally, HTM_COVER_COUNTS);
     must_be_exact(exact == 0 && memcmp(again, out, all) == 0 && memcmp(tally, counts, six) == 0);
     return answer;
 }
@@ -389,7 +388,7 @@ static bool print_refusal(int64_t answer)
 
 static void print_name(uint64_t id)
 {
-    uint8_t name[32];
+    uint8_t name[HTM_NAME_BYTES];
     int64_t n = htm_name(id, name, sizeof name);
     if (!print_refusal(n))
         print("%.*s", (int)n, (const char *)name);
@@ -444,12 +443,12 @@ static void answer_name(struct text rest)
         print("%.*s", (int)n, (const char *)name);
 }
 
-/* id NAME. The call gives 0 for refusal 11, the only one. */
+/* id NAME. The call gives 0 for its only refusal. */
 static void answer_id(struct text rest)
 {
     struct text name = take_word(&rest);
     uint64_t id = htm_identifier(name.at, name.n);
-    if (!print_refusal(id == 0 ? -11 : 0))
+    if (!print_refusal(id == 0 ? -HTM_NAME : 0))
         print("%" PRIu64, id);
 }
 
@@ -459,7 +458,7 @@ static void answer_corners(struct text rest)
     int32_t c[CORNERS];
     if (print_refusal(try_corners(take_natural(&rest), c)))
         return;
-    for (int i = 0; i < 9; i++)
+    for (int i = 0; i < HTM_CORNERS_LENGTH; i++)
         print("%s%" PRId32, i ? " " : "", c[i]);
 }
 
@@ -468,7 +467,7 @@ static void answer_rows(struct text rest)
 {
     static uint8_t file[MOST_BYTES];
     static int32_t rows[ROWS];
-    uint64_t header[THREE];
+    uint64_t header[HEADER];
     size_t bytes = take_file(&rest, file);
     try_header(file, bytes);
     if (print_refusal(try_read(file, bytes, rows, header)))
@@ -563,9 +562,9 @@ static void answer_cover(struct text rest)
     static uint8_t file[MOST_BYTES];
     static int32_t rows[ROWS];
     static uint64_t lists[LISTS];
-    uint64_t header[THREE] = {0}, counts[COUNTS];
+    uint64_t header[HEADER] = {0}, counts[COUNTS];
     size_t bytes = take_file(&rest, file);
-    int64_t accepted = htm_read(file, bytes, rows, ROWS, header, THREE);
+    int64_t accepted = htm_read(file, bytes, rows, ROWS, header, HEADER);
     size_t budget = header[2] ? (size_t)header[2] : HTM_DEFAULT_BUDGET;
     try_header(file, bytes);
     int64_t answer = try_cover(file, bytes, budget, lists, counts);

@@ -16,11 +16,12 @@
 
 #define BEHIND 16 /* elements of a lent list that no answer reaches */
 #define ALL (HTM_INDEX_LENGTH + BEHIND)
-#define SIX (6 + BEHIND)
+#define SIX (HTM_ENTRY_LENGTH + BEHIND)
 #define PAINT 0x5555555555555555
-#define RANGES 8192  /* enough for every region file */
-#define NUMBERS 1024 /* the most entries of one owner */
-#define COUNTS 11    /* the numbers of a trial */
+#define RANGES HTM_RANGES_LENGTH
+#define NUMBERS HTM_NUMBERS_LENGTH
+#define COUNTS HTM_TRIAL_COUNTS
+#define PART HTM_PART_LENGTH
 #define LINE (1 << 18)
 #define NOISE 20000
 
@@ -69,7 +70,8 @@ static void change(struct call c)
     must(call(c, other, HTM_INDEX_LENGTH) == answer && memcmp(other, kept, sizeof kept) == 0, "a list of the exact length gives the same");
     memcpy(other, before, sizeof other);
     int64_t space = call(c, other, HTM_INDEX_LENGTH - 1);
-    must(space == (answer == -8 || answer == -18 ? answer : -10) && memcmp(other, before, sizeof other) == 0, "a list that is short by one is refused and stays");
+    must(space == (answer == -HTM_VECTOR || answer == -HTM_OWNER ? answer : -HTM_SPACE), "a list that is short by one is refused");
+    must(memcmp(other, before, sizeof other) == 0, "a list that is short by one stays");
     if (answer == 0)
         made++;
     else
@@ -85,8 +87,10 @@ static void short_lists(void)
         struct call call;
         int64_t answer;
     } calls[] = {
-        {{true, 2, 5, 0, 0, 0}, -18}, {{true, 0, 5, 0, 0, 0}, -8}, {{true, 1, 5, 0, 0, 1048573}, -8}, {{true, 0, 5, 605396, 605396, 605396}, -10},
-        {{true, 0, 6, 0, 0, 1048576}, -10}, {{false, 2, 5, 0, 0, 0}, -18}, {{false, 0, 5, 0, 0, 0}, -10}, {{false, 0, 6, 0, 0, 0}, -10},
+        {{true, 2, 5, 0, 0, 0}, -HTM_OWNER},         {{true, 0, 5, 0, 0, 0}, -HTM_VECTOR},
+        {{true, 1, 5, 0, 0, HTM_K - 3}, -HTM_VECTOR}, {{true, 0, 5, 605396, 605396, 605396}, -HTM_SPACE},
+        {{true, 0, 6, 0, 0, HTM_K}, -HTM_SPACE},     {{false, 2, 5, 0, 0, 0}, -HTM_OWNER},
+        {{false, 0, 5, 0, 0, 0}, -HTM_SPACE},        {{false, 0, 6, 0, 0, 0}, -HTM_SPACE},
     };
     memset(kept, 0, sizeof kept);
     memcpy(kept, one, sizeof one);
@@ -122,8 +126,8 @@ static void list(const char *owner)
     strcpy(printed, "-");
     for (uint32_t i = 0; i < count; i++) {
         paint(out);
-        must(htm_index_entry(kept, ALL, i, out, 5) == -10 && stays(out, 0), "an entry in a list that is short by one is refused");
-        must(htm_index_entry(kept, HTM_INDEX_LENGTH, i, out, 6) == 1 && stays(out, 6), "an entry is six numbers");
+        must(htm_index_entry(kept, ALL, i, out, HTM_ENTRY_LENGTH - 1) == -HTM_SPACE && stays(out, 0), "an entry in a list that is short by one is refused");
+        must(htm_index_entry(kept, HTM_INDEX_LENGTH, i, out, HTM_ENTRY_LENGTH) == 1 && stays(out, HTM_ENTRY_LENGTH), "an entry is six numbers");
         if (*owner && strtoll(owner, NULL, 10) != out[2])
             continue;
         n += (size_t)sprintf(printed + n, "%s%" PRId64 " %" PRId64 " %" PRId64 " %" PRId64 " %" PRId64 " %" PRId64, n ? "|" : "", out[0], out[1], out[2],
@@ -132,15 +136,15 @@ static void list(const char *owner)
     paint(out);
     must(htm_index_entry(kept, ALL, (uint32_t)count, out, SIX) == 0 && stays(out, 0), "there is no entry at the count");
     must(htm_index_entry(kept, ALL, UINT32_MAX, out, 0) == 0, "where there is no entry no room is asked");
-    must(htm_index_entry(kept, HTM_INDEX_LENGTH - 1, 0, out, SIX) == -10 && stays(out, 0), "a list that is short by one has no entry");
-    must(htm_index_count(kept, HTM_INDEX_LENGTH - 1) == -10, "a list that is short by one has no count");
+    must(htm_index_entry(kept, HTM_INDEX_LENGTH - 1, 0, out, SIX) == -HTM_SPACE && stays(out, 0), "a list that is short by one has no entry");
+    must(htm_index_count(kept, HTM_INDEX_LENGTH - 1) == -HTM_SPACE, "a list that is short by one has no count");
     listed++;
 }
 
 /* ---- the frames of a region */
 
 struct lists {
-    uint64_t ranges[RANGES + BEHIND], counts[2 + BEHIND];
+    uint64_t ranges[RANGES + BEHIND], counts[HTM_FRAME_COUNTS + BEHIND];
     uint32_t numbers[NUMBERS + BEHIND];
 };
 
@@ -153,7 +157,7 @@ struct region {
     size_t count;
 };
 
-static const struct lengths longer = {ALL, RANGES + BEHIND, NUMBERS + BEHIND, 2 + BEHIND};
+static const struct lengths longer = {ALL, RANGES + BEHIND, NUMBERS + BEHIND, HTM_FRAME_COUNTS + BEHIND};
 static struct lists given, again, painted;
 
 static int64_t frames_of(uint32_t owner, const struct region *r, struct lengths n, struct lists *to)
@@ -166,11 +170,11 @@ static int64_t frames_of(uint32_t owner, const struct region *r, struct lengths 
 static void must_be_frames(const struct region *r)
 {
     static struct lists all;
-    uint64_t counts[6];
+    uint64_t counts[HTM_COVER_COUNTS];
     memset(&all, PAINT & 0xff, sizeof all);
-    must(htm_cover(r->bytes, r->count, all.ranges, longer.ranges, counts, 6) == 0, "a file with frames has a cover");
+    must(htm_cover(r->bytes, r->count, all.ranges, longer.ranges, counts, HTM_COVER_COUNTS) == 0, "a file with frames has a cover");
     must(given.counts[0] <= NUMBERS && given.counts[1] <= NUMBERS, "no more are delivered or tested than an owner has");
-    memcpy(all.counts, given.counts, 2 * sizeof all.counts[0]);
+    memcpy(all.counts, given.counts, HTM_FRAME_COUNTS * sizeof all.counts[0]);
     memcpy(all.numbers, given.numbers, (size_t)(given.counts[0] % (NUMBERS + 1)) * sizeof all.numbers[0]);
     must(memcmp(&given, &all, sizeof all) == 0, "the ranges are those of the cover, and other elements stay");
 }
@@ -183,9 +187,9 @@ static bool is_left(uint32_t owner, const struct region *r, struct lengths n, in
 /* The call with lists of exact lengths, and with each of them short by one; so many ranges are needed. */
 static void must_need(uint32_t owner, const struct region *r, size_t ranges, int64_t answer)
 {
-    struct lengths exact = {HTM_INDEX_LENGTH, ranges, NUMBERS, 2}, n = exact;
+    struct lengths exact = {HTM_INDEX_LENGTH, ranges, NUMBERS, HTM_FRAME_COUNTS}, n = exact;
     must(frames_of(owner, r, exact, &again) == answer && memcmp(&again, &given, sizeof given) == 0, "lists of the exact lengths give the same");
-    int64_t refusal = answer ? answer : -10;
+    int64_t refusal = answer ? answer : -HTM_SPACE;
     n.index--;
     must(is_left(owner, r, n, refusal), "an index that is short by one is refused, and all stays");
     n = exact;
@@ -203,9 +207,9 @@ static void must_need(uint32_t owner, const struct region *r, size_t ranges, int
 /* The elements of a range list that the file needs; what a budget of 0 needs where the file is refused. */
 static size_t ranges_for(const struct region *r)
 {
-    static int32_t rows[2560];
-    uint64_t header[3] = {0, 0, 0};
-    htm_read(r->bytes, r->count, rows, 2560, header, 3);
+    static int32_t rows[HTM_ROWS_LENGTH];
+    uint64_t header[HTM_HEADER_LENGTH] = {0, 0, 0};
+    htm_read(r->bytes, r->count, rows, HTM_ROWS_LENGTH, header, HTM_HEADER_LENGTH);
     return 4 * (header[2] ? header[2] : HTM_DEFAULT_BUDGET);
 }
 
@@ -275,9 +279,9 @@ static int64_t trial_of(uint32_t owner, const struct region *r, const struct set
 /* The same region with another depth and budget in its header. */
 static void with_setting(const struct region *r, struct setting s, struct region *to)
 {
-    static int32_t rows[2560];
-    uint64_t header[3];
-    must(htm_read(r->bytes, r->count, rows, 2560, header, 3) == 0, "a file that is tried has rows");
+    static int32_t rows[HTM_ROWS_LENGTH];
+    uint64_t header[HTM_HEADER_LENGTH];
+    must(htm_read(r->bytes, r->count, rows, HTM_ROWS_LENGTH, header, HTM_HEADER_LENGTH) == 0, "a file that is tried has rows");
     int64_t bytes = htm_write(s.depth, s.budget, rows, 5 * header[0], to->bytes, sizeof to->bytes);
     must(bytes > 0, "a setting that is tried is one of a file");
     to->count = (size_t)bytes;
@@ -293,11 +297,11 @@ static void must_be_trial(uint32_t owner, const struct region *r, const struct s
     const uint64_t *numbers = trial_given.numbers;
     memset(&all, PAINT & 0xff, sizeof all);
     for (int i = 0; i < 2; i++, numbers += 5) {
-        uint64_t counts[6] = {0};
+        uint64_t counts[HTM_COVER_COUNTS] = {0};
         with_setting(r, two[i], &one);
-        must(htm_cover(one.bytes, one.count, all.lists[i], RANGES + BEHIND, counts, 6) == 0, "a setting has a cover");
+        must(htm_cover(one.bytes, one.count, all.lists[i], RANGES + BEHIND, counts, HTM_COVER_COUNTS) == 0, "a setting has a cover");
         must(numbers[3] == counts[0] && numbers[4] == counts[1], "the range counts are those of the cover");
-        share[i] = (counts[3] + counts[4] + counts[5]) << 2 * (12 - two[i].depth);
+        share[i] = (counts[3] + counts[4] + counts[5]) << 2 * (HTM_MAX_DEPTH - two[i].depth);
         must(frames_of(owner, &one, longer, &again) == 0, "a setting has frames");
         must(numbers[0] + numbers[1] == again.counts[0] && numbers[1] + numbers[2] == again.counts[1], "delivered and tested are those of the frames");
     }
@@ -314,7 +318,7 @@ static bool trial_is_left(uint32_t owner, const struct region *r, const struct s
 /* The elements of a buffer that a setting needs; some where it is none. */
 static size_t room_for(struct setting s)
 {
-    return 4 * (0 < s.budget && s.budget <= 2048 ? s.budget : HTM_DEFAULT_BUDGET);
+    return 4 * (0 < s.budget && s.budget <= HTM_MAX_BUDGET ? s.budget : HTM_DEFAULT_BUDGET);
 }
 
 /* The trial with lists of exact lengths, and with each of them short by one: 10 comes after every other refusal. */
@@ -323,7 +327,7 @@ static void trial_must_need(uint32_t owner, const struct region *r, const struct
     struct room exact = {HTM_INDEX_LENGTH, room_for(two[0]), room_for(two[1]), COUNTS}, n = exact;
     must(trial_of(owner, r, two, exact, &trial_again) == answer, "lists of the exact lengths are tried alike");
     must(memcmp(&trial_again, &trial_given, sizeof trial_given) == 0, "lists of the exact lengths are left alike");
-    int64_t refusal = answer ? answer : -10;
+    int64_t refusal = answer ? answer : -HTM_SPACE;
     n.index--;
     must(trial_is_left(owner, r, two, n, refusal), "an index that is short by one is not tried, and all stays");
     n = exact;
@@ -341,25 +345,25 @@ static void trial_must_need(uint32_t owner, const struct region *r, const struct
 /* What htm_chosen tells of a status, some numbers and buffers of so many elements: the buffer and the length, each other element of the list staying. */
 static bool is_part(int64_t status, const struct buffers *b, size_t n1, size_t n2, uint64_t which, uint64_t length)
 {
-    uint64_t part[2 + BEHIND], wanted_part[2 + BEHIND];
+    uint64_t part[PART + BEHIND], wanted_part[PART + BEHIND];
     memset(part, PAINT & 0xff, sizeof part);
     memcpy(wanted_part, part, sizeof part);
     wanted_part[0] = which;
     wanted_part[1] = length;
-    return htm_chosen(status, b->numbers, COUNTS, b->lists[0], n1, b->lists[1], n2, part, 2) == 0 && memcmp(part, wanted_part, sizeof part) == 0;
+    return htm_chosen(status, b->numbers, COUNTS, b->lists[0], n1, b->lists[1], n2, part, PART) == 0 && memcmp(part, wanted_part, sizeof part) == 0;
 }
 
 static bool has_no_part(int64_t status, const struct buffers *b, size_t numbers, size_t p)
 {
-    uint64_t part[2] = {PAINT, PAINT};
-    return htm_chosen(status, b->numbers, numbers, b->lists[0], RANGES, b->lists[1], RANGES, part, p) == -10 && part[0] == PAINT && part[1] == PAINT;
+    uint64_t part[PART] = {PAINT, PAINT};
+    return htm_chosen(status, b->numbers, numbers, b->lists[0], RANGES, b->lists[1], RANGES, part, p) == -HTM_SPACE && part[0] == PAINT && part[1] == PAINT;
 }
 
 /* A list of numbers and a list for the part that are too short, with any status. */
 static void part_must_need(int64_t status, const struct buffers *b)
 {
-    must(has_no_part(status, b, COUNTS - 1, 2) && has_no_part(status, b, 0, 2), "numbers that are short tell no part");
-    must(has_no_part(status, b, COUNTS, 1) && has_no_part(status, b, COUNTS, 0), "a part that is short is refused, and stays");
+    must(has_no_part(status, b, COUNTS - 1, PART) && has_no_part(status, b, 0, PART), "numbers that are short tell no part");
+    must(has_no_part(status, b, COUNTS, PART - 1) && has_no_part(status, b, COUNTS, 0), "a part that is short is refused, and stays");
 }
 
 /* The same of the trial, where its chosen buffer and the other one have so many elements. */
@@ -374,14 +378,14 @@ static void print_part(size_t at)
 {
     static struct buffers before;
     const struct buffers *b = &trial_given;
-    uint64_t part[2] = {0, 0}, length = 2 * b->numbers[b->numbers[COUNTS - 1] == 1 ? 3 : 8];
+    uint64_t part[PART] = {0, 0}, length = 2 * b->numbers[b->numbers[COUNTS - 1] == 1 ? 3 : 8];
     memcpy(&before, b, sizeof before);
     must(has_part(RANGES + BEHIND, RANGES + BEHIND, length), "the part is the chosen outer list");
     must(has_part(length, 0, length), "a buffer of the exact length has the part");
     must(length == 0 || has_part(length - 1, RANGES, 0), "a buffer that is short by one has no part");
     must(has_part(0, RANGES, 0), "a buffer of no elements has no part");
     part_must_need(0, b);
-    must(htm_chosen(0, b->numbers, COUNTS + BEHIND, b->lists[0], RANGES, b->lists[1], RANGES, part, 2) == 0, "longer numbers tell a part");
+    must(htm_chosen(0, b->numbers, COUNTS + BEHIND, b->lists[0], RANGES, b->lists[1], RANGES, part, PART) == 0, "longer numbers tell a part");
     must(memcmp(&before, b, sizeof before) == 0, "numbers and buffers stay");
     const uint64_t *list = b->lists[part[0] == 2];
     for (uint64_t i = 0; i + 1 < part[1] && part[1] <= RANGES; i += 2)
@@ -490,8 +494,8 @@ static uint64_t next(void)
 /* Everything, a hemisphere, and a plane, of which all is to be tested. */
 static void make_regions(struct region *some)
 {
-    const int32_t K = 1048576, rows[3][10] = {{0, 0, 0, K, -K, 1, 0, 0, -K, -K}, {0, 0, 0, K, 0}, {0, 0, 0, K, 0, 0, 0, 0, -K, 0}};
-    const uint32_t depth[3] = {12, 2, 1};
+    const int32_t K = HTM_K, rows[3][10] = {{0, 0, 0, K, -K, 1, 0, 0, -K, -K}, {0, 0, 0, K, 0}, {0, 0, 0, K, 0, 0, 0, 0, -K, 0}};
+    const uint32_t depth[3] = {HTM_MAX_DEPTH, 2, 1};
     for (int i = 0; i < 3; i++)
         some[i].count = (size_t)htm_write(depth[i], 5, rows[i], i == 1 ? 5 : 10, some[i].bytes, sizeof some[i].bytes);
 }
@@ -503,7 +507,7 @@ static void frames_in_noise(const struct region *some, size_t elements, uint32_t
     struct lengths n = longer;
     n.index = elements;
     int64_t answer = frames_of(owner, r, n, &given);
-    must(answer == (owner < 2 ? elements < HTM_INDEX_LENGTH ? -10 : 0 : -18), "noise has frames, or is too short");
+    must(answer == (owner < 2 ? elements < HTM_INDEX_LENGTH ? -HTM_SPACE : 0 : -HTM_OWNER), "noise has frames, or is too short");
     if (answer == 0)
         must_be_frames(r);
     else
@@ -514,18 +518,19 @@ static void frames_in_noise(const struct region *some, size_t elements, uint32_t
 /* The settings of such a trial: good ones, and one that is none. */
 static void trial_in_noise(const struct region *some, size_t elements, uint32_t owner)
 {
-    static const struct setting settings[] = {{12, 1}, {1, 2048}, {3, 0}, {6, 5}, {2, 1}, {13, 5}, {5, 2049}, {0, UINT32_MAX}};
-    static const int64_t refusals[] = {0, 0, 0, 0, 0, -5, -6, -5};
+    static const struct setting settings[] = {{HTM_MAX_DEPTH, 1},     {1, HTM_MAX_BUDGET},     {3, 0}, {6, 5}, {2, 1},
+                                              {HTM_MAX_DEPTH + 1, 5}, {5, HTM_MAX_BUDGET + 1}, {0, UINT32_MAX}};
+    static const int64_t refusals[] = {0, 0, 0, 0, 0, -HTM_DEPTH, -HTM_BUDGET, -HTM_DEPTH};
     const struct region *r = &some[next() % 3];
     uint64_t a = next() % 8, b = next() % 8;
     struct setting two[2] = {settings[a], settings[b]};
     struct room n = roomy;
     if (r == &some[1] || r == &some[2]) /* a border at depth 12 has too many trixels */
         for (int i = 0; i < 2; i++)
-            two[i].depth = two[i].depth == 12 ? 4 : two[i].depth;
+            two[i].depth = two[i].depth == HTM_MAX_DEPTH ? 4 : two[i].depth;
     n.index = elements;
-    int64_t answer = trial_of(owner, r, two, n, &trial_given), short_index = elements < HTM_INDEX_LENGTH ? -10 : 0;
-    int64_t wanted_answer = owner > 1 ? -18 : refusals[a] ? refusals[a] : refusals[b] ? refusals[b] : short_index;
+    int64_t answer = trial_of(owner, r, two, n, &trial_given), short_index = elements < HTM_INDEX_LENGTH ? -HTM_SPACE : 0;
+    int64_t wanted_answer = owner > 1 ? -HTM_OWNER : refusals[a] ? refusals[a] : refusals[b] ? refusals[b] : short_index;
     must(answer == wanted_answer, "noise is tried, or too short");
     if (answer == 0) {
         must_be_trial(owner, r, two);
@@ -546,7 +551,7 @@ static void chosen_in_noise(void)
     if (next() % 4)
         b->numbers[COUNTS - 1] = 1 + next() % 2;
     size_t n1 = next() % 3 ? next() % 10 : next() % (RANGES + 1), n2 = next() % 3 ? next() % 10 : next() % (RANGES + 1);
-    static const int64_t statuses[] = {1, -1, -10, -18, 1ll << 32, INT64_MIN, INT64_MAX};
+    static const int64_t statuses[] = {1, -HTM_LONG, -HTM_SPACE, -HTM_OWNER, 1ll << 32, INT64_MIN, INT64_MAX};
     int64_t status = next() % 4 ? 0 : statuses[next() % (sizeof statuses / sizeof statuses[0])];
     uint64_t which = status ? 0 : b->numbers[COUNTS - 1] == 1 ? 1 : 2;
     uint64_t outer = b->numbers[which == 2 ? 8 : 3], room = which == 1 ? n1 : which == 2 ? n2 : 0;
@@ -569,13 +574,16 @@ static void noise(const struct region *some)
     if (line_number % 8 < 2)
         trial_in_noise(some, elements, (uint32_t)(next() % 3));
     chosen_in_noise();
-    struct call c = {next() % 2, (uint32_t)(next() % 3), (uint32_t)(next() % 8), 0, 0, 1048576};
+    struct call c = {next() % 2, (uint32_t)(next() % 3), (uint32_t)(next() % 8), 0, 0, HTM_K};
     int64_t answer = call(c, other, elements), count = htm_index_count(other, elements);
     must(answer == 0 || memcmp(kept, other, sizeof kept) == 0, "a refusal leaves a list of noise");
-    must((answer == -18) == (c.owner == 2), "another owner is refused on every list");
+    must((answer == -HTM_OWNER) == (c.owner == 2), "another owner is refused on every list");
     must(memcmp(kept + elements, other + elements, (ALL - elements) * sizeof kept[0]) == 0, "what is behind a list of noise stays");
-    must(elements < HTM_INDEX_LENGTH ? answer == (c.owner < 2 ? -10 : -18) && count == -10 : 0 <= count && count <= 2048, "noise has a count, or is too short");
-    must(htm_index_begin(other, elements) == (elements < HTM_INDEX_LENGTH ? -10 : 0), "any list that is long enough begins");
+    if (elements < HTM_INDEX_LENGTH)
+        must(answer == (c.owner < 2 ? -HTM_SPACE : -HTM_OWNER) && count == -HTM_SPACE, "noise that is too short is refused");
+    else
+        must(0 <= count && count <= 2048, "noise has a count");
+    must(htm_index_begin(other, elements) == (elements < HTM_INDEX_LENGTH ? -HTM_SPACE : 0), "any list that is long enough begins");
     must(elements < HTM_INDEX_LENGTH || htm_index_count(other, elements) == 0, "an index begins empty");
 }
 

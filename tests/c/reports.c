@@ -7,7 +7,7 @@
 
 #include "htm.h"
 
-#define K 1048576.0
+#define K ((double)HTM_K)
 #define REPORTS 200000
 
 enum { SINGLE, DOUBLE };
@@ -37,15 +37,15 @@ static bool usable(double x)
     return -1 <= x && x <= 1;
 }
 
-/* 5, then 12, then 8. An f32 is taken as the f64 of the same value. */
+/* Depth, then float, then vector. An f32 is taken as the f64 of the same value. */
 static int64_t wanted(double x, double y, double z, uint32_t depth)
 {
-    if (depth < 1 || depth > 12)
-        return -5;
+    if (depth < 1 || depth > HTM_MAX_DEPTH)
+        return -HTM_DEPTH;
     if (!usable(x) || !usable(y) || !usable(z))
-        return -12;
+        return -HTM_FLOAT;
     uint64_t id = lookup((int32_t)(x * K), (int32_t)(y * K), (int32_t)(z * K), depth);
-    return id ? (int64_t)id : -8;
+    return id ? (int64_t)id : -HTM_VECTOR;
 }
 
 static void compare(struct tally *t, int64_t got, int64_t want)
@@ -74,11 +74,11 @@ int main(void)
     for (int i = 0; i < n; i++)
         for (int j = 0; j < n; j++)
             for (int k = 0; k < n; k++)
-                for (uint32_t depth = 0; depth < 14; depth++)
+                for (uint32_t depth = 0; depth <= HTM_MAX_DEPTH + 1; depth++)
                     both(special[i], special[j], special[k], depth);
     for (int i = 0; i < REPORTS; i++) {
         double x = some(), y = some(), z = some(), r = sqrt(x * x + y * y + z * z);
-        both(x / r, y / r, z / r, 1 + (uint32_t)(next() % 12));
+        both(x / r, y / r, z / r, 1 + (uint32_t)(next() % HTM_MAX_DEPTH));
     }
     for (int i = SINGLE; i <= DOUBLE; i++)
         printf("reports f%d: %ld identifiers and %ld refusals equal, %ld differ\n", i == DOUBLE ? 64 : 32, tally[i].given, tally[i].refused,
