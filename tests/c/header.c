@@ -95,7 +95,17 @@ static void refusals(void)
     must_be(htm_remove(list, HTM_INDEX_LENGTH, 2, 7), -HTM_OWNER, "there is no owner 2");
 }
 
-/* ---- lengths, each where most is needed: enough, and one less is not. The index is the one that refusals left, with all of owner 1. */
+/* ---- limits and lengths, each where most is needed: enough, and one less is not. The index is the one that refusals left, with all of owner 1. */
+
+static void limits(void)
+{
+    size_t one = hemispheres(1, 1);
+    must_be(htm_write(HTM_MAX_DEPTH, 1, rows, one, file, sizeof file), 36, "HTM_MAX_DEPTH is a depth");
+    must_be(htm_write(1, HTM_MAX_BUDGET, rows, one, other, sizeof other), 36, "HTM_MAX_BUDGET is a budget");
+    must_be(htm_write(1, 0, rows, one, file, sizeof file), 36, "0 is a budget");
+    must_be(htm_cover(file, 36, ranges, 4 * HTM_DEFAULT_BUDGET, counts, HTM_COVER_COUNTS), 0, "a budget of 0 is HTM_DEFAULT_BUDGET");
+    must_be(htm_cover(file, 36, ranges, 4 * HTM_DEFAULT_BUDGET - 1, counts, HTM_COVER_COUNTS), -HTM_SPACE, "a budget of 0 is no less");
+}
 
 static void lengths(void)
 {
@@ -214,8 +224,9 @@ int main(void)
 {
     version();
     refusals();
+    limits();
     lengths();
-    printf("header: version %s, 18 refusals, lengths\n", HTM_VERSION);
+    printf("header: version %s, 18 refusals, limits, lengths\n", HTM_VERSION);
     null_trixels();
     null_files();
     null_index();
