@@ -10,7 +10,6 @@
 
 #define CONVEXES 64
 #define IN_CONVEX 8 /* so that there are 512 halfspaces in all */
-#define MORE 1024   /* of a list that is to be longer than needed */
 
 static long asked, wrong;
 
@@ -30,7 +29,7 @@ static void must_be(int64_t answer, int64_t wanted, const char *what)
         printf("header: it is %lld, not %lld\n", (long long)answer, (long long)wanted);
 }
 
-static int32_t rows[HTM_ROWS_LENGTH + MORE];
+static int32_t rows[HTM_ROWS_LENGTH];
 static uint8_t file[HTM_FILE_BYTES + 1], other[HTM_FILE_BYTES + 1], name[HTM_NAME_BYTES];
 static uint64_t ranges[HTM_RANGES_LENGTH], more[HTM_RANGES_LENGTH], header[HTM_HEADER_LENGTH], counts[HTM_TRIAL_COUNTS], part[HTM_PART_LENGTH];
 static int64_t list[HTM_INDEX_LENGTH], entry[HTM_ENTRY_LENGTH];
