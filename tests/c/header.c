@@ -10,7 +10,6 @@
 
 #define CONVEXES 64
 #define IN_CONVEX 8 /* so that there are 512 halfspaces in all */
-#define MORE 1024   /* of a list that is to be longer than needed */
 
 static long asked, wrong;
 
@@ -30,7 +29,7 @@ static void must_be(int64_t answer, int64_t wanted, const char *what)
         printf("header: it is %lld, not %lld\n", (long long)answer, (long long)wanted);
 }
 
-static int32_t rows[HTM_ROWS_LENGTH + MORE];
+static int32_t rows[HTM_ROWS_LENGTH];
 static uint8_t file[HTM_FILE_BYTES + 1], other[HTM_FILE_BYTES + 1], name[HTM_NAME_BYTES];
 static uint64_t ranges[HTM_RANGES_LENGTH], more[HTM_RANGES_LENGTH], header[HTM_CONTENTS_LENGTH], counts[HTM_TRIAL_COUNTS], part[HTM_PART_LENGTH];
 static int64_t list[HTM_INDEX_LENGTH], entry[HTM_ENTRY_LENGTH];
@@ -95,7 +94,17 @@ static void refusals(void)
     must_be(htm_remove(list, HTM_INDEX_LENGTH, 2, 7), -HTM_OWNER, "there is no owner 2");
 }
 
-/* ---- lengths, each where most is needed: enough, and one less is not. The index is the one that refusals left, with all of owner 1. */
+/* ---- limits and lengths, each where most is needed: enough, and one less is not. The index is the one that refusals left, with all of owner 1. */
+
+static void limits(void)
+{
+    size_t one = hemispheres(1, 1);
+    must_be(htm_write(HTM_MAX_DEPTH, 1, rows, one, file, sizeof file), 36, "HTM_MAX_DEPTH is a depth");
+    must_be(htm_write(1, HTM_MAX_BUDGET, rows, one, other, sizeof other), 36, "HTM_MAX_BUDGET is a budget");
+    must_be(htm_write(1, 0, rows, one, file, sizeof file), 36, "0 is a budget");
+    must_be(htm_cover(file, 36, ranges, 4 * HTM_DEFAULT_BUDGET, counts, HTM_COVER_COUNTS), 0, "a budget of 0 is HTM_DEFAULT_BUDGET");
+    must_be(htm_cover(file, 36, ranges, 4 * HTM_DEFAULT_BUDGET - 1, counts, HTM_COVER_COUNTS), -HTM_SPACE, "a budget of 0 is no less");
+}
 
 static void lengths(void)
 {
@@ -217,8 +226,9 @@ int main(void)
 {
     version();
     refusals();
+    limits();
     lengths();
-    printf("header: version %s, 18 refusals, lengths\n", HTM_VERSION);
+    printf("header: version %s, 18 refusals, limits, lengths\n", HTM_VERSION);
     null_trixels();
     null_files();
     null_index();
