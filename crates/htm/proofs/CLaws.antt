@@ -20,10 +20,10 @@ use Rattle.mesh.proofs.NameLaws.{depth-high, digits-length}
 use Rattle.mesh_trixels.proofs.SmallTrixels.{trixel-small}
 use Rattle.region.specs.declared.Header.{Header}
 use Rattle.region.specs.declared.Style.{Style}
-use Rattle.region.specs.Reader.{read}
+use Rattle.region.specs.Reader.{File, read}
 use Rattle.region.specs.Writer.{writeIn}
 use Rattle.region.specs.Converting.{inStyle, convert}
-use Rattle.region.specs.Answers.{readInto, readAnswer, readAfter, fileAnswer}
+use Rattle.region.specs.Answers.{headerOf, readInto, readAnswer, readAfter, fileAnswer}
 use Rattle.region.proofs.ReaderLaws.{accepted-short}
 use Rattle.region.proofs.WriteBack.{write-back}
 use Rattle.region.proofs.ConvertLaws.{converted}

@@ -10,9 +10,19 @@ use Rattle.htm.proofs.CLaws.{no-contents, no-contents-room, contents-pu
 use Rattle.htm.proofs.from_c.htm_header.Statement.{statement}
 use Rattle.htm.proofs.from_c.htm_header.Tie as tie
 
+-- Named anchors: the states that the proofs below read from, each named with a later state that leads back to it.
+abbrev start-before-rows : tie.After-rows → tie.Start
+start-before-rows c = c .before .before .before
+
+abbrev start-before-said : tie.After-said → tie.Start
+start-before-said c = start-before-rows (c .before .before .before)
+
+abbrev else1-before-convexes-in : tie.After-convexes-in → tie.Else1
+else1-before-convexes-in c = c .before .before .before
+
 -- the file is decoded
 file : (c : tie.After-known-told) → let d = c .before .before .before in
-    Decoded (now (d .before .before .before .before .args .file)) (c .before .said .given .0 .0) (d .decode .last .1 .0)
+    Decoded (now (start-before-rows (d .before) .args .file)) (c .before .said .given .0 .0) (d .decode .last .1 .0)
 file c =
     let s = c .before in
     let d = s .before .before in
@@ -21,7 +31,7 @@ file c =
 space : tie.Need-returns
 space c =
     let t = c .before .before in
-    let s = t .before .before .before .before .before .before .before .args in
+    let s = start-before-said (t .before) .args in
     let x = file t in
     let m = c .minus .ensures in
     let k = no-contents-room (now (s .file)) (now (s .header)) (x .file) (x .accepted) (omega (arith, c .before .if1 .taken)) in
@@ -35,7 +45,7 @@ given c =
     let p = c .before .before in
     let n = p .before .before in
     let e = n .before .before .before in
-    let s = e .before .before .before .before .before .before .before .before .args in
+    let s = start-before-said (e .before .before) .args in
     let x = file (e .before) in
     let k = contents-put (now (s .file)) (now (s .header)) (x .file) (x .accepted) (omega (arith, e .if1 .left)) in
     (k .0, contents-left x (now (s .header)) (n .convexes-in .ensures (x .file .region) (filled-rows x)) (p .put-contents .ensures) ∙ k .1)
@@ -44,7 +54,7 @@ refused : tie.Need-returns-3
 refused c =
     let t = c .before .before in
     let d = t .before .before in
-    let s = d .before .before .before .before .args in
+    let s = start-before-rows (d .before) .args in
     let m = c .minus2 .ensures in
     let k = no-contents (now (s .file)) (now (s .header)) _ (sym (ap headerGiven (t .said2 .given .1)) ∙ d .decode .ensures .0) in
     (held (m .1) tt .eq ∙ m .0 ∙ k .0, k .1)
@@ -59,7 +69,7 @@ htm-header-spec =
     space
     (λ c. omega arith)
     wants
-    (λ c κs. omega (arith, c .before .before .before .before .if1 .left))
+    (λ c κs. omega (arith, else1-before-convexes-in (c .before) .if1 .left))
     (λ c. c .match .keys2)
     (λ c κs. tt)
     (λ c. c .before .before .put-contents .kept .0)
