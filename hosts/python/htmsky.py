@@ -43,7 +43,7 @@ WORDS = dict(enumerate("long torn kind order depth budget crowd vector offset sp
 _MAX_DEPTH, _MAX_NAME_DEPTH = 12, 31
 _DEFAULT_BUDGET, _MAX_BUDGET = 16, 2048
 _NAME_BYTES, _CORNERS_LENGTH = 32, 9
-_FILE_BYTES, _ROWS_LENGTH, _HEADER_LENGTH = 10508, 2560, 3
+_FILE_BYTES, _ROWS_LENGTH, _HEADER_LENGTH, _CONTENTS_LENGTH = 10508, 2560, 3, 4
 _RANGES_LENGTH, _COVER_COUNTS = 8192, 6
 _INDEX_LENGTH, _ENTRY_LENGTH = 12289, 6
 _NUMBERS_LENGTH, _FRAME_COUNTS = 1024, 2
@@ -98,6 +98,7 @@ _lookup_line = _call(_htm, "htm_lookup_line", _i64, _list, _size, _u32)
 _name = _call(_htm, "htm_name", _i64, _u64, _list, _size)
 _identifier = _call(_htm, "htm_identifier", _u64, _list, _size)
 _corners = _call(_htm, "htm_corners", _i64, _u64, _list, _size)
+_header = _call(_htm, "htm_header", _i64, _list, _size, _list, _size)
 _read = _call(_htm, "htm_read", _i64, _list, _size, _list, _size, _list, _size)
 _write = _call(_htm, "htm_write", _i64, _u32, _u32, _list, _size, _list, _size)
 _write_grouped = _call(_htm, "htm_write_grouped", _i64, _u32, _u32, _list, _size, _list, _size)
@@ -526,9 +527,9 @@ def cover(file):
 
 def _budget(file):
     """The budget that counts for a region file."""
-    rows, header = (_i32 * _ROWS_LENGTH)(), (_u64 * _HEADER_LENGTH)()
-    _good(_read(file, len(file), rows, _ROWS_LENGTH, header, _HEADER_LENGTH))
-    return header[2] or _DEFAULT_BUDGET
+    contents = (_u64 * _CONTENTS_LENGTH)()
+    _good(_header(file, len(file), contents, _CONTENTS_LENGTH))
+    return contents[2] or _DEFAULT_BUDGET
 
 
 def _pairs(numbers_in, start, count):
