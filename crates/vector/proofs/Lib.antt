@@ -4,4 +4,5 @@ pub mod QuotLaws
 pub mod RootLaws
 pub mod SizeLaws
 pub mod Sizes
+pub mod UnitLaws
 pub mod VectorLaws
