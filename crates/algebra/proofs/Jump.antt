@@ -1,15 +1,14 @@
 -- The jump: a place p is followed down the mesh by three numbers d0 d1 d2 instead of by corners, P = d0 v0 + d1 v1 + d2 v2 with the true corners
 -- being nearly a multiple of p. A cut hardly moves P, and the side of P at a cut is the sign of d0 − d1 − d2. Everything per component. Assumes nothing.
 --   Size a x   −a ≤ x ≤ a
-use mathlib.Core.Path.{_≡_, refl, sym, subst}
+use mathlib.Core.Path.{_≡_, refl}
 use mathlib.Core.List.{[], _∷_}
 use lib.IntN.{ℤ, pos, negℤ, _+ℤ_, _-ℤ_, _*ℤ_}
 use lib.Signed.{_≤ℤ_, _<ℤ_}
 use Rattle.algebra.proofs.Ring.{Expr, con, _:+_, _:-_, _:*_, :neg}
-use Rattle.algebra.proofs.Order.{nn-mul, ≤ℤ-trans}
 use Rattle.algebra.proofs.Claim.{_:≤_, _:<_, _:≡_, nat, hyp, sq, eqn, _⊕_, _⊗_, ring, prove}
-use Rattle.algebra.proofs.Inequalities.{`0, `1, cancel-≤ℤ}
-use Rattle.algebra.proofs.Vec.{V3, E3, dot, cross, dotE, crossE, ringV, proveV}
+use Rattle.algebra.proofs.Inequalities.{`0, cancel-≤ℤ}
+use Rattle.algebra.proofs.Vec.{V3, E3, dot, cross, dotE, crossE, ringV}
 
 abbrev `2 : Expr
 `2 = con (pos 2)

@@ -4,16 +4,16 @@
 --   Level      the constants of one level: A bounds 2 K − n, L the components of the child's edges; b grows to b'
 --   Bend       2 K − n of a new corner, from −2 to A − 2
 --   Made       n w = K m − rest in each component
-use mathlib.Core.Path.{_≡_, refl, sym, subst, subst₂, _∙_}
+use mathlib.Core.Path.{_≡_, refl, sym, subst, _∙_}
 use mathlib.Core.List.{[], _∷_}
 use lib.IntN.{ℤ, pos, negℤ, _+ℤ_, _-ℤ_, _*ℤ_}
 use lib.Signed.{_≤ℤ_, _<ℤ_}
 use Rattle.algebra.proofs.Ring.{Expr, con, _:+_, _:-_, _:*_, :neg}
-use Rattle.algebra.proofs.Claim.{_:≤_, _:<_, _:≡_, nat, hyp, eqn, _⊕_, _⊗_, ring, prove}
-use Rattle.algebra.proofs.Inequalities.{`0, `1, <ℤ-mul, <ℤ→≤ℤ}
+use Rattle.algebra.proofs.Claim.{_:≤_, _:<_, _:≡_, nat, hyp, _⊕_, _⊗_, ring, prove}
+use Rattle.algebra.proofs.Inequalities.{`0, <ℤ-mul, <ℤ→≤ℤ}
 use Rattle.algebra.proofs.Vec.{V3}
 use Rattle.algebra.proofs.Jump.{Size, flat-child, flat-middle}
-use Rattle.algebra.proofs.JumpStep.{Near, Cornered, Cutting, factor, near-step}
+use Rattle.algebra.proofs.JumpStep.{Near, Cornered, Cutting, near-step}
 
 abbrev `2 : Expr
 `2 = con (pos 2)

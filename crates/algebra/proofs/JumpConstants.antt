@@ -2,19 +2,16 @@
 -- code tests; 64ths of a unit for b; volumes as parts of 2³⁰ of g. Each comparison is computed. Assumes nothing.
 --   level-0 .. level-5   the constants of the six steps
 --   wide-0 .. wide-5     a margin of 6 · 2⁴⁰, doubled at each level, is wide enough
-use mathlib.Core.Path.{_≡_, refl, sym, subst, _∙_, ap}
+use mathlib.Core.Path.{_≡_, refl, subst}
 use mathlib.Core.List.{[], _∷_}
-use Prim.Native.Nat.{ℕ, zero, suc, _<_}
+use Prim.Native.Nat.{ℕ, zero, suc, _*_, _^_, _<_}
 use native.Mathlib.Omega.{arith}
-use lib.IntN.{ℤ, pos, negℤ, _+ℤ_, _-ℤ_, _*ℤ_}
+use lib.IntN.{ℤ, pos, _+ℤ_, _-ℤ_, _*ℤ_}
 use lib.Signed.{_≤ℤ_, _<ℤ_, leZ-yes, ltZ-yes}
-use Rattle.algebra.proofs.Ring.{Expr, con, _:+_, _:-_, _:*_, :neg}
-use Rattle.algebra.proofs.Order.{nn-mul, ≤ℤ-trans}
-use Rattle.algebra.proofs.Claim.{_:≤_, _:<_, _:≡_, nat, hyp, eqn, _⊕_, _⊗_, ring, prove}
-use Rattle.algebra.proofs.Inequalities.{`0, `1, cancel-≤ℤ, <ℤ-mul, <ℤ→≤ℤ}
-use Rattle.algebra.proofs.JumpChild.{Level}
-use Rattle.algebra.proofs.JumpShape.{Shaping}
-use Rattle.algebra.proofs.JumpVolume.{Shrinking}
+use Rattle.algebra.proofs.Ring.{_:+_, _:-_, _:*_}
+use Rattle.algebra.proofs.Order.{≤ℤ-trans}
+use Rattle.algebra.proofs.Claim.{_:≤_, _:<_, _:≡_, hyp, _⊕_, _⊗_, ring, prove}
+use Rattle.algebra.proofs.Inequalities.{`0, cancel-≤ℤ}
 use Rattle.algebra.proofs.JumpLevel.{Step, Wide}
 
 -- K, the length of a rest, 2³⁰, the least volume at the start
@@ -318,15 +315,9 @@ normalAt (suc (suc (suc (suc zero)))) = pos 4754781859
 normalAt (suc (suc (suc (suc (suc zero))))) = pos 2391920439
 normalAt (suc (suc (suc (suc (suc (suc i)))))) = pos 2391920439
 
--- the margin at level i
+-- the margin at level i: 6 · 2⁴⁰, doubled i times
 unfoldable pub marginAt : ℕ → ℤ
-marginAt zero = pos 6597069766656
-marginAt (suc zero) = pos 13194139533312
-marginAt (suc (suc zero)) = pos 26388279066624
-marginAt (suc (suc (suc zero))) = pos 52776558133248
-marginAt (suc (suc (suc (suc zero)))) = pos 105553116266496
-marginAt (suc (suc (suc (suc (suc zero))))) = pos 211106232532992
-marginAt (suc (suc (suc (suc (suc (suc i)))))) = pos 211106232532992
+marginAt i = pos (6597069766656 * 2 ^ i)
 
 pub step-at : (i : ℕ) → i < 6 → (g : ℤ) → least ≤ℤ g → Step k (pos 64) (bAt i) (bAt (suc i)) (bendAt i) (pos (edgeAt i)) (pos (edgeAt (suc i))) j D (partAt i *ℤ g) (partAt (suc i) *ℤ g)
 unfolding bAt edgeAt partAt bendAt
@@ -347,13 +338,3 @@ wide-of (suc (suc (suc zero))) t g S h n e = wide-3 g S h n e
 wide-of (suc (suc (suc (suc zero)))) t g S h n e = wide-4 g S h n e
 wide-of (suc (suc (suc (suc (suc zero))))) t g S h n e = wide-5 g S h n e
 wide-of (suc (suc (suc (suc (suc (suc i)))))) t g S h n e = absurd (omega arith)
-
--- the margin doubles
-pub margin-doubles : (i : ℕ) → i < 5 → marginAt (suc i) ≡ pos 2 *ℤ marginAt i
-unfolding marginAt
-margin-doubles zero t = refl
-margin-doubles (suc zero) t = refl
-margin-doubles (suc (suc zero)) t = refl
-margin-doubles (suc (suc (suc zero))) t = refl
-margin-doubles (suc (suc (suc (suc zero)))) t = refl
-margin-doubles (suc (suc (suc (suc (suc i))))) t = absurd (omega arith)

@@ -5,17 +5,17 @@
 --   Here       the numbers follow p, the trixel has its shape, D times its volume is at least G
 --   Step       the constants of a level
 --   Wide       the margin M of a level
-use mathlib.Core.Path.{_≡_, refl, sym, subst, subst₂, _∙_, ap, ap₂}
+use mathlib.Core.Path.{_≡_, refl, sym, subst}
 use mathlib.Core.List.{[], _∷_}
 use lib.IntN.{ℤ, pos, negℤ, _+ℤ_, _-ℤ_, _*ℤ_}
 use lib.Signed.{_≤ℤ_, _<ℤ_, <ℤ-≤ℤ-trans}
 use Rattle.algebra.proofs.Ring.{Expr, con, _:+_, _:-_, _:*_, :neg}
-use Rattle.algebra.proofs.Order.{nn-mul, nn-add, ≤ℤ-trans}
+use Rattle.algebra.proofs.Order.{nn-mul, ≤ℤ-trans}
 use Rattle.algebra.proofs.Claim.{_:≤_, _:<_, _:≡_, nat, hyp, sq, eqn, _⊕_, _⊗_, ring, prove}
 use Rattle.algebra.proofs.Inequalities.{`0, `1, cancel-≤ℤ, <ℤ-mul, <ℤ→≤ℤ, <ℤ-by-no}
-use Rattle.algebra.proofs.Vec.{V3, E3, dot, cross, dotE, crossE, ringV, dot-nn}
+use Rattle.algebra.proofs.Vec.{V3, dot, cross, dotE, crossE, ringV}
 use Rattle.algebra.proofs.Jump.{Size, det}
-use Rattle.algebra.proofs.JumpChild.{Follows, Level, Made, Bend, Apart, both, kept-bend, kept-made, child-step, middle-step, turned}
+use Rattle.algebra.proofs.JumpChild.{Follows, Level, Made, Bend, both, kept-bend, kept-made, child-step, middle-step, turned}
 use Rattle.algebra.proofs.JumpSide.{rests, Taxi, taxi-dot, place, place-along}
 use Rattle.algebra.proofs.JumpSure.{Margin, near-size, away, away-along, sure-above, sure-below}
 use Rattle.algebra.proofs.Lengths.{Long, differenceOf, flip}

@@ -2,20 +2,18 @@
 -- long. w is made of m by n w = K m − rest, n the root of m·m; the rest has the sign of w. Assumes nothing.
 --   Rooted     n = 2 K − h is the root of m·m
 --   Corner     from K − 2 to K + 1 long
-use mathlib.Core.Path.{_≡_, refl, sym, subst, subst₂, _∙_}
+use mathlib.Core.Path.{_≡_, refl, subst}
 use mathlib.Core.List.{[], _∷_}
 use lib.IntN.{ℤ, pos, negℤ, _+ℤ_, _-ℤ_, _*ℤ_}
 use lib.Signed.{_≤ℤ_, _<ℤ_}
 use Rattle.algebra.proofs.Ring.{Expr, con, _:+_, _:-_, _:*_, :neg}
-use Rattle.algebra.proofs.Order.{nn-mul, nn-add, nn-sq, ≤ℤ-trans}
 use Rattle.algebra.proofs.Claim.{_:≤_, _:<_, _:≡_, nat, hyp, sq, eqn, _⊕_, _⊗_, ring, prove}
-use Rattle.algebra.proofs.Inequalities.{`0, `1, ≤ℤ-by-no, ≤ℤ-mul, sq-≤ℤ, cancel-≤ℤ, <ℤ-mul, <ℤ→≤ℤ}
-use Rattle.algebra.proofs.Vec.{V3, E3, dot, cross, dotE, crossE, ringV, proveV, dot-nn}
+use Rattle.algebra.proofs.Inequalities.{`0, `1, ≤ℤ-by-no, sq-≤ℤ, cancel-≤ℤ, <ℤ-mul, <ℤ→≤ℤ}
+use Rattle.algebra.proofs.Vec.{V3, dot, dot-nn}
 use Rattle.algebra.proofs.Jump.{Size}
-use Rattle.algebra.proofs.JumpStep.{Cornered}
 use Rattle.algebra.proofs.JumpChild.{Made, Bend, Apart, both}
 use Rattle.algebra.proofs.JumpSide.{rests}
-use Rattle.algebra.proofs.Lengths.{Long, sumOf, differenceOf, times, long-wider, long-sum, long-times, long-divided, long-components, long-x, long-y, long-z}
+use Rattle.algebra.proofs.Lengths.{Long, sumOf, differenceOf, times, long-sum, long-times, long-divided, long-components, long-x, long-y, long-z}
 
 abbrev `2 : Expr
 `2 = con (pos 2)

@@ -1,16 +1,15 @@
 -- The side of a cut by the jump's numbers. With c = w2 × w1 and f0 = d0 − d1 − d2, K c·P = K f0 c·v0 + d1 c·r2 + d2 c·r1; so where f0 is beyond a margin M,
 -- c·p is beyond 3 times the largest component of c, with the sign of f0. And the start, by Cramer. Assumes nothing.
-use mathlib.Core.Path.{_≡_, refl, sym, subst, subst₂, _∙_, ap, ap₂}
+use mathlib.Core.Path.{_≡_, refl, subst, _∙_, ap}
 use mathlib.Core.List.{[], _∷_}
 use lib.IntN.{ℤ, pos, negℤ, _+ℤ_, _-ℤ_, _*ℤ_}
 use lib.Signed.{_≤ℤ_, _<ℤ_}
 use Rattle.algebra.proofs.Ring.{Expr, con, _:+_, _:-_, _:*_, :neg}
-use Rattle.algebra.proofs.Order.{≡→≤ℤ}
-use Rattle.algebra.proofs.Claim.{_:≤_, _:<_, _:≡_, nat, hyp, sq, eqn, _⊕_, _⊗_, ring, prove}
-use Rattle.algebra.proofs.Inequalities.{`0, `1, <ℤ-mul, <ℤ→≤ℤ, <ℤ-by-no}
+use Rattle.algebra.proofs.Claim.{_:≤_, _:<_, _:≡_, nat, hyp, eqn, _⊕_, _⊗_, prove}
+use Rattle.algebra.proofs.Inequalities.{`0, `1, <ℤ-by-no}
 use Rattle.algebra.proofs.Vec.{V3, E3, dot, cross, dotE, crossE, ringV}
 use Rattle.algebra.proofs.Jump.{Size, size-mul, det, cramer-x, cramer-y, cramer-z}
-use Rattle.algebra.proofs.JumpStep.{Near, Cornered}
+use Rattle.algebra.proofs.JumpStep.{Near}
 use Rattle.algebra.proofs.JumpChild.{Follows, Made, both}
 
 abbrev `2 : Expr

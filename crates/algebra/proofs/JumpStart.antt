@@ -1,12 +1,12 @@
 -- The start of the jump: the three determinants of exact corners and p follow p with nothing lost, and their sum S is nearly the volume. Assumes nothing.
-use mathlib.Core.Path.{_≡_, refl, sym, subst, _∙_, ap}
+use mathlib.Core.Path.{_≡_, refl, subst}
 use mathlib.Core.List.{[], _∷_}
-use lib.IntN.{ℤ, pos, negℤ, _+ℤ_, _-ℤ_, _*ℤ_}
+use lib.IntN.{ℤ, pos, _+ℤ_, _-ℤ_, _*ℤ_}
 use lib.Signed.{_≤ℤ_, _<ℤ_, <ℤ-≤ℤ-trans}
 use Rattle.algebra.proofs.Ring.{Expr, con, _:+_, _:-_, _:*_, :neg}
-use Rattle.algebra.proofs.Claim.{_:≤_, _:<_, _:≡_, nat, hyp, sq, eqn, _⊕_, _⊗_, ring, prove}
+use Rattle.algebra.proofs.Claim.{_:≤_, _:<_, _:≡_, nat, hyp, sq, eqn, _⊕_, _⊗_, prove}
 use Rattle.algebra.proofs.Inequalities.{`0, `1, <ℤ→≤ℤ, <ℤ-mul, <ℤ-by-no}
-use Rattle.algebra.proofs.Vec.{V3, E3, dot, cross, dotE, crossE, ringV}
+use Rattle.algebra.proofs.Vec.{V3, dot, dotE, crossE, ringV}
 use Rattle.algebra.proofs.Jump.{det}
 use Rattle.algebra.proofs.JumpSide.{start}
 use Rattle.algebra.proofs.Lengths.{Long, differenceOf, flip}

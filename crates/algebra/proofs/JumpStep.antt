@@ -1,14 +1,13 @@
 -- The invariant of the jump and its step. Numbers d0 d1 d2 ≥ 0 at the corners v0 v1 v2 follow p: there are e, l > 0 with e (Σ di vi) = l p up to b/u · e S
 -- in each component, S = d0 + d1 + d2. A cut into the corners w with the flat numbers z of the child keeps it, with a larger b. Assumes nothing.
-use mathlib.Core.Path.{_≡_, refl, sym, subst}
+use mathlib.Core.Path.{_≡_, refl, subst}
 use mathlib.Core.List.{[], _∷_}
 use lib.IntN.{ℤ, pos, negℤ, _+ℤ_, _-ℤ_, _*ℤ_}
 use lib.Signed.{_≤ℤ_, _<ℤ_}
-use Rattle.algebra.proofs.Ring.{Expr, con, _:+_, _:-_, _:*_, :neg}
+use Rattle.algebra.proofs.Ring.{con, _:+_, _:-_, _:*_}
 use Rattle.algebra.proofs.Order.{nn-mul, nn-add}
-use Rattle.algebra.proofs.Claim.{_:≤_, _:<_, _:≡_, nat, hyp, eqn, _⊕_, _⊗_, ring, prove}
-use Rattle.algebra.proofs.Inequalities.{`0, `1, cancel-≤ℤ, <ℤ-mul, <ℤ→≤ℤ}
-use Rattle.algebra.proofs.Vec.{V3}
+use Rattle.algebra.proofs.Claim.{_:≤_, _:<_, _:≡_, nat, hyp, _⊕_, _⊗_, ring, prove}
+use Rattle.algebra.proofs.Inequalities.{`0, cancel-≤ℤ}
 use Rattle.algebra.proofs.Jump.{Size, size-mul, cut-identity, cut-error, cut-error-low, pairs-at-most, step-high, step-low}
 
 -- one component

@@ -1,17 +1,17 @@
 -- A number of the jump beyond its margin gives the side: with d0 − d1 − d2 > M, c·p > 3 m for the cut's normal c = w2 × w1 and its largest component m;
 -- with d0 − d1 − d2 < −M, c·p < −3 m. Then Scale(c)·p has the sign of c·p. Assumes nothing.
 --   Margin     what M has to be for the cut: q l ≤ q' e S bounds l by S; t and m bound c's components, their sum and each; g = c·v0
-use mathlib.Core.Path.{_≡_, refl, sym, subst, _∙_, ap}
+use mathlib.Core.Path.{_≡_, refl}
 use mathlib.Core.List.{[], _∷_}
 use lib.IntN.{ℤ, pos, negℤ, _+ℤ_, _-ℤ_, _*ℤ_}
 use lib.Signed.{_≤ℤ_, _<ℤ_}
 use Rattle.algebra.proofs.Ring.{Expr, con, _:+_, _:-_, _:*_, :neg}
-use Rattle.algebra.proofs.Order.{nn-mul, nn-add, ≤ℤ-trans}
-use Rattle.algebra.proofs.Claim.{_:≤_, _:<_, _:≡_, nat, hyp, sq, eqn, _⊕_, _⊗_, ring, prove}
-use Rattle.algebra.proofs.Inequalities.{`0, `1, <ℤ-mul, <ℤ→≤ℤ, <ℤ-turn, <ℤ-by-no}
-use Rattle.algebra.proofs.Vec.{V3, E3, dot, cross, dotE, crossE, ringV}
-use Rattle.algebra.proofs.Jump.{Size, size-mul}
-use Rattle.algebra.proofs.JumpStep.{Near, Cornered}
+use Rattle.algebra.proofs.Order.{nn-mul, ≤ℤ-trans}
+use Rattle.algebra.proofs.Claim.{_:≤_, _:≡_, nat, hyp, eqn, _⊕_, _⊗_, prove}
+use Rattle.algebra.proofs.Inequalities.{`0, `1, <ℤ-mul, <ℤ→≤ℤ, <ℤ-turn}
+use Rattle.algebra.proofs.Vec.{V3, dot, cross, dotE, ringV}
+use Rattle.algebra.proofs.Jump.{Size}
+use Rattle.algebra.proofs.JumpStep.{Near}
 use Rattle.algebra.proofs.JumpChild.{Follows, Made, Bend, both}
 use Rattle.algebra.proofs.JumpSide.{Taxi, taxi-dot, place, rests, side-identity, beyond, cancel-<ℤ}
 

@@ -1,19 +1,18 @@
 -- The volume det(v0, v1, v2) of a trixel's corners from level to level: that of a child is a fourth, less what the rests take. And the size of a cut's
 -- normal. Assumes nothing.
-use mathlib.Core.Path.{_≡_, refl, sym, subst, subst₂, _∙_, ap, ap₂}
+use mathlib.Core.Path.{_≡_, refl, sym, subst, _∙_, ap₂}
 use mathlib.Core.List.{[], _∷_}
 use lib.IntN.{ℤ, pos, negℤ, _+ℤ_, _-ℤ_, _*ℤ_}
 use lib.Signed.{_≤ℤ_, _<ℤ_}
 use Rattle.algebra.proofs.Ring.{Expr, con, _:+_, _:-_, _:*_, :neg}
-use Rattle.algebra.proofs.Order.{nn-mul, nn-add, nn-sq, by-order, ≤ℤ-trans}
+use Rattle.algebra.proofs.Order.{nn-mul, by-order}
 use Rattle.algebra.proofs.Claim.{_:≤_, _:<_, _:≡_, nat, hyp, sq, eqn, _⊕_, _⊗_, ring, prove}
-use Rattle.algebra.proofs.Inequalities.{`0, `1, ≤ℤ-by-no, ≤ℤ-mul, sq-≤ℤ, cancel-≤ℤ, <ℤ-mul, <ℤ→≤ℤ}
-use Rattle.algebra.proofs.Vec.{V3, E3, dot, cross, dotE, crossE, ringV, proveV, dot-nn}
+use Rattle.algebra.proofs.Inequalities.{`0, `1, ≤ℤ-by-no, ≤ℤ-mul, sq-≤ℤ, <ℤ-mul, <ℤ→≤ℤ}
+use Rattle.algebra.proofs.Vec.{V3, E3, dot, cross, dotE, crossE, ringV}
 use Rattle.algebra.proofs.Jump.{Size, det}
-use Rattle.algebra.proofs.JumpStep.{Cornered}
 use Rattle.algebra.proofs.JumpChild.{Made, Bend, both}
 use Rattle.algebra.proofs.JumpSide.{rests, Taxi}
-use Rattle.algebra.proofs.Lengths.{Long, sumOf, differenceOf, flip, times, long-dot, long-sum, long-cross, long-x, long-y, long-z}
+use Rattle.algebra.proofs.Lengths.{Long, differenceOf, flip, times, long-dot, long-sum, long-cross}
 use Rattle.algebra.proofs.JumpShape.{Corner, Shaping, corner-long, rest-long, same-vector}
 
 abbrev `2 : Expr

@@ -1,13 +1,13 @@
 -- Lengths of vectors without roots: Long a x says that x is at most a long. Sums, multiples, products; each by Cauchy and Schwarz. Assumes nothing.
 use mathlib.Core.Path.{_≡_, refl, sym, subst}
 use mathlib.Core.List.{[], _∷_}
-use lib.IntN.{ℤ, pos, negℤ, _+ℤ_, _-ℤ_, _*ℤ_}
+use lib.IntN.{ℤ, pos, _+ℤ_, _-ℤ_, _*ℤ_}
 use lib.Signed.{_≤ℤ_, _<ℤ_}
 use Rattle.algebra.proofs.Ring.{Expr, con, _:+_, _:-_, _:*_, :neg}
 use Rattle.algebra.proofs.Order.{nn-mul, nn-add, nn-sq, ≤ℤ-trans}
-use Rattle.algebra.proofs.Claim.{_:≤_, _:<_, _:≡_, nat, hyp, sq, eqn, _⊕_, _⊗_, ring, prove}
-use Rattle.algebra.proofs.Inequalities.{`0, `1, ≤ℤ-mul, sq-≤ℤ, cancel-≤ℤ, <ℤ-mul}
-use Rattle.algebra.proofs.Vec.{V3, E3, dot, cross, dotE, crossE, ringV, proveV, dot-nn, cauchy-schwarz}
+use Rattle.algebra.proofs.Claim.{_:≤_, _:<_, _:≡_, nat, hyp, sq, _⊕_, _⊗_, ring, prove}
+use Rattle.algebra.proofs.Inequalities.{`0, ≤ℤ-mul, sq-≤ℤ, cancel-≤ℤ, <ℤ-mul}
+use Rattle.algebra.proofs.Vec.{V3, dot, cross, dotE, crossE, ringV, proveV, dot-nn, cauchy-schwarz}
 use Rattle.algebra.proofs.Jump.{Size}
 
 abbrev `2 : Expr
@@ -34,9 +34,6 @@ flip {c} a b p = record {
       (ring 6 (λ a b c x y z. (a :- x) :* (a :- x) :+ (b :- y) :* (b :- y) :+ (c :- z) :* (c :- z) :≡ (x :- a) :* (x :- a) :+ (y :- b) :* (y :- b) :+ (z :- c) :* (z :- c)) refl (a .x) (a .y) (a .z) (b .x) (b .y) (b .z))
       (p .square);
 }
-
-pub long-wider : {a b : ℤ} {x : V3} → a ≤ℤ b → Long a x → Long b x
-long-wider {a} {b} {x} h p = record { nn = ≤ℤ-trans (p .nn) h; square = ≤ℤ-trans (p .square) (≤ℤ-mul (p .nn) h (p .nn) h) }
 
 -- a square that is at most a² is of a number that is at most a in size
 pub by-square : {a x : ℤ} → pos 0 ≤ℤ a → (x *ℤ x) ≤ℤ (a *ℤ a) → Size a x

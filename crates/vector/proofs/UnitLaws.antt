@@ -7,24 +7,22 @@ use native.Mathlib.Nat.{div-add-mod', mod-lt, mul-comm}
 use native.Mathlib.Omega.{arith}
 use mathlib.Core.Path.{_≡_, refl, sym, ap, subst, _∙_}
 use mathlib.Core.List.{[], _∷_}
-use mathlib.Core.Bool.{cond}
 use borrow.Author.Tests.{ne-eqb}
-use lib.Dec.{le→leb, lt→ltb, eqb}
+use lib.Dec.{le→leb, lt→ltb}
 use lib.IntN.{ℤ, pos, negsuc, negℤ, natAbs, _+ℤ_, _-ℤ_, _*ℤ_}
 use lib.Signed.{_≤ℤ_, _<ℤ_, leZ-yes, ltZ-yes}
 use Rattle.algebra.proofs.Ring.{Expr, con, _:+_, _:-_, _:*_, :neg}
-use Rattle.algebra.proofs.Claim.{_:≤_, _:<_, _:≡_, nat, hyp, eqn, _⊕_, _⊗_, ring, prove}
+use Rattle.algebra.proofs.Claim.{_:≤_, _:≡_, nat, hyp, eqn, _⊕_, _⊗_, ring, prove}
 use Rattle.algebra.proofs.Inequalities.{`0, `1}
 use Rattle.algebra.proofs.Order.{nn-pos, nn-mul, nn-add}
 use Rattle.algebra.proofs.Vec.{V3}
 use Rattle.algebra.proofs.Jump.{Size}
 use Rattle.algebra.proofs.JumpStep.{Cornered}
-use Rattle.algebra.proofs.JumpChild.{Made}
 use Rattle.algebra.proofs.JumpShape.{Rooted}
 use Rattle.algebra.proofs.JumpLevel.{New}
 use Rattle.vector.specs.declared.Vec3.{Vec3}
 use Rattle.vector.specs.Numbers.{K, quot, root}
-use Rattle.vector.specs.Vectors.{vec, dot, dividedBy, unit}
+use Rattle.vector.specs.Vectors.{vec, dot, unit}
 use Rattle.vector.proofs.RootLaws.{IsRoot, root-is}
 use Rattle.vector.proofs.SizeLaws.{dot-self}
 

@@ -7,9 +7,9 @@ use mathlib.Core.Path.{_≡_, refl}
 use mathlib.Core.List.{[], _∷_}
 use lib.IntN.{ℤ, pos, negℤ, _+ℤ_, _-ℤ_, _*ℤ_}
 use lib.Signed.{_≤ℤ_, _<ℤ_, leZ-yes, ltZ-yes, <ℤ-≤ℤ-trans}
-use Rattle.algebra.proofs.Ring.{Expr, con, _:+_, _:-_, _:*_, :neg}
-use Rattle.algebra.proofs.Claim.{_:≤_, _:<_, _:≡_, nat, hyp, _⊕_, _⊗_, prove}
-use Rattle.algebra.proofs.Inequalities.{`0, `1, <ℤ→≤ℤ}
+use Rattle.algebra.proofs.Ring.{_:+_, _:-_, :neg}
+use Rattle.algebra.proofs.Claim.{_:≤_, _:<_, nat, hyp, _⊕_, prove}
+use Rattle.algebra.proofs.Inequalities.{`0, <ℤ→≤ℤ}
 use Rattle.algebra.proofs.Jump.{det}
 use Rattle.algebra.proofs.JumpVolume.{Shape}
 use Rattle.algebra.proofs.JumpLevel.{Here, Pointing, Step, Wide}
@@ -22,7 +22,7 @@ use Rattle.vector.proofs.UnitLaws.{three}
 use Rattle.mesh.specs.declared.Trixel.{Trixel}
 use Rattle.mesh.specs.Trixels.{child}
 use Rattle.mesh.specs.Lookup.{digit}
-use Rattle.mesh_lookup.proofs.JumpLaws.{jump-0, jump-1, jump-2, jump-3, child-0, child-1, child-2, child-3}
+use Rattle.mesh_jump.proofs.JumpLaws.{jump-0, jump-1, jump-2, jump-3, child-0, child-1, child-2, child-3}
 
 pub record At (g S : ℤ) (p : Vec3) (i : ℕ) (x : Trixel) (d0 d1 d2 : ℤ) : Type 0 where
   pub here : Here K (pos 64) (bAt i) (pos (edgeAt i)) D (partAt i *ℤ g) S d0 d1 d2 (three (x .v0)) (three (x .v1)) (three (x .v2)) (three p)

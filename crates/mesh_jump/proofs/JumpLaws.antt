@@ -2,15 +2,15 @@
 -- the sign of the number. Assumes nothing.
 use Prim.Native.Nat.{ℕ, zero, suc, _+_, _*_, _<_, _≤_}
 use native.Mathlib.Omega.{arith}
-use mathlib.Core.Path.{_≡_, refl, sym, ap, subst, _∙_}
+use mathlib.Core.Path.{_≡_, refl}
 use mathlib.Core.List.{[], _∷_}
 use mathlib.Core.Bool.{Bool, true, false}
 use lib.Dec.{T, leb, leb→le, le→leb, ltb→lt}
 use lib.IntN.{ℤ, pos, negsuc, negℤ, natAbs, _+ℤ_, _-ℤ_, _*ℤ_}
-use lib.Signed.{leZ, _≤ℤ_, _<ℤ_, leZ-yes, <ℤ-≤ℤ-trans}
+use lib.Signed.{_≤ℤ_, _<ℤ_, leZ-yes}
 use Rattle.algebra.proofs.Ring.{Expr, con, _:+_, _:-_, _:*_, :neg}
 use Rattle.algebra.proofs.Claim.{_:≤_, _:<_, _:≡_, nat, hyp, eqn, _⊕_, _⊗_, ring, prove}
-use Rattle.algebra.proofs.Inequalities.{`0, `1, <ℤ→≤ℤ}
+use Rattle.algebra.proofs.Inequalities.{`1, <ℤ→≤ℤ}
 use Rattle.algebra.proofs.Sizes.{Upto}
 use Rattle.algebra.proofs.Vec.{V3}
 use Rattle.algebra.proofs.Jump.{Size}
@@ -19,16 +19,16 @@ use Rattle.algebra.proofs.Lengths.{Long, differenceOf, flip, long-x, long-y, lo
 use Rattle.algebra.proofs.JumpShape.{Corner}
 use Rattle.algebra.proofs.JumpLevel.{New, Pointing, Here, Step, Wide, here-turned, new-swapped, normal-long, here-above, here-below, here-child, here-middle}
 use Rattle.vector.specs.declared.Vec3.{Vec3}
-use Rattle.vector.specs.Numbers.{K, Kℕ, root}
+use Rattle.vector.specs.Numbers.{K, root}
 use Rattle.vector.specs.Vectors.{plus, dot, cross, unit, largest, scale}
-use Rattle.vector.proofs.Sizes.{AtMost, Small}
+use Rattle.vector.proofs.Sizes.{Small}
 use Rattle.vector.proofs.SizeLaws.{largest-bound}
 use Rattle.vector.proofs.RootLaws.{root-greatest}
 use Rattle.vector.proofs.UnitLaws.{three, unit-new}
 use Rattle.mesh.specs.declared.Trixel.{Trixel}
 use Rattle.mesh.specs.Trixels.{cut, child}
 use Rattle.mesh.specs.Lookup.{notNegative, digit}
-use Rattle.mesh_lookup.proofs.SideLaws.{scale-above, scale-below}
+use Rattle.vector.proofs.SideLaws.{scale-above, scale-below}
 
 -- ---- a normal that is at most m long, and a product beyond 3 m
 
