@@ -7,17 +7,6 @@ pub mod Containment
 pub mod Counting
 pub mod Filters
 pub mod Inequalities
-pub mod Jump
-pub mod JumpChild
-pub mod JumpConstants
-pub mod JumpLevel
-pub mod JumpShape
-pub mod JumpSide
-pub mod JumpStart
-pub mod JumpStep
-pub mod JumpSure
-pub mod JumpVolume
-pub mod Lengths
 pub mod Moved
 pub mod Moves
 pub mod Order

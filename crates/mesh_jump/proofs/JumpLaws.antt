@@ -13,22 +13,22 @@ use Rattle.algebra.proofs.Claim.{_:≤_, _:<_, _:≡_, nat, hyp, eqn, _⊕_, _�
 use Rattle.algebra.proofs.Inequalities.{`1, <ℤ→≤ℤ}
 use Rattle.algebra.proofs.Sizes.{Upto}
 use Rattle.algebra.proofs.Vec.{V3}
-use Rattle.algebra.proofs.Jump.{Size}
-use Rattle.algebra.proofs.JumpChild.{both}
-use Rattle.algebra.proofs.Lengths.{Long, differenceOf, flip, long-x, long-y, long-z}
-use Rattle.algebra.proofs.JumpShape.{Corner}
-use Rattle.algebra.proofs.JumpLevel.{New, Pointing, Here, Step, Wide, here-turned, new-swapped, normal-long, here-above, here-below, here-child, here-middle}
+use Rattle.jump.proofs.Jump.{Size}
+use Rattle.jump.proofs.JumpChild.{both}
+use Rattle.jump.proofs.Lengths.{Long, differenceOf, flip, long-x, long-y, long-z}
+use Rattle.jump.proofs.JumpShape.{Corner}
+use Rattle.jump.proofs.JumpLevel.{New, Pointing, Here, Step, Wide, here-turned, new-swapped, normal-long, here-above, here-below, here-child, here-middle}
 use Rattle.vector.specs.declared.Vec3.{Vec3}
 use Rattle.vector.specs.Numbers.{K, root}
 use Rattle.vector.specs.Vectors.{plus, dot, cross, unit, largest, scale}
 use Rattle.vector.proofs.Sizes.{Small}
 use Rattle.vector.proofs.SizeLaws.{largest-bound}
 use Rattle.vector.proofs.RootLaws.{root-greatest}
-use Rattle.vector.proofs.UnitLaws.{three, unit-new}
+use Rattle.jump.proofs.UnitLaws.{three, unit-new}
 use Rattle.mesh.specs.declared.Trixel.{Trixel}
 use Rattle.mesh.specs.Trixels.{cut, child}
 use Rattle.mesh.specs.Lookup.{notNegative, digit}
-use Rattle.vector.proofs.SideLaws.{scale-above, scale-below}
+use Rattle.jump.proofs.SideLaws.{scale-above, scale-below}
 
 -- ---- a normal that is at most m long, and a product beyond 3 m
 

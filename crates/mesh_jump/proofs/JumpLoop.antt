@@ -16,11 +16,11 @@ use Rattle.algebra.proofs.Claim.{_:≤_, _:≡_, hyp, eqn, _⊕_, prove}
 use Rattle.algebra.proofs.Inequalities.{`0, `1}
 use Rattle.algebra.proofs.Order.{≤ℤ-trans}
 use Rattle.algebra.proofs.Sizes.{Upto}
-use Rattle.algebra.proofs.Jump.{det}
-use Rattle.algebra.proofs.JumpConstants.{marginAt}
+use Rattle.jump.proofs.Jump.{det}
+use Rattle.jump.proofs.JumpConstants.{marginAt}
 use Rattle.vector.specs.declared.Vec3.{Vec3}
 use Rattle.vector.proofs.Sizes.{Small}
-use Rattle.vector.proofs.UnitLaws.{three}
+use Rattle.jump.proofs.UnitLaws.{three}
 use Rattle.mesh.specs.declared.Trixel.{Trixel}
 use Rattle.mesh.specs.declared.Corners.{Corners}
 use Rattle.mesh.specs.Trixels.{child}

@@ -10,15 +10,15 @@ use lib.Signed.{_≤ℤ_, _<ℤ_, leZ-yes, ltZ-yes, <ℤ-≤ℤ-trans}
 use Rattle.algebra.proofs.Ring.{_:+_, _:-_, :neg}
 use Rattle.algebra.proofs.Claim.{_:≤_, _:<_, nat, hyp, _⊕_, prove}
 use Rattle.algebra.proofs.Inequalities.{`0, <ℤ→≤ℤ}
-use Rattle.algebra.proofs.Jump.{det}
-use Rattle.algebra.proofs.JumpVolume.{Shape}
-use Rattle.algebra.proofs.JumpLevel.{Here, Pointing, Step, Wide}
-use Rattle.algebra.proofs.JumpStart.{here-start, sum-bounded, sum-positive}
-use Rattle.algebra.proofs.JumpConstants.{j, D, least, W, Q, bAt, edgeAt, partAt, bendAt, normalAt, marginAt, step-at, wide-of}
+use Rattle.jump.proofs.Jump.{det}
+use Rattle.jump.proofs.JumpVolume.{Shape}
+use Rattle.jump.proofs.JumpLevel.{Here, Pointing, Step, Wide}
+use Rattle.jump.proofs.JumpStart.{here-start, sum-bounded, sum-positive}
+use Rattle.jump.proofs.JumpConstants.{j, D, least, W, Q, bAt, edgeAt, partAt, bendAt, normalAt, marginAt, step-at, wide-of}
 use Rattle.vector.specs.declared.Vec3.{Vec3}
 use Rattle.vector.specs.Numbers.{K}
 use Rattle.vector.proofs.Sizes.{Small}
-use Rattle.vector.proofs.UnitLaws.{three}
+use Rattle.jump.proofs.UnitLaws.{three}
 use Rattle.mesh.specs.declared.Trixel.{Trixel}
 use Rattle.mesh.specs.Trixels.{child}
 use Rattle.mesh.specs.Lookup.{digit}

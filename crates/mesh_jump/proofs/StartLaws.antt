@@ -12,15 +12,15 @@ use Rattle.algebra.proofs.Order.{≤ℤ-trans}
 use Rattle.algebra.proofs.Sizes.{Upto}
 use Rattle.algebra.proofs.Tests.{and-left, and-right, le-yes}
 use Rattle.algebra.proofs.Vec.{V3}
-use Rattle.algebra.proofs.Jump.{Size, det}
-use Rattle.algebra.proofs.Lengths.{Long, differenceOf, flip, long-dot}
-use Rattle.algebra.proofs.JumpShape.{Corner}
-use Rattle.algebra.proofs.JumpVolume.{Shape, cross-long}
-use Rattle.algebra.proofs.JumpLevel.{Pointing}
+use Rattle.jump.proofs.Jump.{Size, det}
+use Rattle.jump.proofs.Lengths.{Long, differenceOf, flip, long-dot}
+use Rattle.jump.proofs.JumpShape.{Corner}
+use Rattle.jump.proofs.JumpVolume.{Shape, cross-long}
+use Rattle.jump.proofs.JumpLevel.{Pointing}
 use Rattle.vector.specs.declared.Vec3.{Vec3}
 use Rattle.vector.specs.Numbers.{K, between}
 use Rattle.vector.specs.Vectors.{plus, minus, dot, isVector}
-use Rattle.vector.proofs.UnitLaws.{three, own-size}
+use Rattle.jump.proofs.UnitLaws.{three, own-size}
 
 -- ---- a pointing
 

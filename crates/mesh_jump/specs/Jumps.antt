@@ -14,14 +14,14 @@ use mathlib.Core.Bool.{true}
 use lib.IntN.{ℤ, pos, negℤ, _+ℤ_, _-ℤ_, _*ℤ_}
 use lib.Signed.{_≤ℤ_, _<ℤ_}
 use Rattle.algebra.proofs.Sizes.{Upto}
-use Rattle.algebra.proofs.Jump.{det}
-use Rattle.algebra.proofs.Lengths.{Long, differenceOf}
-use Rattle.algebra.proofs.JumpVolume.{Shape}
-use Rattle.algebra.proofs.JumpConstants.{least}
+use Rattle.jump.proofs.Jump.{det}
+use Rattle.jump.proofs.Lengths.{Long, differenceOf}
+use Rattle.jump.proofs.JumpVolume.{Shape}
+use Rattle.jump.proofs.JumpConstants.{least}
 use Rattle.vector.specs.declared.Vec3.{Vec3}
 use Rattle.vector.specs.Numbers.{K}
 use Rattle.vector.specs.Vectors.{isVector}
-use Rattle.vector.proofs.UnitLaws.{three}
+use Rattle.jump.proofs.UnitLaws.{three}
 use Rattle.mesh.specs.declared.Trixel.{Trixel}
 use Rattle.mesh.specs.declared.Corners.{Corners}
 use Rattle.mesh.specs.Trixels.{child}

@@ -8,12 +8,13 @@ ghost use mathlib.Core.Bool.{true};
 ghost use Prim.Native.Nat.{_*_, _^_, _≤_, _<_};
 ghost use lib.Signed.{_≤ℤ_};
 ghost use Rattle.algebra.proofs.Sizes.{Upto};
-ghost use Rattle.algebra.proofs.Jump.{det};
-ghost use Rattle.algebra.proofs.JumpShape.{Corner};
-ghost use Rattle.algebra.proofs.JumpConstants.{least};
+ghost use Rattle.jump.proofs.Jump.{det};
+ghost use Rattle.jump.proofs.JumpShape.{Corner};
+ghost use Rattle.jump.proofs.JumpConstants.{least};
 ghost use Rattle.vector.specs.Numbers.{K};
 ghost use Rattle.vector.proofs.Sizes.{Small};
-ghost use Rattle.vector.proofs.UnitLaws.{three};
+ghost use Rattle.jump.proofs.UnitLaws.{three};
+ghost use Rattle.mesh.specs.Trixels.{child};
 ghost use Rattle.mesh.specs.Identifiers.{cornersOf};
 ghost use Rattle.mesh_trixels.specs.Corners.{bare, SmallCorners};
 ghost use Rattle.mesh_jump.specs.Jumps.{Above, Below, turnedOf, atCorner, inMiddle, beginOf, Within, NotNegative, ShortEdge, Shaped, Started, Sure, childAt, along, Jumped};
@@ -288,6 +289,32 @@ pub fn jump(p: Vec3, c: Corners, id: u64, n: u32) -> SureDigits
     SureDigits { count: k, id: i }
 }
 
+// The corners of the child number k; 3 and above is the one in the middle. At a corner only two midpoints are found.
+fn child_corners(c: Corners, k: u64) -> Corners
+    requires { ⌜ SmallCorners c ⌝ }
+    ensures { λ r. ⌜ (r ≡ cornersOf (child k (bare c))) × SmallCorners r ⌝ }
+{
+    let v0 = c.v0;
+    let v1 = c.v1;
+    let v2 = c.v2;
+    if k == 0 {
+        let w1 = mesh_trixels::midpoint(v0, v2);
+        let w2 = mesh_trixels::midpoint(v0, v1);
+        return mesh_trixels::triple(v0, w2, w1);
+    }
+    let w0 = mesh_trixels::midpoint(v1, v2);
+    if k == 1 {
+        let w2 = mesh_trixels::midpoint(v0, v1);
+        return mesh_trixels::triple(v1, w0, w2);
+    }
+    let w1 = mesh_trixels::midpoint(v0, v2);
+    if k == 2 {
+        return mesh_trixels::triple(v2, w1, w0);
+    }
+    let w2 = mesh_trixels::midpoint(v0, v1);
+    mesh_trixels::triple(w0, w1, w2)
+}
+
 // The corners n levels below c, by the last n digits of an identifier.
 pub fn corners_along(c: Corners, id: u64, n: u32) -> Corners
     requires { ⌜ SmallCorners c ⌝ }
@@ -296,5 +323,5 @@ pub fn corners_along(c: Corners, id: u64, n: u32) -> Corners
     if n == 0 {
         return c;
     }
-    mesh_trixels::child_corners(corners_along(c, id / 4, n - 1), id % 4)
+    child_corners(corners_along(c, id / 4, n - 1), id % 4)
 }

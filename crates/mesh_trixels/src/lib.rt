@@ -86,7 +86,7 @@ pub fn root_corners(k: u64) -> Corners
 }
 
 // The corners of the child number k, by the table of children; 3 and above is the one in the middle.
-pub fn child_corners(c: Corners, k: u64) -> Corners
+fn child_corners(c: Corners, k: u64) -> Corners
     requires { ⌜ SmallCorners c ⌝ }
     ensures { λ r. ⌜ (r ≡ identifiers.cornersOf (rule.child k (bare c))) × SmallCorners r ⌝ }
 {

@@ -2,8 +2,6 @@ pub mod DepthLaws
 pub mod GreatestLaws
 pub mod QuotLaws
 pub mod RootLaws
-pub mod SideLaws
 pub mod SizeLaws
 pub mod Sizes
-pub mod UnitLaws
 pub mod VectorLaws

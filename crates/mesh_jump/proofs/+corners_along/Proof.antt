@@ -13,7 +13,7 @@ use Rattle.mesh_jump.proofs.JumpLoop.{along-none, along-child}
 use Rattle.mesh_jump.proofs.corners_along.Reads as corners-along
 use Rattle.mesh_jump.proofs.corners_along.Kinds as corners-along-kinds
 use Rattle.mesh_jump.proofs.+corners_along.Lts-corners_along as corners-along-lts
-use Rattle.mesh_trixels.proofs.child_corners.Reads as child-corners-reads
+use Rattle.mesh_jump.proofs.child_corners.Reads as child-corners-reads
 use Rattle.mesh_jump.proofs.+corners_along.{statement}
 use Rattle.mesh_jump.proofs.+corners_along.Tie.{close}
 

@@ -4,7 +4,7 @@ use mathlib.Core.Path.{subst, _∙_}
 use lib.Signed.{_≤ℤ_}
 use Rattle.algebra.proofs.Sized.{held}
 use Rattle.algebra.proofs.Tests.{le-yes}
-use Rattle.algebra.proofs.JumpConstants.{least}
+use Rattle.jump.proofs.JumpConstants.{least}
 use Rattle.mesh_jump.proofs.is_large.Statement.{statement}
 use Rattle.mesh_jump.proofs.is_large.Tie as tie
 

@@ -5,15 +5,15 @@ use mathlib.Core.Path.{_≡_, refl}
 use mathlib.Core.List.{[], _∷_}
 use lib.IntN.{ℤ, pos, negℤ, _+ℤ_, _-ℤ_, _*ℤ_}
 use lib.Signed.{_≤ℤ_, _<ℤ_}
 use Rattle.algebra.proofs.Ring.{Expr, con, _:+_, _:-_, _:*_, :neg}
 use Rattle.algebra.proofs.Order.{nn-mul, ≤ℤ-trans}
 use Rattle.algebra.proofs.Claim.{_:≤_, _:≡_, nat, hyp, eqn, _⊕_, _⊗_, prove}
 use Rattle.algebra.proofs.Inequalities.{`0, `1, <ℤ-mul, <ℤ→≤ℤ, <ℤ-turn}
 use Rattle.algebra.proofs.Vec.{V3, dot, cross, dotE, ringV}
-use Rattle.algebra.proofs.Jump.{Size}
-use Rattle.algebra.proofs.JumpStep.{Near}
-use Rattle.algebra.proofs.JumpChild.{Follows, Made, Bend, both}
-use Rattle.algebra.proofs.JumpSide.{Taxi, taxi-dot, place, rests, side-identity, beyond, cancel-<ℤ}
+use Rattle.jump.proofs.Jump.{Size}
+use Rattle.jump.proofs.JumpStep.{Near}
+use Rattle.jump.proofs.JumpChild.{Follows, Made, Bend, both}
+use Rattle.jump.proofs.JumpSide.{Taxi, taxi-dot, place, rests, side-identity, beyond, cancel-<ℤ}
 
 abbrev `2 : Expr
 `2 = con (pos 2)

@@ -16,15 +16,15 @@ use Rattle.algebra.proofs.Claim.{_:≤_, _:≡_, nat, hyp, eqn, _⊕_, _⊗_, r
 use Rattle.algebra.proofs.Inequalities.{`0, `1}
 use Rattle.algebra.proofs.Order.{nn-pos, nn-mul, nn-add}
 use Rattle.algebra.proofs.Vec.{V3}
-use Rattle.algebra.proofs.Jump.{Size}
-use Rattle.algebra.proofs.JumpStep.{Cornered}
-use Rattle.algebra.proofs.JumpShape.{Rooted}
-use Rattle.algebra.proofs.JumpLevel.{New}
+use Rattle.jump.proofs.Jump.{Size}
+use Rattle.jump.proofs.JumpStep.{Cornered}
+use Rattle.jump.proofs.JumpShape.{Rooted}
+use Rattle.jump.proofs.JumpLevel.{New}
 use Rattle.vector.specs.declared.Vec3.{Vec3}
 use Rattle.vector.specs.Numbers.{K, quot, root}
 use Rattle.vector.specs.Vectors.{vec, dot, unit}
 use Rattle.vector.proofs.RootLaws.{IsRoot, root-is}
 use Rattle.vector.proofs.SizeLaws.{dot-self}
 
 -- ---- a truncating quotient and its rest
 

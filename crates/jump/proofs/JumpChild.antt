@@ -8,12 +8,12 @@ use mathlib.Core.Path.{_≡_, refl, sym, subst, _∙_}
 use mathlib.Core.List.{[], _∷_}
 use lib.IntN.{ℤ, pos, negℤ, _+ℤ_, _-ℤ_, _*ℤ_}
 use lib.Signed.{_≤ℤ_, _<ℤ_}
 use Rattle.algebra.proofs.Ring.{Expr, con, _:+_, _:-_, _:*_, :neg}
 use Rattle.algebra.proofs.Claim.{_:≤_, _:<_, _:≡_, nat, hyp, _⊕_, _⊗_, ring, prove}
 use Rattle.algebra.proofs.Inequalities.{`0, <ℤ-mul, <ℤ→≤ℤ}
 use Rattle.algebra.proofs.Vec.{V3}
-use Rattle.algebra.proofs.Jump.{Size, flat-child, flat-middle}
-use Rattle.algebra.proofs.JumpStep.{Near, Cornered, Cutting, near-step}
+use Rattle.jump.proofs.Jump.{Size, flat-child, flat-middle}
+use Rattle.jump.proofs.JumpStep.{Near, Cornered, Cutting, near-step}
 
 abbrev `2 : Expr
 `2 = con (pos 2)

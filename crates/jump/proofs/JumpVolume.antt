@@ -4,16 +4,16 @@ use mathlib.Core.Path.{_≡_, refl, sym, subst, _∙_, ap₂}
 use mathlib.Core.List.{[], _∷_}
 use lib.IntN.{ℤ, pos, negℤ, _+ℤ_, _-ℤ_, _*ℤ_}
 use lib.Signed.{_≤ℤ_, _<ℤ_}
 use Rattle.algebra.proofs.Ring.{Expr, con, _:+_, _:-_, _:*_, :neg}
 use Rattle.algebra.proofs.Order.{nn-mul, by-order}
 use Rattle.algebra.proofs.Claim.{_:≤_, _:<_, _:≡_, nat, hyp, sq, eqn, _⊕_, _⊗_, ring, prove}
 use Rattle.algebra.proofs.Inequalities.{`0, `1, ≤ℤ-by-no, ≤ℤ-mul, sq-≤ℤ, <ℤ-mul, <ℤ→≤ℤ}
 use Rattle.algebra.proofs.Vec.{V3, E3, dot, cross, dotE, crossE, ringV}
-use Rattle.algebra.proofs.Jump.{Size, det}
-use Rattle.algebra.proofs.JumpChild.{Made, Bend, both}
-use Rattle.algebra.proofs.JumpSide.{rests, Taxi}
-use Rattle.algebra.proofs.Lengths.{Long, differenceOf, flip, times, long-dot, long-sum, long-cross}
-use Rattle.algebra.proofs.JumpShape.{Corner, Shaping, corner-long, rest-long, same-vector}
+use Rattle.jump.proofs.Jump.{Size, det}
+use Rattle.jump.proofs.JumpChild.{Made, Bend, both}
+use Rattle.jump.proofs.JumpSide.{rests, Taxi}
+use Rattle.jump.proofs.Lengths.{Long, differenceOf, flip, times, long-dot, long-sum, long-cross}
+use Rattle.jump.proofs.JumpShape.{Corner, Shaping, corner-long, rest-long, same-vector}
 
 abbrev `2 : Expr
 `2 = con (pos 2)

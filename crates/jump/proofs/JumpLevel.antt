@@ -9,18 +9,18 @@ use mathlib.Core.Path.{_≡_, refl, sym, subst}
 use mathlib.Core.List.{[], _∷_}
 use lib.IntN.{ℤ, pos, negℤ, _+ℤ_, _-ℤ_, _*ℤ_}
 use lib.Signed.{_≤ℤ_, _<ℤ_, <ℤ-≤ℤ-trans}
 use Rattle.algebra.proofs.Ring.{Expr, con, _:+_, _:-_, _:*_, :neg}
 use Rattle.algebra.proofs.Order.{nn-mul, ≤ℤ-trans}
 use Rattle.algebra.proofs.Claim.{_:≤_, _:<_, _:≡_, nat, hyp, sq, eqn, _⊕_, _⊗_, ring, prove}
 use Rattle.algebra.proofs.Inequalities.{`0, `1, cancel-≤ℤ, <ℤ-mul, <ℤ→≤ℤ, <ℤ-by-no}
 use Rattle.algebra.proofs.Vec.{V3, dot, cross, dotE, crossE, ringV}
-use Rattle.algebra.proofs.Jump.{Size, det}
-use Rattle.algebra.proofs.JumpChild.{Follows, Level, Made, Bend, both, kept-bend, kept-made, child-step, middle-step, turned}
-use Rattle.algebra.proofs.JumpSide.{rests, Taxi, taxi-dot, place, place-along}
-use Rattle.algebra.proofs.JumpSure.{Margin, near-size, away, away-along, sure-above, sure-below}
-use Rattle.algebra.proofs.Lengths.{Long, differenceOf, flip}
-use Rattle.algebra.proofs.JumpShape.{Rooted, Corner, Shaping, new-corner, bend, edge-halved, long-apart, corner-long, same-vector}
-use Rattle.algebra.proofs.JumpVolume.{Shape, Shrinking, child-large, middle-large, taxi, cross-long, sums-apart, sums-apart-cross, sums-apart-right}
+use Rattle.jump.proofs.Jump.{Size, det}
+use Rattle.jump.proofs.JumpChild.{Follows, Level, Made, Bend, both, kept-bend, kept-made, child-step, middle-step, turned}
+use Rattle.jump.proofs.JumpSide.{rests, Taxi, taxi-dot, place, place-along}
+use Rattle.jump.proofs.JumpSure.{Margin, near-size, away, away-along, sure-above, sure-below}
+use Rattle.jump.proofs.Lengths.{Long, differenceOf, flip}
+use Rattle.jump.proofs.JumpShape.{Rooted, Corner, Shaping, new-corner, bend, edge-halved, long-apart, corner-long, same-vector}
+use Rattle.jump.proofs.JumpVolume.{Shape, Shrinking, child-large, middle-large, taxi, cross-long, sums-apart, sums-apart-cross, sums-apart-right}
 
 abbrev `2 : Expr
 `2 = con (pos 2)

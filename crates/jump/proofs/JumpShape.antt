@@ -6,14 +6,14 @@ use mathlib.Core.Path.{_≡_, refl, subst}
 use mathlib.Core.List.{[], _∷_}
 use lib.IntN.{ℤ, pos, negℤ, _+ℤ_, _-ℤ_, _*ℤ_}
 use lib.Signed.{_≤ℤ_, _<ℤ_}
 use Rattle.algebra.proofs.Ring.{Expr, con, _:+_, _:-_, _:*_, :neg}
 use Rattle.algebra.proofs.Claim.{_:≤_, _:<_, _:≡_, nat, hyp, sq, eqn, _⊕_, _⊗_, ring, prove}
 use Rattle.algebra.proofs.Inequalities.{`0, `1, ≤ℤ-by-no, sq-≤ℤ, cancel-≤ℤ, <ℤ-mul, <ℤ→≤ℤ}
 use Rattle.algebra.proofs.Vec.{V3, dot, dot-nn}
-use Rattle.algebra.proofs.Jump.{Size}
-use Rattle.algebra.proofs.JumpChild.{Made, Bend, Apart, both}
-use Rattle.algebra.proofs.JumpSide.{rests}
-use Rattle.algebra.proofs.Lengths.{Long, sumOf, differenceOf, times, long-sum, long-times, long-divided, long-components, long-x, long-y, long-z}
+use Rattle.jump.proofs.Jump.{Size}
+use Rattle.jump.proofs.JumpChild.{Made, Bend, Apart, both}
+use Rattle.jump.proofs.JumpSide.{rests}
+use Rattle.jump.proofs.Lengths.{Long, sumOf, differenceOf, times, long-sum, long-times, long-divided, long-components, long-x, long-y, long-z}
 
 abbrev `2 : Expr
 `2 = con (pos 2)

@@ -4,11 +4,11 @@ use mathlib.Core.Path.{_≡_, refl, subst}
 use mathlib.Core.List.{[], _∷_}
 use lib.IntN.{ℤ, pos, negℤ, _+ℤ_, _-ℤ_, _*ℤ_}
 use lib.Signed.{_≤ℤ_, _<ℤ_}
 use Rattle.algebra.proofs.Ring.{con, _:+_, _:-_, _:*_}
 use Rattle.algebra.proofs.Order.{nn-mul, nn-add}
 use Rattle.algebra.proofs.Claim.{_:≤_, _:<_, _:≡_, nat, hyp, _⊕_, _⊗_, ring, prove}
 use Rattle.algebra.proofs.Inequalities.{`0, cancel-≤ℤ}
-use Rattle.algebra.proofs.Jump.{Size, size-mul, cut-identity, cut-error, cut-error-low, pairs-at-most, step-high, step-low}
+use Rattle.jump.proofs.Jump.{Size, size-mul, cut-identity, cut-error, cut-error-low, pairs-at-most, step-high, step-low}
 
 -- one component
 pub record Near (u b e l S P p : ℤ) : Type 0 where

@@ -8,11 +8,11 @@ use Prim.Native.Nat.{ℕ, zero, suc, _*_, _^_, _<_}
 use native.Mathlib.Omega.{arith}
 use lib.IntN.{ℤ, pos, _+ℤ_, _-ℤ_, _*ℤ_}
 use lib.Signed.{_≤ℤ_, _<ℤ_, leZ-yes, ltZ-yes}
 use Rattle.algebra.proofs.Ring.{_:+_, _:-_, _:*_}
 use Rattle.algebra.proofs.Order.{≤ℤ-trans}
 use Rattle.algebra.proofs.Claim.{_:≤_, _:<_, _:≡_, hyp, _⊕_, _⊗_, ring, prove}
 use Rattle.algebra.proofs.Inequalities.{`0, cancel-≤ℤ}
-use Rattle.algebra.proofs.JumpLevel.{Step, Wide}
+use Rattle.jump.proofs.JumpLevel.{Step, Wide}
 
 -- K, the length of a rest, 2³⁰, the least volume at the start
 abbrev pub k : ℤ

@@ -3,12 +3,12 @@ use mathlib.Core.Path.{_≡_, refl, sym, subst}
 use mathlib.Core.List.{[], _∷_}
 use lib.IntN.{ℤ, pos, _+ℤ_, _-ℤ_, _*ℤ_}
 use lib.Signed.{_≤ℤ_, _<ℤ_}
 use Rattle.algebra.proofs.Ring.{Expr, con, _:+_, _:-_, _:*_, :neg}
 use Rattle.algebra.proofs.Order.{nn-mul, nn-add, nn-sq, ≤ℤ-trans}
 use Rattle.algebra.proofs.Claim.{_:≤_, _:<_, _:≡_, nat, hyp, sq, _⊕_, _⊗_, ring, prove}
 use Rattle.algebra.proofs.Inequalities.{`0, ≤ℤ-mul, sq-≤ℤ, cancel-≤ℤ, <ℤ-mul}
 use Rattle.algebra.proofs.Vec.{V3, dot, cross, dotE, crossE, ringV, proveV, dot-nn, cauchy-schwarz}
-use Rattle.algebra.proofs.Jump.{Size}
+use Rattle.jump.proofs.Jump.{Size}
 
 abbrev `2 : Expr
 `2 = con (pos 2)

@@ -4,13 +4,13 @@ use mathlib.Core.Path.{_≡_, refl, subst, _∙_, ap}
 use mathlib.Core.List.{[], _∷_}
 use lib.IntN.{ℤ, pos, negℤ, _+ℤ_, _-ℤ_, _*ℤ_}
 use lib.Signed.{_≤ℤ_, _<ℤ_}
 use Rattle.algebra.proofs.Ring.{Expr, con, _:+_, _:-_, _:*_, :neg}
 use Rattle.algebra.proofs.Claim.{_:≤_, _:<_, _:≡_, nat, hyp, eqn, _⊕_, _⊗_, prove}
 use Rattle.algebra.proofs.Inequalities.{`0, `1, <ℤ-by-no}
 use Rattle.algebra.proofs.Vec.{V3, E3, dot, cross, dotE, crossE, ringV}
-use Rattle.algebra.proofs.Jump.{Size, size-mul, det, cramer-x, cramer-y, cramer-z}
-use Rattle.algebra.proofs.JumpStep.{Near}
-use Rattle.algebra.proofs.JumpChild.{Follows, Made, both}
+use Rattle.jump.proofs.Jump.{Size, size-mul, det, cramer-x, cramer-y, cramer-z}
+use Rattle.jump.proofs.JumpStep.{Near}
+use Rattle.jump.proofs.JumpChild.{Follows, Made, both}
 
 abbrev `2 : Expr
 `2 = con (pos 2)

@@ -3,16 +3,16 @@ use mathlib.Core.Path.{_≡_, refl, subst}
 use mathlib.Core.List.{[], _∷_}
 use lib.IntN.{ℤ, pos, _+ℤ_, _-ℤ_, _*ℤ_}
 use lib.Signed.{_≤ℤ_, _<ℤ_, <ℤ-≤ℤ-trans}
 use Rattle.algebra.proofs.Ring.{Expr, con, _:+_, _:-_, _:*_, :neg}
 use Rattle.algebra.proofs.Claim.{_:≤_, _:<_, _:≡_, nat, hyp, sq, eqn, _⊕_, _⊗_, prove}
 use Rattle.algebra.proofs.Inequalities.{`0, `1, <ℤ→≤ℤ, <ℤ-mul, <ℤ-by-no}
 use Rattle.algebra.proofs.Vec.{V3, dot, dotE, crossE, ringV}
-use Rattle.algebra.proofs.Jump.{det}
-use Rattle.algebra.proofs.JumpSide.{start}
-use Rattle.algebra.proofs.Lengths.{Long, differenceOf, flip}
-use Rattle.algebra.proofs.JumpShape.{Corner}
-use Rattle.algebra.proofs.JumpVolume.{Shape}
-use Rattle.algebra.proofs.JumpLevel.{Here, Pointing, meet}
+use Rattle.jump.proofs.Jump.{det}
+use Rattle.jump.proofs.JumpSide.{start}
+use Rattle.jump.proofs.Lengths.{Long, differenceOf, flip}
+use Rattle.jump.proofs.JumpShape.{Corner}
+use Rattle.jump.proofs.JumpVolume.{Shape}
+use Rattle.jump.proofs.JumpLevel.{Here, Pointing, meet}
 
 abbrev `2 : Expr
 `2 = con (pos 2)
