@@ -1,5 +1,5 @@
--- The identifier from the root and from the table, and the lookup's answer by its checks. Assumes nothing.
-use Prim.Native.Nat.{ℕ, suc, _+_, _-_, _≤_}
+-- The identifier from the root, from the table and from depth 6, and the lookup's answer by its checks. Assumes nothing.
+use Prim.Native.Nat.{ℕ, suc, _+_, _-_, _≤_, _<_}
 use native.Mathlib.Omega.{arith}
 use mathlib.Core.Path.{_≡_, ap, _∙_}
 use mathlib.Core.Bool.{true, false}
@@ -14,7 +14,7 @@ use Rattle.mesh.specs.Lookup.{rootNumber, descend, identifier, lookup}
 use Rattle.mesh_trixels.specs.Corners.{bare}
 use Rattle.mesh_trixels.proofs.CornerLaws.{descend-corners}
 use Rattle.mesh_lookup.specs.declared.LocatedTrixel.{LocatedTrixel}
-use Rattle.mesh_lookup.specs.LookupSteps.{TableStart}
+use Rattle.mesh_lookup.specs.LookupSteps.{Descent, TableStart}
 
 module _ (p : Vec3) (d k : ℕ) (root : k ≡ rootNumber p) where
   pub from-root : (c : Corners) → c ≡ cornersOf (rootTrixel k) → descend p (d - 1) (bare c) (8 + k) ≡ identifier p d
@@ -28,6 +28,11 @@ module _ (p : Vec3) (d k : ℕ) (root : k ≡ rootNumber p) where
   from-table-start s h t =
       let e : suc (suc (d - 3)) ≡ d - 1 = omega arith in
       t .goes-on (d - 3) ∙ ap (λ m. descend p m (rootTrixel k) (8 + k)) e ∙ ap (λ m. descend p (d - 1) (rootTrixel m) (8 + m)) root
+
+  pub from-six : (s t : LocatedTrixel) → 6 < d → TableStart p k s → Descent p (s .corners) (s .id) 3 t → descend p (d - 6) (bare (t .corners)) (t .id) ≡ identifier p d
+  from-six s t h b e =
+      let z : 3 + (d - 6) ≡ d - 3 = omega arith in
+      e .goes-on (d - 6) ∙ ap (λ m. descend p m (bare (s .corners)) (s .id)) z ∙ from-table-start s (omega arith) b
 
 module _ (p : Vec3) (d : ℕ) where
   pub no-depth : isDepth d ≡ false → refused Depth ≡ lookup p d

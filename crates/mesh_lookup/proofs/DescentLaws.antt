@@ -1,30 +1,35 @@
--- The descent level by level: what is left of it from the trixel reached is what it was from the start. Assumes nothing.
+-- The descent level by level: what is left of it from the trixel reached is what it was from the start. A jump's sure digits are the first of it. Assumes
+-- nothing.
 use Prim.Native.Nat.{ℕ, suc, _+_, _-_, _*_, _^_, _≤_, _<_}
-use native.Mathlib.Nat.{pow-suc, pow-le-pow-right}
+use native.Mathlib.Nat.{mul-comm, mul-assoc, pow-suc, pow-le-pow-right}
 use native.Mathlib.Numerals.{add-one}
 use native.Mathlib.Omega.{arith}
-use mathlib.Core.Path.{_≡_, sym, ap, _∙_}
+use mathlib.Core.Path.{_≡_, sym, ap, subst, _∙_}
 use lib.Dec.{lit<}
 use Rattle.vector.specs.declared.Vec3.{Vec3}
 use Rattle.mesh.specs.declared.Corners.{Corners}
 use Rattle.mesh.specs.Trixels.{child}
+use Rattle.mesh.specs.Identifiers.{cornersOf}
 use Rattle.mesh.specs.Lookup.{digit, descend}
 use Rattle.mesh_trixels.specs.Corners.{bare, SmallCorners}
 use Rattle.mesh_trixels.proofs.CornerLaws.{descend-corners}
+use Rattle.mesh_jump.specs.declared.SureDigits.{SureDigits}
+use Rattle.mesh_jump.specs.Jumps.{along, Jumped}
 use Rattle.mesh_lookup.specs.declared.Child.{Child}
-use Rattle.mesh_lookup.specs.LookupSteps.{ChildStep}
+use Rattle.mesh_lookup.specs.LookupSteps.{ChildStep, Descent}
 
--- after k of n levels from the corners c₀ and the identifier i₀
-pub record Descending (p : Vec3) (n : ℕ) (c₀ : Corners) (i₀ : ℕ) (c : Corners) (i k : ℕ) : Type 0 where
-  pub upto : k ≤ n
-  pub room : i < 256 * 4 ^ k
+-- after k levels from the corners c₀ and the identifier i₀
+pub record Descending (p : Vec3) (c₀ : Corners) (i₀ : ℕ) (c : Corners) (i k : ℕ) : Type 0 where
+  pub room : (b : ℕ) → i₀ < b → i < b * 4 ^ k
   pub small : SmallCorners c
-  pub left : descend p (n - k) (bare c) i ≡ descend p n (bare c₀) i₀
+  pub left : (m : ℕ) → descend p m (bare c) i ≡ descend p (k + m) (bare c₀) i₀
 
-pub start : (p : Vec3) (n : ℕ) (c : Corners) (i : ℕ) → i < 256 → SmallCorners c → Descending p n c i c i 0
-start p n c i h s =
-    let e : n - 0 ≡ n = omega arith in
-    record { upto = omega arith; room = omega arith; small = s; left = ap (λ m. descend p m (bare c) i) e }
+pub start : (p : Vec3) (c : Corners) (i : ℕ) → SmallCorners c → Descending p c i c i 0
+start p c i s = record {
+  room = λ b h. omega arith;
+  small = s;
+  left = λ m. let e : m ≡ 0 + m = omega arith in ap (λ l. descend p l (bare c) i) e;
+}
 
 one-level : (p : Vec3) (m : ℕ) (c : Corners) (i : ℕ) (s : Child) → ChildStep p c s → descend p m (bare (s .corners)) (4 * i + s .digit) ≡ descend p (suc m) (bare c) i
 unfolding descend
@@ -32,24 +37,56 @@ one-level p m c i s h =
     descend-corners p m (bare (s .corners)) (child (digit p (bare c)) (bare c)) (4 * i + s .digit) (h .child)
     ∙ ap (λ d. descend p m (child (digit p (bare c)) (bare c)) (4 * i + d)) (h .is)
 
-module _ (p : Vec3) (n : ℕ) (c₀ : Corners) (i₀ : ℕ) (c : Corners) (i k : ℕ) (d : Descending p n c₀ i₀ c i k) where
-  pub next : (s : Child) → k < n → ChildStep p c s → Descending p n c₀ i₀ (s .corners) (4 * i + s .digit) (k + 1)
-  next s h t =
-      let e : n - k ≡ suc (n - (k + 1)) = omega arith in
+module _ (p : Vec3) (c₀ : Corners) (i₀ : ℕ) (c : Corners) (i k : ℕ) (d : Descending p c₀ i₀ c i k) where
+  pub next : (s : Child) → ChildStep p c s → Descending p c₀ i₀ (s .corners) (4 * i + s .digit) (k + 1)
+  next s t =
       let w : 4 ^ (k + 1) ≡ 4 ^ k * 4 = ap (λ m. 4 ^ m) (add-one k) ∙ pow-suc 4 k in
       record {
-        upto = omega arith;
-        room = omega (arith, d .room, t .low);
+        room = λ b h.
+            let x : b * 4 ^ (k + 1) ≡ 4 * (b * 4 ^ k) = ap (λ z. b * z) w ∙ sym (mul-assoc b (4 ^ k) 4) ∙ mul-comm (b * 4 ^ k) 4 in
+            omega (arith, d .room b h, t .low);
         small = t .small;
-        left = one-level p (n - (k + 1)) c i s t ∙ ap (λ m. descend p m (bare c) i) (sym e) ∙ d .left;
+        left = λ m.
+            let e : k + suc m ≡ k + 1 + m = omega arith in
+            one-level p m c i s t ∙ d .left (suc m) ∙ ap (λ l. descend p l (bare c₀) i₀) e;
       }
 
-  -- to depth 12 the identifier is far below 2⁶⁴
-  pub far-below : n ≤ 11 → i < 1073741824
-  far-below h =
-      let w : 4 ^ k ≤ 4 ^ 11 = pow-le-pow-right {n = 4} (lit< tt) {i = k} {j = 11} (omega (arith, d .upto)) in
-      omega (arith, d .room)
+  -- eleven levels below an identifier of 40 bits it is far below 2⁶⁴
+  pub far-below : i₀ < 2 ^ 40 → k ≤ 11 → i < 4611686018427387904
+  far-below l h =
+      let w : 4 ^ k ≤ 4 ^ 11 = pow-le-pow-right {n = 4} (lit< tt) {i = k} {j = 11} h in
+      let r : i < 1099511627776 * 4 ^ k = d .room 1099511627776 l in
+      omega arith
 
-  pub end : n ≤ k → i ≡ descend p n (bare c₀) i₀
+  pub end : (n : ℕ) → n ≡ k → Descent p c₀ i₀ n (record { id = i; corners = c })
   unfolding descend
-  end h = let e : 0 ≡ n - k = omega arith in ap (λ m. descend p m (bare c) i) e ∙ d .left
+  end n e =
+      let z : k + 0 ≡ n = omega arith in
+      record {
+        is = d .left 0 ∙ ap (λ l. descend p l (bare c₀) i₀) z;
+        goes-on = λ m. d .left m ∙ ap (λ l. descend p (l + m) (bare c₀) i₀) (sym e);
+        small = d .small;
+        room = subst (λ l. (b : ℕ) → i₀ < b → i < b * 4 ^ l) (sym e) (d .room);
+      }
+
+-- ---- below depth 6: the sure digits, and those that are left
+
+module _ (p : Vec3) (c : Corners) (i n : ℕ) (r : SureDigits) (j : Jumped p c i n r) where
+  pub all-sure : r .count ≡ n → r .id ≡ descend p n (bare c) i
+  unfolding descend
+  all-sure e =
+      let z : r .count + 0 ≡ n = omega arith in
+      sym (j .goes-on 0) ∙ ap (λ l. descend p l (bare c) i) z
+
+  pub some-left : (d : Corners) → d ≡ cornersOf (along (r .count) (r .id) (bare c)) → descend p (n - r .count) (bare d) (r .id) ≡ descend p n (bare c) i
+  some-left d e =
+      let z : r .count + (n - r .count) ≡ n = omega (arith, j .upto) in
+      descend-corners p (n - r .count) (bare d) (along (r .count) (r .id) (bare c)) (r .id) e
+      ∙ sym (j .goes-on (n - r .count))
+      ∙ ap (λ l. descend p l (bare c) i) z
+
+  pub sure-below : i < 2 ^ 20 → n ≤ 6 → r .id < 2 ^ 40
+  sure-below h l =
+      let w : 4 ^ r .count ≤ 4 ^ 6 = pow-le-pow-right {n = 4} (lit< tt) {i = r .count} {j = 6} (omega (arith, j .upto)) in
+      let b : r .id < 1048576 * 4 ^ r .count = j .room 1048576 h in
+      omega arith

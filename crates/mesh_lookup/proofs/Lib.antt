@@ -1,5 +1,4 @@
 pub mod AnswerLaws
 pub mod DescentLaws
-pub mod SideLaws
 pub mod StepLaws
 pub mod TableLaws

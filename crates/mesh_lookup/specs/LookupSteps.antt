@@ -2,8 +2,9 @@
 --   childAt d c       the digit d with the corners c
 --   digitBy p a b c   the child that p goes to, by the normals a, b and c of the cuts turned round
 --   ChildStep p c r   r has the digit of p in the trixel with corners c, and the corners of that child
+--   Descent p c i n r  r is the trixel n levels below that with the corners c and the identifier i, on p's way: the descent goes on from it
 --   TableStart p k s  s is the trixel of depth 3 on p's way from the root k: the descent goes on from it as from the root
-use Prim.Native.Nat.{ℕ, suc, _+_, _<_}
+use Prim.Native.Nat.{ℕ, suc, _+_, _*_, _^_, _<_}
 use mathlib.Core.Path.{_≡_}
 use mathlib.Core.Bool.{cond}
 use lib.IntN.{pos}
@@ -29,6 +30,12 @@ pub record ChildStep (p : Vec3) (c : Corners) (r : Child) : Type 0 where
   pub child : r .corners ≡ cornersOf (child (digit p (bare c)) (bare c))
   pub small : SmallCorners (r .corners)
   pub low : r .digit < 4
+
+pub record Descent (p : Vec3) (c : Corners) (i n : ℕ) (r : LocatedTrixel) : Type 0 where
+  pub is : r .id ≡ descend p n (bare c) i
+  pub goes-on : (m : ℕ) → descend p m (bare (r .corners)) (r .id) ≡ descend p (n + m) (bare c) i
+  pub small : SmallCorners (r .corners)
+  pub room : (b : ℕ) → i < b → r .id < b * 4 ^ n
 
 pub record TableStart (p : Vec3) (k : ℕ) (s : LocatedTrixel) : Type 0 where
   pub goes-on : (n : ℕ) → descend p n (bare (s .corners)) (s .id) ≡ descend p (suc (suc n)) (rootTrixel k) (8 + k)

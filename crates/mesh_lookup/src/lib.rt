@@ -1,5 +1,5 @@
-// The lookup in code: the root by the signs, the trixel of depth 3 by the table, then step by step from corners. The rule stands in mesh/specs/Lookup,
-// what the steps give in specs/LookupSteps.
+// The lookup in code: the root by the signs, the trixel of depth 3 by the table, then step by step from corners to depth 6, and from there by a jump. The
+// rule stands in mesh/specs/Lookup, what the steps give in specs/LookupSteps.
 use answer::DEPTH;
 use answer::Number;
 use answer::VECTOR;
@@ -7,7 +7,7 @@ use mesh::Corners;
 use vector::Vec3;
 ghost use mathlib.Core.Path.{_≡_};
 ghost use mathlib.Core.Bool.{cond};
-ghost use Prim.Native.Nat.{_≤_, _<_};
+ghost use Prim.Native.Nat.{_^_, _≤_, _<_};
 ghost use lib.IntN.{pos};
 ghost use lib.Signed.{leZ};
 ghost use Rattle.answer.specs.Calls.{numberOf};
@@ -17,7 +17,7 @@ ghost use Rattle.mesh.specs.Lookup as rule;
 ghost use Rattle.mesh.specs.Lookup.{notNegative, northRoot, southRoot, rootNumber};
 ghost use Rattle.mesh_table.specs.Table.{table, vectorAt};
 ghost use Rattle.mesh_trixels.specs.Corners.{bare, SmallCorners};
-ghost use Rattle.mesh_lookup.specs.LookupSteps.{childAt, digitBy, ChildStep, TableStart};
+ghost use Rattle.mesh_lookup.specs.LookupSteps.{childAt, digitBy, ChildStep, Descent, TableStart};
 
 // A digit, and the corners of that child.
 pub struct Child {
@@ -95,12 +95,12 @@ fn step(p: Vec3, c: Corners) -> Child
     chosen(3, mesh_trixels::triple(w0, w1, w2))
 }
 
-// n levels down from the trixel with the identifier id and the corners c.
-fn descend(p: Vec3, c: Corners, id: u64, n: u32) -> u64
+// The trixel n levels down from that with the identifier id and the corners c.
+fn descend(p: Vec3, c: Corners, id: u64, n: u32) -> LocatedTrixel
     requires { ⌜ Small p ⌝ }
     requires { ⌜ SmallCorners c ⌝ }
-    requires { ⌜ (id < 256) × (n ≤ 11) ⌝ }
-    ensures { λ r. ⌜ r ≡ rule.descend p n (bare c) id ⌝ }
+    requires { ⌜ (id < 2 ^ 40) × (n ≤ 11) ⌝ }
+    ensures { λ r. ⌜ Descent p c id n r ⌝ }
 {
     let mut at = c;
     let mut i = id;
@@ -111,7 +111,7 @@ fn descend(p: Vec3, c: Corners, id: u64, n: u32) -> u64
         i = 4 * i + s.digit;
         k += 1;
     }
-    i
+    LocatedTrixel { id: i, corners: at }
 }
 
 // The root by the signs: S0 S1 S2 S3 N0 N1 N2 N3 are 0 to 7.
@@ -199,6 +199,28 @@ fn from_table(p: Vec3, root: u64) -> LocatedTrixel
     }
 }
 
+// The identifier n levels below the trixel of depth 6 with the identifier id and the corners c: the sure digits by a jump, those that are left level by
+// level.
+fn identifier_below(p: Vec3, c: Corners, id: u64, n: u32) -> u64
+    requires { ⌜ Small p ⌝ }
+    requires { ⌜ SmallCorners c ⌝ }
+    requires { ⌜ (id < 2 ^ 20) × (n ≤ 6) ⌝ }
+    ensures { λ r. ⌜ r ≡ rule.descend p n (bare c) id ⌝ }
+{
+    let sure = mesh_jump::jump(p, c, id, n);
+    let count = sure.count;
+    if count == n {
+        return sure.id;
+    }
+    let end = descend(
+        p,
+        mesh_jump::corners_along(c, sure.id, count),
+        sure.id,
+        n - count,
+    );
+    end.id
+}
+
 // The identifier of p at a depth.
 fn identifier(p: Vec3, depth: u32) -> u64
     requires { ⌜ Small p ⌝ }
@@ -207,11 +229,18 @@ fn identifier(p: Vec3, depth: u32) -> u64
 {
     let root = root_number(p);
     if depth < 3 {
-        return descend(p, mesh_trixels::root_corners(root), 8 + root, depth - 1);
+        let end = descend(p, mesh_trixels::root_corners(root), 8 + root, depth - 1);
+        return end.id;
     }
     let start = from_table(p, root);
     let c = start.corners;
-    descend(p, c, start.id, depth - 3)
+    if depth <= 6 {
+        let end = descend(p, c, start.id, depth - 3);
+        return end.id;
+    }
+    let six = descend(p, c, start.id, 3);
+    let corners = six.corners;
+    identifier_below(p, corners, six.id, depth - 6)
 }
 
 // The identifier of the trixel that a pointing lies in, or the refusal 5 or 8.

@@ -11,7 +11,7 @@ use Rattle.algebra.proofs.Inequalities.{<ℤ→≤ℤ}
 use Rattle.algebra.proofs.Tests.{lt-yes, yes-le, not-le}
 use Rattle.vector.specs.Vectors.{dot, cross, scale}
 use Rattle.vector.proofs.SizeLaws.{largest-bound}
-use Rattle.mesh_lookup.proofs.SideLaws.{scale-above, scale-below}
+use Rattle.jump.proofs.SideLaws.{scale-above, scale-below}
 use Rattle.vector.proofs.VectorLaws.{dot-comm}
 use Rattle.mesh.specs.Lookup.{notNegative}
 use Rattle.mesh_lookup.proofs.on_side.Statement.{statement}

@@ -1,0 +1,4 @@
+pub mod JumpLaws
+pub mod JumpLoop
+pub mod JumpPath
+pub mod StartLaws

@@ -1,0 +1,32 @@
+-- `mesh_jump::can_start` makes the tests of a start one after the other. Assumes nothing.
+use borrow.Author.Needs.{needs}
+use mathlib.Core.Path.{sym, _∙_}
+use mathlib.Core.Bool.{false≢true}
+use borrow.Author.Tests.{not-false}
+use Rattle.mesh_jump.proofs.can_start.Statement.{statement}
+use Rattle.mesh_jump.proofs.can_start.Tie as tie
+
+pub can-start-spec : {M : Type 1} → statement M
+can-start-spec =
+    tie.close
+    (tie.spec
+    (λ c κs. search needs)
+    (λ c. λ e. absurd (false≢true e))
+    (λ c κs. search needs)
+    (λ c. λ e. absurd (false≢true e))
+    (λ c κs. search needs)
+    (λ c. λ e. absurd (false≢true e))
+    (λ c κs. search needs)
+    (λ c.
+    let e3 = c .before in
+    let large = e3 .before in
+    let e2 = large .before in
+    let numbers = e2 .before in
+    let e1 = numbers .before in
+    let vector = e1 .before in
+    λ t. record {
+      vector = sym (vector .is-vector .ensures) ∙ not-false _ (e1 .if1 .left);
+      numbers = numbers .not-negative .ensures (not-false _ (e2 .if2 .left));
+      large = large .is-large .ensures (not-false _ (e3 .if3 .left));
+      shape = c .is-shaped .ensures t;
+    }))
