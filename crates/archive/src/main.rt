@@ -16,15 +16,7 @@
 // others without a sign, all of 32 bits. A line ends with a line feed; the last line may do without. HEX may have any length. A line has at most
 // 65536 bytes, of which HEX counts for 21018 at most; a longer one is malformed. Where a read or a write fails, standard error says so and no line more is
 // answered.
-use index::INDEX_LENGTH;
 
 fn main() {
-    let mut index = [0i64; INDEX_LENGTH];
-    let mut line = io::large_buffer();
-    let mut out = io::large_buffer();
-    let n = archive_commands::answer_lines(&mut index, &mut line, &mut out);
-    if 0 < n {
-        let at = archive_commands::answer_line(&mut index, &line, n, &mut out, 0);
-        print::flush(&out, at);
-    }
+    archive_commands::answer_lines();
 }

@@ -51,25 +51,21 @@ fn delivered(
     let all: &[u32] = numbers;
     let n = print::least(counts.delivered, OWNER_CAPACITY);
     let end = print::natural(out, at, counts.delivered, b' ');
-    let end = print::natural(out, end, counts.tests, then(0, n));
-    list(out, end, &all[0..n])
+    let end = print::digits(out, end, counts.tests);
+    let end = list(out, end, &all[0..n]);
+    print::byte(out, end, b'\n')
 }
 
-// The numbers, parted by blanks, and the line's end.
+// The numbers, each behind a blank.
 fn list(out: &mut Buffer, at: usize, numbers: &[u32]) -> usize {
     let mut end = at;
     for i in 0..numbers.len() {
-        end = number(out, end, numbers[i], then(i + 1, numbers.len()));
+        end = number(out, end, numbers[i]);
     }
     end
 }
 
-// A number of 32 bits, and the byte that follows it.
-fn number(out: &mut Buffer, at: usize, n: u32, then: u8) -> usize {
-    print::natural(out, at, n as u64, then)
-}
-
-// What follows when i of n numbers are printed.
-fn then(i: usize, n: usize) -> u8 {
-    if i < n { b' ' } else { b'\n' }
+fn number(out: &mut Buffer, at: usize, n: u32) -> usize {
+    let end = print::byte(out, at, b' ');
+    print::digits(out, end, n as u64)
 }

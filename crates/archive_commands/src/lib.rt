@@ -1,30 +1,23 @@
-// Lines of input over one index, each answered as it ends: the commands add, remove, list, frames and trial. After a read that failed the line that has begun
-// is not answered, and after a write that failed nothing more is read.
+// Lines of input over one index, each answered as it ends: the commands add, remove, list, frames and trial.
 use answer::OWNER;
 use check::same;
 use command_words::NaturalAt;
 use command_words::PointAt;
-use command_words::StoredLine;
+use command_words::lines;
+use command_words::lines::Found;
+use command_words::lines::LINES;
 use index::Change;
 use index::Entry;
 use index::EntryOf;
 use index::INDEX_CAPACITY;
+use index::INDEX_LENGTH;
 use index::OWNERS;
 use print::Buffer;
-use print::LOST;
-use streams::Input;
 
 pub mod frame_search;
 pub mod setting_trial;
 
-// A loop must end, and no run reads so many blocks.
-const BLOCKS: u64 = u64::MAX;
-
-// Between two bytes of the input: what is stored of a line, and the end of what is printed.
-struct LineState {
-    stored: StoredLine,
-    at: usize,
-}
+type Index = [i64; INDEX_LENGTH];
 
 // Between two entries of a list: whether one is printed, and the end of what is printed.
 struct Listed {
@@ -32,88 +25,29 @@ struct Listed {
     at: usize,
 }
 
-// Answers the lines of the input. The result is how many bytes `line` holds of a last one that has no line feed and is to be answered.
-pub fn answer_lines(index: &mut [i64], line: &mut Buffer, out: &mut Buffer) -> usize {
+// Answers the lines of the input, over an index that begins empty.
+pub fn answer_lines() {
+    let mut index = [0i64; INDEX_LENGTH];
     let mut block = io::large_buffer();
-    let mut stored = command_words::empty_line();
-    for _ in 0..BLOCKS {
-        let Input::Bytes(n) = streams::read(&mut block) else {
-            return 0;
+    let mut store = io::large_buffer();
+    let mut out = io::large_buffer();
+    let mut state = lines::begin();
+    for _ in 0..LINES {
+        let Found::Line(line, after) = lines::next(&mut block, &mut store, state, &out) else {
+            return;
         };
-        if n == 0 {
-            return stored.bytes;
-        }
-        let state = answer_block(&block[..n], index, line, stored, out);
-        if state.at == LOST {
-            return 0;
-        }
-        stored = state.stored;
-    }
-    0
-}
-
-// Answers the lines that end in a block; `line` has what is stored of the first one already.
-fn answer_block(
-    block: &[u8],
-    index: &mut [i64],
-    line: &mut Buffer,
-    stored: StoredLine,
-    out: &mut Buffer,
-) -> LineState {
-    let mut state = LineState {
-        stored: stored,
-        at: 0,
-    };
-    for i in 0..block.len() {
-        state = answer_byte(block[i], index, line, state, out);
-    }
-    let stored = state.stored;
-    LineState {
-        stored: stored,
-        at: print::flush(out, state.at),
-    }
-}
-
-fn answer_byte(
-    b: u8,
-    index: &mut [i64],
-    line: &mut Buffer,
-    state: LineState,
-    out: &mut Buffer,
-) -> LineState {
-    let stored = state.stored;
-    if b == b'\n' {
-        return LineState {
-            stored: command_words::empty_line(),
-            at: answer_line(index, line, stored.bytes, out, state.at),
-        };
-    }
-    LineState {
-        stored: command_words::append_byte(line, stored, b),
-        at: state.at,
-    }
-}
-
-pub fn answer_line(
-    index: &mut [i64],
-    line: &Buffer,
-    n: usize,
-    out: &mut Buffer,
-    at: usize,
-) -> usize {
-    if at == LOST {
-        return LOST;
-    }
-    let all: &[u8] = line;
-    if n <= all.len() {
-        answer(index, &all[0..n], out, at)
-    } else {
-        print::usage(out, at)
+        state = after;
+        state.at = answer(
+            &mut index,
+            lines::text(&block, &store, line),
+            &mut out,
+            after.at,
+        );
     }
 }
 
 // The answer to a line, by its first word.
-fn answer(index: &mut [i64], line: &[u8], out: &mut Buffer, at: usize) -> usize {
+fn answer(index: &mut Index, line: &[u8], out: &mut Buffer, at: usize) -> usize {
     let word = command_words::word(line, 0);
     let next = command_words::after(line, 0);
     if same(word, b"add") {

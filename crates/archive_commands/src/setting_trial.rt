@@ -3,6 +3,7 @@ use command_words::FILE_CAPACITY;
 use command_words::NaturalAt;
 use limits::MAX_BUDGET;
 use print::Buffer;
+use print::covers::RangeShape;
 use trial::Choice;
 use trial::Setting;
 use trial::SettingResult;
@@ -77,7 +78,7 @@ fn compared(out: &mut Buffer, at: usize, both: Trial, part: &[u64]) -> usize {
     let end = setting_result(out, end, both.second);
     let choice = both.choice;
     let end = print::byte(out, end, choice_digit(choice));
-    let end = ranges(out, end, part);
+    let end = print::covers::ranges(out, end, RangeShape::Identifiers, part);
     print::byte(out, end, b'\n')
 }
 
@@ -95,19 +96,4 @@ fn setting_result(out: &mut Buffer, at: usize, one: SettingResult) -> usize {
     let end = print::natural(out, end, one.discarded, b' ');
     let end = print::natural(out, end, one.outer, b' ');
     print::natural(out, end, one.inner, b' ')
-}
-
-// The ranges of a list of pairs.
-fn ranges(out: &mut Buffer, at: usize, pairs: &[u64]) -> usize {
-    let mut end = at;
-    for i in 0..pairs.len() / 2 {
-        end = range(out, end, pairs[i * 2], pairs[i * 2 + 1]);
-    }
-    end
-}
-
-fn range(out: &mut Buffer, at: usize, low: u64, high: u64) -> usize {
-    let end = print::byte(out, at, b'|');
-    let end = print::natural(out, end, low, b' ');
-    print::digits(out, end, high)
 }

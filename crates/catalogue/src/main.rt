@@ -2,21 +2,13 @@
 // trixel that holds its pointing, or `refused N`. A line is three decimals parted by one blank and closed by a line feed; a last line without its line
 // feed is of another shape. DEPTH is a decimal number from 1 to 12; where it is missing, is none or is not alone, one line says how to call it.
 use catalogue_stream::Asked;
-use catalogue_stream::LINE_CAPACITY;
 
 fn main() {
-    let mut out = io::large_buffer();
     let mut word = io::buffer();
     let length = os::arg(1, &mut word);
     let Asked::Depth(depth) = catalogue_stream::depth_in(&word[..length], os::arg_count()) else {
-        let at = catalogue_stream::usage(&mut out, 0);
-        print::flush(&out, at);
+        catalogue_stream::usage();
         return;
     };
-    let mut line = [0u8; LINE_CAPACITY];
-    let n = catalogue_stream::answer_lines(depth, &mut line, &mut out);
-    if 0 < n {
-        let at = catalogue_stream::answer_stored(depth, &line, n, &mut out, 0);
-        print::flush(&out, at);
-    }
+    catalogue_stream::answer_lines(depth);
 }

@@ -8,6 +8,8 @@ ghost use Rattle.command_words.specs.Files.{FileDigits, hexValue, letter
 ghost use Prim.Native.Nat.{_+_, _-_, _^_, _≤_};
 ghost use lib.ListN.{length};
 
+pub mod lines;
+
 // The bytes of a file that are read: one more than a region file may have.
 pub const FILE_CAPACITY: usize = MAX_FILE_BYTES + 1;
 

@@ -13,6 +13,12 @@ ghost use Rattle.region.specs.Answers.{headerGiven};
 // Two lists of pairs, each within the largest budget.
 const ELEMENTS: usize = 4 * MAX_BUDGET as usize;
 
+// What is printed of a range: a byte that parts it from what is before, a letter and its first and last name; or `|` and its first and last identifier.
+pub enum RangeShape {
+    Names { part: u8, letter: u8 },
+    Identifiers,
+}
+
 pub fn lines(out: &mut Buffer, at: usize, file: &[u8], part: u8) -> usize {
     let mut lists = [0u64; ELEMENTS];
     match htm::cover(file, &mut lists) {
@@ -53,14 +59,14 @@ fn covered(
     part: u8,
 ) -> usize {
     let end = first_line(out, at, header.depth, counts);
-    let end = ranges(out, end, b'o', pairs(lists, 0, counts.outer), part);
+    let inner = pairs(lists, inner_start(header.budget), counts.inner);
     let end = ranges(
         out,
         end,
-        b'i',
-        pairs(lists, inner_start(header.budget), counts.inner),
-        part,
+        RangeShape::Names { part, letter: b'o' },
+        pairs(lists, 0, counts.outer),
     );
+    let end = ranges(out, end, RangeShape::Names { part, letter: b'i' }, inner);
     crate::byte(out, end, b'\n')
 }
 
@@ -93,20 +99,33 @@ fn pairs(lists: &[u64], from: usize, count: u64) -> &[u64] {
     &lists[from..from + n * 2]
 }
 
-// A line for each range of a list.
-fn ranges(out: &mut Buffer, at: usize, letter: u8, pairs: &[u64], part: u8) -> usize {
+// The ranges of a list.
+pub fn ranges(out: &mut Buffer, at: usize, shape: RangeShape, pairs: &[u64]) -> usize {
     let mut end = at;
     for i in 0..pairs.len() / 2 {
-        end = crate::byte(out, end, part);
-        end = range(out, end, letter, pairs[i * 2], pairs[i * 2 + 1]);
+        end = range(out, end, shape, pairs[i * 2], pairs[i * 2 + 1]);
     }
     end
 }
 
-fn range(out: &mut Buffer, at: usize, letter: u8, low: u64, high: u64) -> usize {
-    let end = crate::byte(out, at, letter);
+fn range(out: &mut Buffer, at: usize, shape: RangeShape, low: u64, high: u64) -> usize {
+    match shape {
+        RangeShape::Names { part, letter } => names(out, at, part, letter, low, high),
+        RangeShape::Identifiers => identifiers(out, at, low, high),
+    }
+}
+
+fn names(out: &mut Buffer, at: usize, part: u8, letter: u8, low: u64, high: u64) -> usize {
+    let end = crate::byte(out, at, part);
+    let end = crate::byte(out, end, letter);
     let end = crate::byte(out, end, b' ');
     let end = crate::name(out, end, low);
     let end = crate::byte(out, end, b' ');
     crate::name(out, end, high)
+}
+
+fn identifiers(out: &mut Buffer, at: usize, low: u64, high: u64) -> usize {
+    let end = crate::byte(out, at, b'|');
+    let end = crate::natural(out, end, low, b' ');
+    crate::digits(out, end, high)
 }

@@ -15,27 +15,24 @@ pub fn held(out: &mut Buffer, at: usize, is_held: bool) -> usize {
 pub fn rows(out: &mut Buffer, at: usize, header: Header, numbers: &[i32]) -> usize {
     let end = crate::natural(out, at, header.depth as u64, b' ');
     let end = crate::natural(out, end, header.budget as u64, b' ');
-    let end = crate::natural(out, end, header.count as u64, then(0, numbers.len()));
-    list(out, end, numbers)
+    let end = crate::digits(out, end, header.count as u64);
+    let end = list(out, end, numbers);
+    crate::byte(out, end, b'\n')
 }
 
-// The numbers, parted by blanks, and the line's end.
+// The numbers, each behind a blank.
 fn list(out: &mut Buffer, at: usize, numbers: &[i32]) -> usize {
     let mut end = at;
     for i in 0..numbers.len() {
-        end = number(out, end, numbers[i], then(i + 1, numbers.len()));
+        end = number(out, end, numbers[i]);
     }
     end
 }
 
-// A number of 32 bits, and the byte that follows it.
-fn number(out: &mut Buffer, at: usize, n: i32, then: u8) -> usize {
-    crate::whole(out, at, n as i64, then)
-}
-
-// What follows when i of n numbers are printed.
-fn then(i: usize, n: usize) -> u8 {
-    if i < n { b' ' } else { b'\n' }
+fn number(out: &mut Buffer, at: usize, n: i32) -> usize {
+    let whole = n as i64;
+    let end = crate::byte(out, at, b' ');
+    crate::integer(out, end, whole)
 }
 
 // A file in digits, and the line's end.

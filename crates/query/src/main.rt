@@ -21,11 +21,5 @@
 // a longer one is malformed. Where a read or a write fails, standard error says so and no line more is answered.
 
 fn main() {
-    let mut line = io::large_buffer();
-    let mut out = io::large_buffer();
-    let n = query_commands::answer_lines(&mut line, &mut out);
-    if 0 < n {
-        let at = query_commands::answer_line(&line, n, &mut out, 0);
-        print::flush(&out, at);
-    }
+    query_commands::answer_lines();
 }

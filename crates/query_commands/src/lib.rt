@@ -1,90 +1,28 @@
-// Lines of input, each answered as it ends. After a read that failed the line that has begun is not answered, and after a write that failed nothing
-// more is read.
+// Lines of input, each answered as it ends.
 use check::same;
-use command_words::StoredLine;
+use command_words::lines;
+use command_words::lines::Found;
+use command_words::lines::LINES;
 use print::Buffer;
-use print::LOST;
 use region::Style;
-use streams::Input;
 
 pub mod files;
 pub mod regions;
 pub mod reports;
 pub mod trixels;
 
-// A loop must end, and no run reads so many blocks.
-const BLOCKS: u64 = u64::MAX;
-
-// Between two bytes of the input: what is stored of a line, and the end of what is printed.
-struct LineState {
-    stored: StoredLine,
-    at: usize,
-}
-
-// Answers the lines of the input. The result is how many bytes `line` holds of a last one that has no line feed and is to be answered.
-pub fn answer_lines(line: &mut Buffer, out: &mut Buffer) -> usize {
+// Answers the lines of the input.
+pub fn answer_lines() {
     let mut block = io::large_buffer();
-    let mut stored = command_words::empty_line();
-    for _ in 0..BLOCKS {
-        let Input::Bytes(n) = streams::read(&mut block) else {
-            return 0;
+    let mut store = io::large_buffer();
+    let mut out = io::large_buffer();
+    let mut state = lines::begin();
+    for _ in 0..LINES {
+        let Found::Line(line, after) = lines::next(&mut block, &mut store, state, &out) else {
+            return;
         };
-        if n == 0 {
-            return stored.bytes;
-        }
-        let state = answer_block(&block[..n], line, stored, out);
-        if state.at == LOST {
-            return 0;
-        }
-        stored = state.stored;
-    }
-    0
-}
-
-// Answers the lines that end in a block; `line` has what is stored of the first one already.
-fn answer_block(
-    block: &[u8],
-    line: &mut Buffer,
-    stored: StoredLine,
-    out: &mut Buffer,
-) -> LineState {
-    let mut state = LineState {
-        stored: stored,
-        at: 0,
-    };
-    for i in 0..block.len() {
-        state = answer_byte(block[i], line, state, out);
-    }
-    let stored = state.stored;
-    LineState {
-        stored: stored,
-        at: print::flush(out, state.at),
-    }
-}
-
-fn answer_byte(b: u8, line: &mut Buffer, state: LineState, out: &mut Buffer) -> LineState {
-    let stored = state.stored;
-    if b == b'\n' {
-        return LineState {
-            stored: command_words::empty_line(),
-            at: answer_line(line, stored.bytes, out, state.at),
-        };
-    }
-    LineState {
-        stored: command_words::append_byte(line, stored, b),
-        at: state.at,
-    }
-}
-
-pub fn answer_line(line: &Buffer, n: usize, out: &mut Buffer, at: usize) -> usize {
-    if at == LOST {
-        return LOST;
-    }
-    let all: &[u8] = line;
-    if n <= all.len() {
-        answer(&all[0..n], out, at)
-    } else {
-        print::usage(out, at)
+        state = after;
+        state.at = answer(lines::text(&block, &store, line), &mut out, after.at);
     }
 }
 

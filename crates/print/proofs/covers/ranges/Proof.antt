@@ -5,10 +5,10 @@ use Rattle.print.proofs.covers.ranges.Statement.{statement}
 use Rattle.print.proofs.covers.ranges.Tie as tie
 
 abbrev Inv-loop : tie.InvT-loop
-Inv-loop out₀ at letter pairs part end₀ i₀ i-end out end i = i ≤ i-end
+Inv-loop out₀ at shape pairs end₀ i₀ i-end out end i = i ≤ i-end
 
 abbrev μ-loop : tie.MeasureT-loop
-μ-loop out₀ at letter pairs part end₀ i₀ i-end out end i = i-end - i
+μ-loop out₀ at shape pairs end₀ i₀ i-end out end i = i-end - i
 
 pub ranges-spec : {M : Type 1} → statement M
 ranges-spec =
@@ -17,7 +17,6 @@ ranges-spec =
     Inv-loop
     μ-loop
     (λ c. omega arith)
-    (λ c κs. tt)
     (λ c. omega arith)
     (λ c. omega arith)
     (λ c. omega arith)

@@ -7,8 +7,8 @@ use Rattle.print.proofs.regions.number.Tie as tie
 
 cast-whole : tie.Need-cast-whole
 cast-whole c =
-    let f = c .before .fits .n in
+    let f = c .fits .n in
     rw (toZ-ofZ f) (record { sfits = lt-of-lt-of-le (f .sfits) (lit≤ tt) })
 
 pub number-spec : {M : Type 1} → statement M
-number-spec = tie.close (tie.spec cast-whole (λ c κs. tt) (λ c. tt))
+number-spec = tie.close (tie.spec cast-whole (λ c κs. tt) (λ c κs. tt) (λ c. tt))
