@@ -17,6 +17,12 @@ use Rattle.mesh_lookup.specs.declared.LocatedTrixel.{LocatedTrixel}
 use Rattle.mesh_lookup.specs.LookupSteps.{Descent, TableStart}
 
 module _ (p : Vec3) (d k : ℕ) (root : k ≡ rootNumber p) where
+  pub at-root : d ≡ 1 → 8 + k ≡ identifier p d
+  unfolding identifier descend
+  at-root e =
+      let z : 0 ≡ d - 1 = omega arith in
+      ap (λ m. descend p m (rootTrixel k) (8 + k)) z ∙ ap (λ m. descend p (d - 1) (rootTrixel m) (8 + m)) root
+
   pub from-root : (c : Corners) → c ≡ cornersOf (rootTrixel k) → descend p (d - 1) (bare c) (8 + k) ≡ identifier p d
   unfolding identifier
   from-root c e =
@@ -28,6 +34,12 @@ module _ (p : Vec3) (d k : ℕ) (root : k ≡ rootNumber p) where
   from-table-start s h t =
       let e : suc (suc (d - 3)) ≡ d - 1 = omega arith in
       t .goes-on (d - 3) ∙ ap (λ m. descend p m (rootTrixel k) (8 + k)) e ∙ ap (λ m. descend p (d - 1) (rootTrixel m) (8 + m)) root
+
+  pub at-three : (s : LocatedTrixel) → d ≡ 3 → TableStart p k s → s .id ≡ identifier p d
+  unfolding descend
+  at-three s e t =
+      let z : 0 ≡ d - 3 = omega arith in
+      ap (λ m. descend p m (bare (s .corners)) (s .id)) z ∙ from-table-start s (omega arith) t
 
   pub from-six : (s t : LocatedTrixel) → 6 < d → TableStart p k s → Descent p (s .corners) (s .id) 3 t → descend p (d - 6) (bare (t .corners)) (t .id) ≡ identifier p d
   from-six s t h b e =

@@ -228,11 +228,17 @@ fn identifier(p: Vec3, depth: u32) -> u64
     ensures { λ r. ⌜ r ≡ rule.identifier p depth ⌝ }
 {
     let root = root_number(p);
-    if depth < 3 {
-        let end = descend(p, mesh_trixels::root_corners(root), 8 + root, depth - 1);
+    if depth == 1 {
+        return 8 + root;
+    }
+    if depth == 2 {
+        let end = descend(p, mesh_trixels::root_corners(root), 8 + root, 1);
         return end.id;
     }
     let start = from_table(p, root);
+    if depth == 3 {
+        return start.id;
+    }
     let c = start.corners;
     if depth <= 6 {
         let end = descend(p, c, start.id, depth - 3);
