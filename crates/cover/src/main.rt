@@ -1,5 +1,5 @@
 // The cover of the region file on standard input, as lines on standard output (print::covers has their shape). A file that cannot be read to its
-// end has no answer.
+// end has no answer. There are no arguments: with `--help`, or with any, it prints how it is called.
 use limits::MAX_FILE_BYTES;
 use streams::Input;
 
@@ -7,6 +7,9 @@ use streams::Input;
 const BYTES: usize = MAX_FILE_BYTES + 1;
 
 fn main() {
+    if !streams::has_no_argument(b"usage: cover < FILE\n") {
+        return;
+    }
     let mut file = [0u8; BYTES];
     let Input::Bytes(n) = streams::read_all(&mut file) else {
         return;

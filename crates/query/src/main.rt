@@ -18,8 +18,11 @@
 // A refusal is answered `refused N`, a malformed line `usage`. Words are parted by one blank; numbers are decimal, X Y Z with an
 // optional minus. HEX is a file or a line in hexadecimal digits, or `-` for one with no bytes. The letters of hexadecimal digits are small or capital.
 // A line ends with a line feed; the last line may do without. HEX may have any length. A line has at most 65536 bytes, of which HEX counts for 21018 at most;
-// a longer one is malformed. Where a read or a write fails, standard error says so and no line more is answered.
+// a longer one is malformed. Where a read or a write fails, standard error says so and no line more is answered. There are no arguments: with `--help`, or
+// with any, it prints how it is called.
 
 fn main() {
-    query_commands::answer_lines();
+    if streams::has_no_argument(b"usage: query < LINES\n") {
+        query_commands::answer_lines();
+    }
 }

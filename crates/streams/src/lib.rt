@@ -1,6 +1,8 @@
-// Standard input and standard output of a program. A call that is interrupted is made again, a write that takes a part goes on with the rest, and a
-// failure is said on standard error.
+// Standard input, standard output and arguments of a program. A call that is interrupted is made again, a write that takes a part goes on with the rest,
+// and a failure is said on standard error.
+use check::same;
 use libc::EINTR;
+use libc::STDERR_FILENO;
 use libc::STDIN_FILENO;
 use libc::STDOUT_FILENO;
 ghost use mathlib.Core.Path.{_≡_};
@@ -79,4 +81,20 @@ fn goes_on(put: isize) -> bool {
         return os::errno() == EINTR;
     }
     0 < put
+}
+
+// Whether a program that takes no argument was given none. Else its usage is written: on standard output where it is asked for, on standard error
+// otherwise.
+pub fn has_no_argument(usage: &[u8]) -> bool {
+    if os::arg_count() < 2 {
+        return true;
+    }
+    let mut word = io::buffer();
+    let length = os::arg(1, &mut word);
+    if same(&word[..length], b"--help") {
+        write(usage);
+    } else {
+        io::write_all(STDERR_FILENO, usage);
+    }
+    false
 }

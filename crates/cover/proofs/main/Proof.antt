@@ -19,6 +19,9 @@ main-spec =
     (tie.spec
     (λ c. search needs)
     (λ c κs. tt)
+    (λ c. tt)
+    (λ c. search needs)
+    (λ c κs. tt)
     (λ c. search needs)
     (λ c. search needs)
     (λ c. tt)
