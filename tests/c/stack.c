@@ -125,11 +125,11 @@ static const struct {
     void (*call)(void);
     size_t most;
 } calls[] = {
-    {"lookup", do_lookup, 2000},
-    {"htm_lookup", do_htm_lookup, 2000},
-    {"htm_lookup_f64", do_f64, 2000},
-    {"htm_lookup_f32", do_f32, 2000},
-    {"htm_lookup_line", do_line, 2000},
+    {"lookup", do_lookup, 2500},
+    {"htm_lookup", do_htm_lookup, 2500},
+    {"htm_lookup_f64", do_f64, 2500},
+    {"htm_lookup_f32", do_f32, 2500},
+    {"htm_lookup_line", do_line, 2500},
     {"htm_name", do_name, 1000},
     {"htm_identifier", do_identifier, 1000},
     {"htm_corners", do_corners, 4000},
@@ -142,7 +142,7 @@ static const struct {
     {"htm_holds", do_holds, 11000},
     {"htm_cover", do_cover, 86000},
     {"htm_index_begin", do_begin, 1000},
-    {"htm_add", do_add, 2000},
+    {"htm_add", do_add, 2500},
     {"htm_index_count", do_count, 1000},
     {"htm_index_entry", do_entry, 1000},
     {"htm_frames", do_frames, 86000},
