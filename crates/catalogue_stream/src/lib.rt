@@ -4,7 +4,7 @@ use command_words::lines;
 use command_words::lines::Found;
 use command_words::lines::LINES;
 use print::Buffer;
-ghost use Rattle.catalogue_stream.specs.Asked.{Right};
+ghost use Rattle.catalogue_stream.specs.Asked.{DepthInRange};
 
 // What the program is asked for: a depth, or nothing that it can do.
 pub enum Asked {
@@ -14,7 +14,7 @@ pub enum Asked {
 
 // The depth in the first argument: a number from 1 to 12, alone in its word. The program's name is counted with the arguments, and no other may follow.
 pub fn depth_in(word: &[u8], arguments: usize) -> Asked
-    ensures { λ r. ⌜ Right r ⌝ }
+    ensures { λ r. ⌜ DepthInRange r ⌝ }
 {
     let NaturalAt::Is(depth, end) = command_words::natural_at(word, 0) else {
         return Asked::Not;

@@ -1,4 +1,4 @@
--- The jump from exact corners of depth 6, level by level: six levels, with the numbers of algebra/proofs/JumpConstants. Assumes nothing.
+-- The jump from exact corners of depth 6, level by level: six levels, with the numbers of jump/proofs/JumpConstants. Assumes nothing.
 --   At         the numbers d0 d1 d2 follow p at the corners of x, i levels below the start
 --   start-at   so do the three determinants at the start, if the four tests hold: shape, volume, and no determinant below 0
 --   next-0 ..  one level: the rule's digit, and the numbers of that child

@@ -1,5 +1,5 @@
 // The jump in code: from exact corners of depth 6 the digits of a pointing by three numbers, doubled from level to level, as far as a margin makes them
-// sure. What the functions give stands in specs/Jumps; why the digits are those of the rule, in proofs/JumpPath and algebra/proofs/JumpLevel.
+// sure. What the functions give stands in specs/Jumps; why the digits are those of the rule, in proofs/JumpPath and jump/proofs/JumpLevel.
 use limits::K;
 use mesh::Corners;
 use vector::Vec3;
