@@ -6,7 +6,7 @@
 --   decimalsIn l    the decimals of the line l, its line feed included: refusal 13 where it has another shape
 --   pointingIn l    their values, as a vector of whole numbers
 --   LinesInverse    decimalsIn reads what lineOf writes, and nothing else (proofs/LinesInverse)
---   OtherShapes     all else is refused with 13; the longest line has 33 bytes
+--   MalformedRefused     all else is refused with 13; the longest line has 33 bytes
 use Prim.Native.Nat.{ℕ, zero, suc, _+_, _-_, _*_, _/_, _^_, _<_}
 use mathlib.Core.Path.{_≡_}
 use mathlib.Core.Bool.{Bool, true, false, cond, _&&_}
@@ -136,5 +136,5 @@ abbrev pub LinesInverse : Type 0
 LinesInverse = (t : Line) (l : List ℕ) → (isLine t ≡ true → lineOf t ≡ l → decimalsIn l ≡ gives t) × (decimalsIn l ≡ gives t → (isLine t ≡ true) × (lineOf t ≡ l))
 
 -- every other line is refused with 13, and so is every line that is longer than the longest
-abbrev pub OtherShapes : Type 0
-OtherShapes = ((l : List ℕ) (n : ℕ) → decimalsIn l ≡ refused n → n ≡ answer.Line) × ((l : List ℕ) → 33 < length l → decimalsIn l ≡ refused answer.Line)
+abbrev pub MalformedRefused : Type 0
+MalformedRefused = ((l : List ℕ) (n : ℕ) → decimalsIn l ≡ refused n → n ≡ answer.Line) × ((l : List ℕ) → 33 < length l → decimalsIn l ≡ refused answer.Line)

@@ -11,7 +11,7 @@ use Rattle.algebra.proofs.Tests.{every-every, some-some, every-none, some-fails
 use Rattle.vector.specs.declared.Vec3.{Vec3}
 use Rattle.vector.specs.Numbers.{K}
 use Rattle.vector.specs.Vectors.{dot, minus}
-use Rattle.vector.proofs.VectorLaws.{Long, dot-minus}
+use Rattle.vector.proofs.VectorLaws.{UnitLength, dot-minus}
 use Rattle.mesh.specs.declared.Trixel.{Trixel}
 use Rattle.mesh.proofs.Path.{Inside}
 use Rattle.region.specs.declared.Halfspace.{Halfspace}
@@ -53,7 +53,7 @@ convex-full = full-apart
 convex-outside : (o f : Bool) → isOutside (cond o Outside (cond f Full Partial)) ≡ true → o ≡ true
 convex-outside = outside-within
 
-module _ (p : Vec3) (l : Long p) (t : Trixel) (i : Inside p t) where
+module _ (p : Vec3) (l : UnitLength p) (t : Trixel) (i : Inside p t) where
   -- ---- a halfspace
   full-halfspace′ : (n : Vec3) (d : ℤ) → isFull (halfspaceClass (record { n = n; d = d }) t) ≡ true → holdsHalfspace (record { n = n; d = d }) p ≡ true
   unfolding halfspaceClass

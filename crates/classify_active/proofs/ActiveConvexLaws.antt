@@ -26,7 +26,7 @@ use Rattle.classify_active.specs.Anchor.{IsAnchor, settledBy, Close}
 use Rattle.classify_halfspace.proofs.ClassLaws.{prepared-class-is}
 use Rattle.classify_active.proofs.AnchorLaws.{stays-outside, stays-full}
 use Rattle.classify_prepared.specs.PreparedLists.{seven, preparedIn, convexSevens, ConvexAt, meet}
-use Rattle.classify_region.proofs.ScanLaws.{meet-assoc, meet-full, convex-cons, no-convex, HalfAt, half-next, convex-end}
+use Rattle.classify_region.proofs.ScanLaws.{meet-assoc, meet-full, convex-cons, no-convex, HalfspaceNext, halfspace-next, convex-end}
 use Rattle.classify_prepared.proofs.PreparingLaws.{length-sevens}
 use Rattle.classify_active.specs.Active.{Stores, activeStoredCount, activeStoredList}
 
@@ -111,8 +111,8 @@ module _ (r : Anchor) (xs : List ℤ) (end : ℕ) (v : Convex) (w : ℕ) (ys : L
         → ConvexSearch (i + 1) (activeStoredCount c m) (activeStoredList c m (preparedIn xs (7 * i)) ys′)
 
   module _ (p : IsAnchor r) (i m : ℕ) (ys′ : List ℤ) (a : ConvexSearch i m ys′) (l : i < end) where
-    here : HalfAt xs i end (a .left)
-    here = half-next xs i end (a .left) (a .at) l
+    here : HalfspaceNext xs i end (a .left)
+    here = halfspace-next xs i end (a .left) (a .at) l
 
     -- the class of the convex, with that of the halfspace
     with-first : (t : Trixel) → Close r t → {c : Class} → preparedClass (preparedIn xs (7 * i)) t ≡ c → meet (convexClass (a .stored) t) (meet c (convexClass (here .rest) t)) ≡ convexClass v t

@@ -16,7 +16,7 @@ use Rattle.region.specs.declared.Record.{Record}
 use Rattle.region.specs.declared.Style.{Style}
 use Rattle.region.specs.Regions.{Convex}
 use Rattle.region.specs.Budgets.{isBudget}
-use Rattle.region.specs.Building.{lastConvex, total, withHalfspace, begun, filled, add}
+use Rattle.region.specs.Building.{lastConvex, total, withHalfspace, begun, lastFilled, add}
 use Rattle.region.specs.Records.{Styles, fits}
 use Rattle.region.specs.Reader.{File, recordAt, header, convexIn, recordIn, recordsIn, read}
 use Rattle.region.specs.Rows.{regionOf}
@@ -24,7 +24,7 @@ use Rattle.region.specs.Writer.{headerBytes, convexBytes, halfspacesByte
 
 -- ---- a convex after an empty one
 
-module _ (x : File) (has-convex : begun (x .region) ≡ true) (is-empty : filled (x .region) ≡ false) where
+module _ (x : File) (has-convex : begun (x .region) ≡ true) (is-empty : lastFilled (x .region) ≡ false) where
   pub empty-before-crowd : convexIn x ≡ refused Order
   empty-before-crowd = rw has-convex (rw is-empty)
 

@@ -16,7 +16,7 @@ use Rattle.vector.specs.Numbers.{isDepth}
 use Rattle.region.specs.declared.Halfspace.{Halfspace}
 use Rattle.region.specs.Regions.{Convex, Region}
 use Rattle.region.specs.Budgets.{isBudget}
-use Rattle.region.specs.Building.{mostInAll, total, withConvex, begun, filled, fewConvexes, add}
+use Rattle.region.specs.Building.{mostInAll, total, withConvex, begun, lastFilled, fewConvexes, add}
 use Rattle.region.specs.Bytes.{word}
 use Rattle.region.specs.declared.Record.{Record}
 use Rattle.region.specs.Records.{kind, size, allowed, is, firstOf, known, Styles, fits, stylesAfter}
@@ -87,27 +87,27 @@ header-says f x e =
 -- ---- the end
 
 abbrev pub Closed : Region → Type 0
-Closed g = (begun g ≡ true) × (filled g ≡ true)
+Closed g = (begun g ≡ true) × (lastFilled g ≡ true)
 
 pub end-says : (x y : File) (following : List ℕ) → endIn x following ≡ gives y → Closed (x .region) × (length following ≡ 0) × (x ≡ y)
 end-says x y following e =
     let g = x .region in
     let none = eqb (length following) 0 in
-    let all = begun g && (filled g && none) in
+    let all = begun g && (lastFilled g && none) in
     let t = check-passed Order all (gives x) y e in
-    let u = and-right (begun g) (filled g && none) t in
-    ((and-left (begun g) _ t, and-left (filled g) none u), eqb-true (length following) 0 (and-right (filled g) none u), same-value x y (check-gives Order all (gives x) y e))
+    let u = and-right (begun g) (lastFilled g && none) t in
+    ((and-left (begun g) _ t, and-left (lastFilled g) none u), eqb-true (length following) 0 (and-right (lastFilled g) none u), same-value x y (check-gives Order all (gives x) y e))
 
 -- ---- a convex
 
 pub convex-says : (x y : File) → convexIn x ≡ gives y
-    → (cond (begun (x .region)) (filled (x .region)) true ≡ true) × (fewConvexes (withConvex (x .region)) ≡ true) × (withRegion x (withConvex (x .region)) ≡ y)
+    → (cond (begun (x .region)) (lastFilled (x .region)) true ≡ true) × (fewConvexes (withConvex (x .region)) ≡ true) × (withRegion x (withConvex (x .region)) ≡ y)
 convex-says x y e =
     let g = x .region in
     let more = withRegion x (withConvex g) in
     let few = fewConvexes (withConvex g) in
-    let a = check-gives Order (cond (begun g) (filled g) true) (check Crowd few (gives more)) y e in
-    (check-passed Order (cond (begun g) (filled g) true) _ y e, check-passed Crowd few (gives more) y a, same-value more y (check-gives Crowd few (gives more) y a))
+    let a = check-gives Order (cond (begun g) (lastFilled g) true) (check Crowd few (gives more)) y e in
+    (check-passed Order (cond (begun g) (lastFilled g) true) _ y e, check-passed Crowd few (gives more) y a, same-value more y (check-gives Crowd few (gives more) y a))
 
 -- ---- a group: a convex, then its halfspaces
 
@@ -180,7 +180,7 @@ accepted-headed f x e =
 -- ---- what one convex more and one halfspace more keep
 
 module _ (P : File → Type 0)
-    (convex : (x : File) → (cond (begun (x .region)) (filled (x .region)) true ≡ true) × (fewConvexes (withConvex (x .region)) ≡ true) → P x → P (withRegion x (withConvex (x .region))))
+    (convex : (x : File) → (cond (begun (x .region)) (lastFilled (x .region)) true ≡ true) × (fewConvexes (withConvex (x .region)) ≡ true) → P x → P (withRegion x (withConvex (x .region))))
     (halfspace : (x : File) (g : Region) (h : Halfspace) → add (x .region) h ≡ gives g → P x → P (withRegion x g)) where
   convex-keeps : (x y : File) → convexIn x ≡ gives y → P x → P y
   convex-keeps x y e k = let w = convex-says x y e in subst P (w .2) (convex x (w .0, w .1) k)

@@ -3,7 +3,7 @@
 --   lastConvex g, total g     the convex that halfspaces go to, and how many halfspaces there are in all
 --   withConvex g              one convex more, with no halfspace yet
 --   withHalfspace g h         one halfspace more, in the last convex
---   begun g, filled g         a convex has begun; the last convex has a halfspace
+--   begun g, lastFilled g         a convex has begun; the last convex has a halfspace
 --   fewConvexes g             at most 64 convexes
 --   belowLimits g             one more makes at most 100 halfspaces in the last convex and at most 512 in all
 --   add g h                   the region with the halfspace more: refusals 7, 8, 9
@@ -48,8 +48,8 @@ withHalfspace (c ∷ d ∷ cs) h = c ∷ withHalfspace (d ∷ cs) h
 abbrev pub begun : Region → Bool
 begun g = ltb 0 (length g)
 
-abbrev pub filled : Region → Bool
-filled g = ltb 0 (length (lastConvex g))
+abbrev pub lastFilled : Region → Bool
+lastFilled g = ltb 0 (length (lastConvex g))
 
 abbrev pub fewConvexes : Region → Bool
 fewConvexes g = leb (length g) mostConvexes

@@ -16,8 +16,8 @@ use Rattle.region.specs.Regions.{Convex}
 use Rattle.region.specs.Building.{mostInAll, total}
 use Rattle.region.specs.Reader.{File, convexIn, halfspaceOf, halfspaceIn, halfspacesOf, halfspacesIn, groupIn}
 use Rattle.region_rows.specs.declared.counts.RegionSize.{RegionSize}
-use Rattle.region_rows.specs.RegionSizes.{countsOf}
-use Rattle.region_payloads.specs.Payloads.{countsAfter, Stands, SizeAfterBy}
+use Rattle.region_rows.specs.RegionSizes.{regionSize}
+use Rattle.region_payloads.specs.Payloads.{regionSizeAfter, StandsFor, SizeAfterBy}
 use Rattle.region_payloads.proofs.OutcomeLaws.{counted-refused, counted-gives, counted-as, counted-gave, counted-refuses, convex-counted}
 
 -- ---- i of n halfspaces are taken
@@ -25,8 +25,8 @@ use Rattle.region_payloads.proofs.OutcomeLaws.{counted-refused, counted
 pub record Passing (p : List ℕ) (n : ℕ) (rs₀ : List ℤ) (k₀ : RegionSize) (rs : List ℤ) (k : RegionSize) (i : ℕ) : Type 0 where
   pub within : i ≤ n
   pub room : length rs ≡ length rs₀
-  pub reached : (x : File) (before : List ℤ) → Stands before (x .region) k₀ rs₀
-      → (y : File) × Stands before (y .region) k rs × (halfspacesIn x (halfspacesOf n p) ≡ halfspacesIn y (halfspacesOf (n - i) (drop (16 * i) p)))
+  pub reached : (x : File) (before : List ℤ) → StandsFor before (x .region) k₀ rs₀
+      → (y : File) × StandsFor before (y .region) k rs × (halfspacesIn x (halfspacesOf n p) ≡ halfspacesIn y (halfspacesOf (n - i) (drop (16 * i) p)))
 
 pub passing-none : (p : List ℕ) (n : ℕ) (rs : List ℤ) (k : RegionSize) → Passing p n rs k rs k 0
 passing-none p n rs k = record {
@@ -89,7 +89,7 @@ module _ (p : List ℕ) (n : ℕ) (rs₀ : List ℤ) (k₀ : RegionSize) (rs : L
 
 -- ---- the group: c is what is counted with the convex that begins
 
-module _ (k₀ : RegionSize) (hs : Convex) (rs : List ℤ) (c : Answer RegionSize) (o : (x : File) → k₀ ≡ countsOf (x .region) → c ≡ countsAfter (convexIn x)) where
+module _ (k₀ : RegionSize) (hs : Convex) (rs : List ℤ) (c : Answer RegionSize) (o : (x : File) → k₀ ≡ regionSize (x .region) → c ≡ regionSizeAfter (convexIn x)) where
   abbrev fit : File → Bool
   fit y = leb (total (y .region) + length hs) mostInAll
 
@@ -100,7 +100,7 @@ module _ (k₀ : RegionSize) (hs : Convex) (rs : List ℤ) (c : Answer RegionSiz
   group-refused m e x before st = counted-refused m (by-convex x (refused m) (counted-refuses m e (convex-counted x st (o x (st .counts)))))
 
   module _ (k : RegionSize) (e : c ≡ gives k) where
-    begun : (x : File) (before : List ℤ) → Stands before (x .region) k₀ rs → (y : File) × (convexIn x ≡ gives y) × Stands before (y .region) k rs
+    begun : (x : File) (before : List ℤ) → StandsFor before (x .region) k₀ rs → (y : File) × (convexIn x ≡ gives y) × StandsFor before (y .region) k rs
     begun x before st = counted-gave k e (convex-counted x st (o x (st .counts)))
 
     by-room : (x y : File) (t : Bool) → convexIn x ≡ gives y → fit y ≡ t → groupIn x hs ≡ check Crowd t (halfspacesIn y hs)

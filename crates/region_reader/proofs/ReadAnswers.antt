@@ -24,7 +24,7 @@ use Rattle.region.specs.Answers.{headerOf, rowsInto, readInto, readAnswer, read
 use Rattle.region.proofs.RegionLaws.{rows-length}
 use Rattle.region.proofs.ReaderLaws.{Begins, header-read, header-says}
 use Rattle.region.proofs.StyleLaws.{in-style}
-use Rattle.region.proofs.RowsBack.{accepted-limited}
+use Rattle.region.proofs.RowsBack.{accepted-within-limits}
 use Rattle.region_reader.specs.Reading.{headedFile, recordsAfter, RowsGiven}
 use Rattle.region_records.proofs.FrameLaws.{header-length, header-whole}
 
@@ -83,7 +83,7 @@ module _ (f : List ℕ) where
 -- ---- an accepted file has at most 512 halfspaces
 
 pub accepted-total : (f : List ℕ) (x : File) → Accepted f x → total (x .region) ≤ 512
-accepted-total f x e = accepted-limited f x e .halfspaces
+accepted-total f x e = accepted-within-limits f x e .halfspaces
 
 -- ---- the reader's answer
 

@@ -21,11 +21,11 @@ use Rattle.region.specs.Reader.{File, lengthOf, kindOf, after, recordIn, record
 use Rattle.region.specs.Answers.{headerOf}
 use Rattle.region.proofs.ReaderLaws.{record-keeps, record-whole, one-more}
 use Rattle.region_rows.specs.declared.counts.RegionSize.{RegionSize}
-use Rattle.region_rows.specs.RegionSizes.{countsOf}
+use Rattle.region_rows.specs.RegionSizes.{regionSize}
 use Rattle.region_payloads.specs.declared.State.{State}
 use Rattle.region_payloads.specs.declared.Outcome.{Outcome}
-use Rattle.region_payloads.specs.Payloads.{stateOf, outcomeOf, Stands, RecordAfter}
-use Rattle.region_reader.specs.Reading.{Recorded, headedFile, recordsAfter, RowsGiven}
+use Rattle.region_payloads.specs.Payloads.{stateOf, outcomeOf, StandsFor, RecordAfter}
+use Rattle.region_reader.specs.Reading.{RecordStep, headedFile, recordsAfter, RowsGiven}
 use Rattle.region_records.proofs.FrameLaws.{whole-says, after-at}
 
 -- ---- any bound on the records that is not below the bytes left
@@ -97,10 +97,10 @@ pub record Reading (t : Style) (f : List ℕ) (h : Header) (before rs : List ℤ
   pub budget : file .budget ≡ h .budget
   pub within : s .at ≤ length f
   pub room : length rs ≡ length before
-  pub stands : Stands before (file .region) (s .counts) rs
+  pub stands : StandsFor before (file .region) (s .counts) rs
   pub same : recordsIn (Styles.only t) (length (drop (s .at) f)) file (drop (s .at) f) ≡ recordsAfter t h f
 
-pub reading-none : (t : Style) (f : List ℕ) (h : Header) (before : List ℤ) → 8 ≤ length f → (k : RegionSize) → k ≡ countsOf []
+pub reading-none : (t : Style) (f : List ℕ) (h : Header) (before : List ℤ) → 8 ≤ length f → (k : RegionSize) → k ≡ regionSize []
     → Reading t f h before before (record { at = 8; counts = k })
 unfolding rows rowsFrom
 reading-none t f h before l k e = record {
@@ -114,7 +114,7 @@ reading-none t f h before l k e = record {
 }
 
 module _ (t : Style) (f : List ℕ) (h : Header) (before rs : List ℤ) (s : State) (d : Reading t f h before rs s) (o : Outcome) (rs′ : List ℤ)
-    (r : Recorded t f s rs o rs′) where
+    (r : RecordStep t f s rs o rs′) where
   abbrev rest : List ℕ
   rest = drop (s .at) f
 

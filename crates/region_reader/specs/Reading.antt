@@ -1,5 +1,5 @@
--- What a pass over the records gives, in the terms of region/specs/Reader. `Stands` and `RecordAfter` stand in region_payloads/specs/Payloads.
---   Recorded ..            a record of a file of the style t is taken, whatever region state and array stand for
+-- What a pass over the records gives, in the terms of region/specs/Reader. `StandsFor` and `RecordAfter` stand in region_payloads/specs/Payloads.
+--   RecordStep ..            a record of a file of the style t is taken, whatever region state and array stand for
 --   recordsAfter t h f     the records of the file f, of the style t, after its header h
 --   RowsGiven a before rs  the array after a pass with the answer a: the rows of the file that a gives, at the beginning of what the array was before
 --   FilledRows g n rs      the array begins with the n rows of the region g, of 1 to 64 convexes, each with a halfspace
@@ -21,10 +21,10 @@ use Rattle.region.specs.Reader.{File, lengthOf, kindOf, recordIn, recordsIn}
 use Rattle.region.proofs.FilledLaws.{Filled}
 use Rattle.region_payloads.specs.declared.State.{State}
 use Rattle.region_payloads.specs.declared.Outcome.{Outcome}
-use Rattle.region_payloads.specs.Payloads.{Stands, RecordAfter}
+use Rattle.region_payloads.specs.Payloads.{StandsFor, RecordAfter}
 
-abbrev pub Recorded : Style → List ℕ → State → List ℤ → Outcome → List ℤ → Type 0
-Recorded t f s rs o rs′ = (x : File) (before : List ℤ) → Stands before (x .region) (s .counts) rs
+abbrev pub RecordStep : Style → List ℕ → State → List ℤ → Outcome → List ℤ → Type 0
+RecordStep t f s rs o rs′ = (x : File) (before : List ℤ) → StandsFor before (x .region) (s .counts) rs
     → RecordAfter before (eqb (kindOf (drop (s .at) f)) 4) (s .at + lengthOf (drop (s .at) f)) (recordIn (Styles.only t) x (drop (s .at) f)) o rs′
 
 -- the header's 8 bytes are read: depth and budget, and no region yet

@@ -26,7 +26,7 @@ ghost use Rattle.region.specs.Reader.{File, styleOf};
 ghost use Rattle.region.specs.Reader as rule;
 ghost use Rattle.region.specs.Answers.{headerOf, headerGiven, readAnswer, readAfter};
 ghost use Rattle.region.proofs.ReaderLaws.{Begins};
-ghost use Rattle.region_reader.specs.Reading.{Recorded, recordsAfter, RowsGiven, FilledRows};
+ghost use Rattle.region_reader.specs.Reading.{RecordStep, recordsAfter, RowsGiven, FilledRows};
 
 // Whether two styles are the same.
 pub fn same_style(s: Style, t: Style) -> bool
@@ -78,7 +78,7 @@ pub fn style_of(file: &[u8]) -> Style
 fn record_in(file: &[u8], style: Style, s: State, rows: &mut [i32]) -> Outcome
     requires { ⌜ s .at ≤ length (now file) ⌝ }
     requires { ⌜ length (now rows) ≡ 2560 ⌝ }
-    ensures { λ r. ⌜ Recorded style (now (file .entry)) s (now (rows .entry)) r (now (rows .exit)) ⌝ }
+    ensures { λ r. ⌜ RecordStep style (now (file .entry)) s (now (rows .entry)) r (now (rows .exit)) ⌝ }
 {
     let at = s.at;
     let frame = region_records::frame_at(file, at);

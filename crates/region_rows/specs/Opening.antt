@@ -5,7 +5,7 @@ use lib.IntN.{ℤ, pos}
 use Rattle.answer.specs.Answer.{Answer, gives}
 use Rattle.vector.specs.Numbers.{eqZ}
 use Rattle.region_rows.specs.declared.counts.RegionSize.{RegionSize}
-use Rattle.region_rows.specs.RegionSizes.{oneConvexMore}
+use Rattle.region_rows.specs.RegionSizes.{addConvex}
 
 abbrev pub opensConvex : RegionSize → ℤ → Answer RegionSize
-opensConvex k c = cond (eqZ c (pos (k .convexes))) (oneConvexMore k) (gives k)
+opensConvex k c = cond (eqZ c (pos (k .convexes))) (addConvex k) (gives k)

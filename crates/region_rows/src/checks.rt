@@ -15,7 +15,7 @@ ghost use Rattle.answer.specs.Answer.{with-value};
 ghost use Rattle.vector.specs.Numbers.{eqZ};
 ghost use Rattle.region.specs.Regions.{Region};
 ghost use Rattle.region.specs.Rows.{rowIn, rowsIn, regionOf};
-ghost use Rattle.region_rows.specs.RegionSizes.{countsOf, countsGiven};
+ghost use Rattle.region_rows.specs.RegionSizes.{regionSize, regionSizeGiven};
 ghost use Rattle.region_rows.specs.Opening.{opensConvex};
 
 // Whether a row's number c is k.
@@ -40,7 +40,7 @@ fn belongs(c: i32, n: u16) -> bool
 
 // The counts with the convex that the row with the number c belongs to, or the refusal 7.
 fn opened(k: RegionSize, c: i32) -> RegionSizeOf
-    ensures { λ r. ⌜ countsGiven r ≡ opensConvex k c ⌝ }
+    ensures { λ r. ⌜ regionSizeGiven r ≡ opensConvex k c ⌝ }
 {
     if is_number(c, k.convexes) {
         return crate::counts::with_convex(k);
@@ -51,7 +51,7 @@ fn opened(k: RegionSize, c: i32) -> RegionSizeOf
 // The counts with a row more, or the first refusal: 4, 7, 8, 9.
 fn with_row(k: RegionSize, c: i32, h: Halfspace) -> RegionSizeOf
     requires { ⌜ k .convexes ≤ 64 ⌝ }
-    ensures { λ r. ⌜ ((g : Region) → countsOf g ≡ k → countsGiven r ≡ with-value countsOf (rowIn g c h)) ⌝ }
+    ensures { λ r. ⌜ ((g : Region) → regionSize g ≡ k → regionSizeGiven r ≡ with-value regionSize (rowIn g c h)) ⌝ }
 {
     if !belongs(c, k.convexes) {
         return RegionSizeOf::Refused(ORDER);
@@ -66,7 +66,7 @@ fn with_row(k: RegionSize, c: i32, h: Halfspace) -> RegionSizeOf
 // The counts of rows in whole fives, or the first refusal of a row.
 fn count_rows(rows: &[i32]) -> RegionSizeOf
     requires { ⌜ length (now rows) % 5 ≡ 0 ⌝ }
-    ensures { λ r. ⌜ countsGiven r ≡ with-value countsOf (rowsIn (length (now (rows .entry)) / 5) [] (now (rows .entry))) ⌝ }
+    ensures { λ r. ⌜ regionSizeGiven r ≡ with-value regionSize (rowsIn (length (now (rows .entry)) / 5) [] (now (rows .entry))) ⌝ }
 {
     let mut at = crate::counts::none();
     let mut i = 0;
@@ -83,7 +83,7 @@ fn count_rows(rows: &[i32]) -> RegionSizeOf
 
 // The counts of the region of rows, or the first refusal: no rows and whole fives (4), then each row.
 pub fn checked(rows: &[i32]) -> RegionSizeOf
-    ensures { λ r. ⌜ countsGiven r ≡ with-value countsOf (regionOf (now (rows .entry))) ⌝ }
+    ensures { λ r. ⌜ regionSizeGiven r ≡ with-value regionSize (regionOf (now (rows .entry))) ⌝ }
 {
     if rows.len() == 0 {
         return RegionSizeOf::Refused(ORDER);

@@ -10,7 +10,7 @@ ghost use mathlib.Core.Bool.{_&&_};
 ghost use mathlib.Core.List.{[]};
 ghost use lib.Dec.{ltb};
 ghost use Rattle.region.specs.Building.{isOffset};
-ghost use Rattle.region_rows.specs.RegionSizes.{countsOf, countsGiven, oneConvexMore, oneHalfspaceMore};
+ghost use Rattle.region_rows.specs.RegionSizes.{regionSize, regionSizeGiven, addConvex, addHalfspace};
 
 const CONVEXES: u16 = limits::CONVEXES as u16;
 
@@ -33,7 +33,7 @@ pub enum RegionSizeOf {
 
 // The counts of no convex.
 pub fn none() -> RegionSize
-    ensures { λ r. ⌜ r ≡ countsOf [] ⌝ }
+    ensures { λ r. ⌜ r ≡ regionSize [] ⌝ }
 {
     RegionSize {
         convexes: 0,
@@ -44,7 +44,7 @@ pub fn none() -> RegionSize
 
 // One convex more, with no halfspace yet, or the refusal 7.
 pub fn with_convex(k: RegionSize) -> RegionSizeOf
-    ensures { λ r. ⌜ countsGiven r ≡ oneConvexMore k ⌝ }
+    ensures { λ r. ⌜ regionSizeGiven r ≡ addConvex k ⌝ }
 {
     if CONVEXES <= k.convexes {
         return RegionSizeOf::Refused(CROWD);
@@ -75,7 +75,7 @@ fn is_offset(d: i64) -> bool
 
 // One halfspace more in the last convex, or the first refusal: 7, 8, 9.
 pub fn with_halfspace(k: RegionSize, h: Halfspace) -> RegionSizeOf
-    ensures { λ r. ⌜ countsGiven r ≡ oneHalfspaceMore k h ⌝ }
+    ensures { λ r. ⌜ regionSizeGiven r ≡ addHalfspace k h ⌝ }
 {
     if !below_limits(k) {
         return RegionSizeOf::Refused(CROWD);

@@ -17,7 +17,7 @@ use Rattle.region.proofs.RegionLaws.{convex-length, convex-last, halfspace-leng
 use Rattle.region.proofs.ReadBack.{with-last, payload-length, convexes-length, groups-length, file-length, grouped-length}
 use Rattle.region.proofs.FileBack.{convex-bytes, halfspace-bytes, group-bytes}
 use Rattle.region_writer.specs.declared.WriteCursor.{WriteCursor}
-use Rattle.region_writer.specs.Writing.{width, opening, withConvexAt, withHalfspaceAt, Stands}
+use Rattle.region_writer.specs.Writing.{width, opening, withConvexAt, withHalfspaceAt, RegionStands}
 
 -- ---- lengths
 
@@ -100,9 +100,9 @@ module _ (g : Region) (h : Halfspace) (b : 0 < length g) where
 
 -- ---- what stands in a list
 
-module _ {s : Style} {g : Region} {before xs : List ℕ} {p : WriteCursor} (v : Stands s g before xs p) (room : 8 + length (regionBytes s g) ≤ length before) where
+module _ {s : Style} {g : Region} {before xs : List ℕ} {p : WriteCursor} (v : RegionStands s g before xs p) (room : 8 + length (regionBytes s g) ≤ length before) where
   pub stands-convex : {ys : List ℕ} → ys ≡ withConvexAt s p xs
-      → Stands s (withConvex g) before ys (record { at = p .at + 4; convexes = p .convexes + 1; last = 0 })
+      → RegionStands s (withConvex g) before ys (record { at = p .at + 4; convexes = p .convexes + 1; last = 0 })
   stands-convex e = record {
     at = omega (arith, v .at, ap length (convex-more s g), length-append (regionBytes s g) (begin (opening s)));
     convexes = omega (arith, v .convexes, convex-length g);
@@ -125,7 +125,7 @@ module _ {s : Style} {g : Region} {before xs : List ℕ} {p : WriteCursor} (v : 
       ∙ head-over g h b (p .at) (p .last) before (v .at ∙ ap (λ n. 8 + n) same) (v .last) (omega arith)
 
   pub stands-halfspace : (h : Halfspace) → 0 < length g → {ys : List ℕ} → ys ≡ withHalfspaceAt s p h xs
-      → Stands s (withHalfspace g h) before ys (record { at = p .at + width s; convexes = p .convexes; last = p .last + 1 })
+      → RegionStands s (withHalfspace g h) before ys (record { at = p .at + width s; convexes = p .convexes; last = p .last + 1 })
   stands-halfspace h b e = record {
     at = omega (arith, v .at, halfspace-longer g h b s);
     convexes = v .convexes ∙ sym (halfspace-length g h);

@@ -23,7 +23,7 @@ ghost use Rattle.region.specs.Rows.{regionOf};
 ghost use Rattle.region.specs.Writer.{fileIn, writeIn};
 ghost use Rattle.region.specs.Answers.{fileAnswer, fileAfter};
 ghost use Rattle.region_writer.specs.Writing as writing;
-ghost use Rattle.region_writer.specs.Writing.{withConvexAt, withHalfspaceAt, Stands, RowFits, FileFits, RowsStand};
+ghost use Rattle.region_writer.specs.Writing.{withConvexAt, withHalfspaceAt, RegionStands, RowFits, FileFits, RowsStand};
 
 // Where the next record goes, how many convexes are written, and how many halfspaces of the last one.
 pub struct WriteCursor {
@@ -102,7 +102,7 @@ fn put_halfspace(style: Style, out: &mut [u8], p: WriteCursor, h: Halfspace) -> 
 // What a row with the number c adds: a convex begins where c is the next number. The place after it.
 fn put_row(style: Style, out: &mut [u8], p: WriteCursor, c: i32, h: Halfspace) -> WriteCursor
     requires { ⌜ RowFits style (now out) p c h ⌝ }
-    ensures { λ r. ⌜ ((f : RowFits style (now (out .entry)) p c h) → Stands style (f .next) (f .before) (now (out .exit)) r) ⌝ }
+    ensures { λ r. ⌜ ((f : RowFits style (now (out .entry)) p c h) → RegionStands style (f .next) (f .before) (now (out .exit)) r) ⌝ }
 {
     if region_rows::checks::is_number(c, p.convexes) {
         let opened = put_convex(style, out, p);

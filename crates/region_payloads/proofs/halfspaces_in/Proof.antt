@@ -5,7 +5,7 @@ use native.Mathlib.Omega.{arith}
 use mathlib.Core.Path.{_≡_, ap, _∙_}
 use lib.ListN.{length, length-take, length-drop}
 use denote.Ref.{now}
-use Rattle.region_rows.specs.RegionSizes.{countsGiven}
+use Rattle.region_rows.specs.RegionSizes.{regionSizeGiven}
 use Rattle.region_payloads.proofs.GroupLaws.{Passing, passing-none, passing-more, passing-refused, passing-end}
 use Rattle.region_payloads.proofs.halfspaces_in.Statement.{statement}
 use Rattle.region_payloads.proofs.halfspaces_in.Tie as tie
@@ -33,7 +33,7 @@ more c =
       l .loop .inv .1,
       passing-more (now (a .payload)) (a .n) (now (a .rows)) (a .k) (l .loop .rows) (l .loop .with) (l .loop .i) (l .loop .inv .2)
           (h .halfspace-of .result) (h .halfspace-of .ensures) (h .before .before .loop-test .taken) _ _ (r .halfspace-in .ensures)
-          (c .before .c .given .0 .0) (ap countsGiven (c .before .c .given .1)) (r .halfspace-in .kept .1 .1 .0),
+          (c .before .c .given .0 .0) (ap regionSizeGiven (c .before .c .given .1)) (r .halfspace-in .kept .1 .1 .0),
     )
 
 refused : tie.Need-returns Inv-loop μ-loop
@@ -44,7 +44,7 @@ refused c =
     let a = l .before .before .args in
     passing-refused (now (a .payload)) (a .n) (now (a .rows)) (a .k) (l .loop .rows) (l .loop .with) (l .loop .i) (l .loop .inv .2)
     (h .halfspace-of .result) (h .halfspace-of .ensures) (h .before .before .loop-test .taken) _ _ (r .halfspace-in .ensures)
-    (c .before .c2 .given .0 .0) (ap countsGiven (c .before .c2 .given .1))
+    (c .before .c2 .given .0 .0) (ap regionSizeGiven (c .before .c2 .given .1))
 
 ended : tie.Need-returns-2 Inv-loop μ-loop
 ended c =

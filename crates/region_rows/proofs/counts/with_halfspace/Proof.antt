@@ -10,7 +10,7 @@ use mir.Facts.{toZ-ofZ}
 use Rattle.algebra.proofs.Tests.{and-left, and-right}
 use Rattle.vector.specs.Vectors.{isVector}
 use Rattle.region.specs.Building.{isOffset}
-use Rattle.region_rows.specs.RegionSizes.{oneHalfspaceMore}
+use Rattle.region_rows.specs.RegionSizes.{addHalfspace}
 use Rattle.region_rows.proofs.counts.with_halfspace.Statement.{statement}
 use Rattle.region_rows.proofs.counts.with_halfspace.Tie as tie
 
@@ -42,19 +42,19 @@ offset c t e =
     ap isOffset (sym (toZ-ofZ {w = w64} {z = d} (record { sfits = c .before .struct-told .given .1 .0 .1 }))) ∙ sym (c .is-offset .ensures) ∙ e
 
 crowd : tie.Need-returns
-unfolding oneHalfspaceMore
+unfolding addHalfspace
 crowd c = simp (sym (c .before .below-limits .ensures) ∙ not-true _ (c .if1 .taken))
 
 no-vector : tie.Need-returns-2
-unfolding oneHalfspaceMore
+unfolding addHalfspace
 no-vector c = simp (room (c .before .before .before), sym (c .before .is-vector .ensures) ∙ not-true _ (c .if2 .taken))
 
 no-offset : tie.Need-returns-3
-unfolding oneHalfspaceMore
+unfolding addHalfspace
 no-offset c = let v = c .before .before .before in simp (room (v .before .before .before), vector v, offset (c .before) _ (not-true _ (c .if3 .taken)))
 
 more : tie.Need-returns-4
-unfolding oneHalfspaceMore
+unfolding addHalfspace
 more c =
     let o = c .before .before in
     let v = o .before .before .before in
