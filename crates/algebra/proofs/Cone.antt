@@ -76,7 +76,7 @@ edge-pair f r s G hr hs gr gs = pair-bound (dot f r) (dot f s) (dot r r) (dot s 
 
 -- ---- the lemma
 
--- f is in front of the edge r, and G² |r|² ≤ (f·r)²
+-- f reaches the direction r by G: f·r ≥ 0 and (f·r)² ≥ G² |r|²
 pub record Reaches (f r : V3) (G : ℤ) : Type 0 where
   pub front : pos 0 ≤ℤ dot f r
   pub reach : (G *ℤ G *ℤ dot r r) ≤ℤ (dot f r *ℤ dot f r)

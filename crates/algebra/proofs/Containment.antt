@@ -1,4 +1,4 @@
--- The containment lemma: where the cap of b and E lies in that of f and G, every direction p that b reaches by E is reached by f and G. With
+-- The containment lemma: where the cap of b and E lies in that of f and G, f reaches by G every direction p that b reaches by E. With
 -- S = b·b − E² and M = f·b − G E: |S f − M b|² ≤ (M E − S G)², so that S (f·p) ≥ M (b·p) − (M E − S G) |p| ≥ S G |p|. Assumes nothing.
 use mathlib.Core.Path.{refl}
 use mathlib.Core.List.{[], _∷_}

@@ -1,6 +1,6 @@
--- The plane lemma: a direction p in front of the plane of P, and within reach of f and D, forbids that f lies beyond that plane by more than D allows.
--- With q = (P·P) f − (f·P) P it is (P·P)(f·p) ≤ q·p, for f·P < 0 ≤ P·p, and q·q = (P·P)((P·P)(f·f) − (f·P)²) < (P·P)² D². So (f·p)² < D² (p·p).
--- And an edge of a cone is in front of its three planes. Assumes nothing.
+-- The plane lemma: where a direction p is in front of the plane of P and f reaches p by D, f is not beyond that plane by more than D allows.
+-- With q = (P·P) f − (f·P) P: (P·P)(f·p) ≤ q·p, since f·P < 0 ≤ P·p, and q·q = (P·P)((P·P)(f·f) − (f·P)²) < (P·P)² D². So (f·p)² < D² (p·p).
+-- An edge of a cone is in front of its three planes. Assumes nothing.
 use mathlib.Core.Path.{_≡_, refl, sym, subst}
 use mathlib.Core.List.{[], _∷_}
 use lib.IntN.{ℤ, pos, _+ℤ_, _-ℤ_, _*ℤ_}
@@ -65,6 +65,6 @@ module _ (a b c : V3) (vol : pos 0 <ℤ dot a (cross b c)) where
   pub edge-front : (pos 0 ≤ℤ dot a (cross b c)) × (pos 0 ≤ℤ dot b (cross b c)) × (pos 0 ≤ℤ dot c (cross b c))
   edge-front = (<ℤ→≤ℤ vol, ≡→≤ℤ (first-edge b c), ≡→≤ℤ (second-edge b c))
 
-  -- V is the same from the next normal on
+  -- V is the same for the normals in cyclic order
   pub volume-cyclic : pos 0 <ℤ dot b (cross c a)
   volume-cyclic = subst (λ z. pos 0 <ℤ z) (sym (own-edge a b c)) vol

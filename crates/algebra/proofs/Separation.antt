@@ -1,4 +1,4 @@
--- The separation lemma: a direction p that is near both f and b forbids that f and b are far apart. Assumes nothing.
+-- The separation lemma: where f and b both reach a direction p, f and b are not far apart. Assumes nothing.
 use mathlib.Core.Path.{refl, sym, subst, subst₂}
 use mathlib.Core.List.{[], _∷_}
 use lib.IntN.{ℤ, pos, _-ℤ_, _*ℤ_}

@@ -1,4 +1,4 @@
--- A class says what is held: of a point inside the trixel, full means that it is held and outside that it is not,
+-- A class decides what is held: a point inside a full trixel is held, and a point inside an outside trixel is not,
 -- for a halfspace, for a convex and for a region. Assumes nothing.
 use Prim.Native.Nat.{suc}
 use mathlib.Core.Path.{_≡_, refl, subst}

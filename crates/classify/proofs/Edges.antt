@@ -1,5 +1,5 @@
 -- Two trixels that show what 'V > 0' and 'every b·r > 0' are for: in each, that condition alone decides, and a point of the trixel would
--- be classified wrongly without it. And caps beside each edge of the first of them, one that ends just before the edge's plane and one that touches it, for
+-- be classified wrongly without it. And caps beside each edge of the first trixel: one ends just before the edge's plane, one touches it, for
 -- both signs of the offset. The facts hold by computing. Assumes nothing.
 use mathlib.Core.Path.{_≡_, refl}
 use mathlib.Core.Bool.{true, false}

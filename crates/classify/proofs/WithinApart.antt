@@ -1,4 +1,4 @@
--- What the two tests say of a point p inside the trixel: within gives f·p > e·K, apart gives f·p < e·K.
+-- For a point p inside the trixel, within gives f·p > e·K and apart gives f·p < e·K.
 -- Within: by the cone lemma (f·p)² ≥ G² (p·p) ≥ (G (K − 2))², and G (K − 2) > e K.
 -- Apart: if f·p ≥ e K ≥ D (K + 2) then (f·p)² ≥ D² (p·p). By the bounding cap: (b·p)² ≥ E² (p·p), by the cone lemma, against the separation lemma. By
 -- an edge: P·p ≥ 0, against the plane lemma. Assumes nothing.
@@ -105,7 +105,7 @@ E-greatest t =
       above = λ n h e. le-leb n (greatest test Kℕ) (greatest-above test Kℕ n h e);
     }
 
--- ---- a direction inside the trixel is not within reach of what is apart
+-- ---- where f reaches a direction inside the trixel by D, it is not apart
 
 module _ (p : Vec3) (t : Trixel) (i : Inside p t) (n : pos 0 <ℤ dot p p) (f : Vec3) (D : ℤ) (near : Reaches (v3 f) (v3 p) D) where
   not-by-cap : byCap f D t ≡ true → ⊥

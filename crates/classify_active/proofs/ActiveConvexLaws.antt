@@ -30,7 +30,7 @@ use Rattle.classify_region.proofs.ScanLaws.{meet-assoc, meet-full, convex-cons,
 use Rattle.classify_prepared.proofs.PreparingLaws.{length-sevens}
 use Rattle.classify_active.specs.Active.{Stores, activeStoredCount, activeStoredList}
 
--- ---- one more at the end of a convex
+-- ---- a halfspace at the end of a convex
 
 meet-outside : (a : Class) → meet a Outside ≡ Outside
 meet-outside Outside = refl
@@ -88,7 +88,7 @@ module _ (r : Anchor) (xs : List ℤ) (end : ℕ) (v : Convex) (w : ℕ) (ys : L
     class = λ t c. ap (λ a. meet a (convexClass v t)) (no-convex [] t refl);
   }
 
-  -- one more is stored
+  -- another halfspace is stored
   stored-more : (u : Convex) (h : Halfspace) {ys′ : List ℤ} → Stores w u ys ys′ → goodHalfspace h ≡ true → {m : ℕ} → m ≡ w + length u → m < 32 → 7 * 32 ≤ length ys
       → {q : PreparedHalfspace} → q ≡ prepared h → Stores w (u ++ h ∷ []) ys (put (7 * m) (seven q) ys′)
   stored-more u h {ys′} s f {m} e l room {q} is =

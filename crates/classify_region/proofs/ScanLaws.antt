@@ -119,7 +119,7 @@ unfolding regionClass some every
 no-region [] t l e = refl
 no-region (c ∷ cs) t l e = absurd (omega (arith, total-cons c cs, l .0))
 
--- the numbers at a place where a seven begins
+-- the numbers where a seven begins
 prepared-at : (xs : List ℤ) (k : ℕ) (q : PreparedHalfspace) (rest : List ℤ) → drop k xs ≡ seven q ++ rest → preparedIn xs k ≡ q
 prepared-at xs k q rest e =
     let at : (m : ℕ) → getD xs (k + m) (pos 0) ≡ getD (seven q ++ rest) m (pos 0) = λ m. sym (getD-drop k xs m (pos 0)) ∙ ap (λ l. getD l m (pos 0)) e in
@@ -274,7 +274,7 @@ module _ (t : Trixel) (xs : List ℤ) (es : List ℕ) (n : ℕ) where
   start g p = record { left = g; at = region-start xs es n g p; class = refl }
 
   module _ (g : Region) (i k : ℕ) (c : Class) where
-    -- a convex more: its end is read
+    -- the next convex: its end is read
     pub opened : AtConvex g i k c → i < n → (k < length es) × ((end : ℕ) → end ≡ getD es k 0 → (i < end) × AtHalfspace g k end i c Full)
     opened a h =
         let v = convex-next xs es n i k (a .left) (a .at) h in (
@@ -301,7 +301,7 @@ module _ (t : Trixel) (xs : List ℤ) (es : List ℕ) (n : ℕ) where
       pub sound : SoundHalfspace (preparedIn xs (7 * i))
       pub taken : (b : Class) → b ≡ preparedClass (preparedIn xs (7 * i)) t → AtHalfspace g k end (i + 1) c (meet a b)
 
-    -- a halfspace more
+    -- the next halfspace
     pub halfspace-step : AtHalfspace g k end i c a → i < end → HalfspaceStep
     halfspace-step s h =
         let v = halfspace-next xs i end (s .convex) (s .at) h in

@@ -3,9 +3,9 @@
 --   nameInto i before     the name to write, or the refusal: 11, then 10
 --   nameAnswer i before   the name's length, or the refusal
 --   nameAfter i before    the list afterwards: the name at its beginning
---   cornersGiven r   what the call that gives corners answered
---   NamesOfCalls     what `htm::name` wrote `htm::identifier` reads back, and the other way round, of values that meet their contracts (htm/src/lib.rt);
---                    proofs/NamesInverse
+--   cornersGiven r        the answer of the call that gives corners
+--   NamesOfCalls          `htm::identifier` reads back what `htm::name` wrote, and the other way round, by the contracts of the two calls (htm/src/lib.rt);
+--                         proved in proofs/NamesInverse
 use Prim.Native.Nat.{ℕ, _≤_}
 use mathlib.Core.Path.{_≡_}
 use mathlib.Core.List.{List}

@@ -16,7 +16,7 @@ ghost use Rattle.mount.specs.Reports.{threeOf};
 
 // ---- a component
 
-// Each component is multiplied by 2 to this power.
+// A component is multiplied by 2 to the power of this.
 const SCALE_BITS: u64 = 20;
 
 // The width of a float: how many of its bits are the exponent's, and how many the fraction's.

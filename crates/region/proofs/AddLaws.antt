@@ -1,4 +1,4 @@
--- A halfspace that was added passed its checks: there was room, its direction is a vector and its offset is within ±K. Assumes nothing.
+-- A halfspace that was added passed its checks: the region was below its limits, the direction is a vector and the offset is within ±K. Assumes nothing.
 use Prim.Native.Nat.{_<_}
 use mathlib.Core.Path.{_≡_}
 use mathlib.Core.Bool.{true}
@@ -13,10 +13,12 @@ use Rattle.region.specs.declared.Halfspace.{Halfspace}
 use Rattle.region.specs.Regions.{Region}
 use Rattle.region.specs.Building.{isOffset, lastConvex, total, withHalfspace, belowLimits, add}
 
+-- the direction is a vector, and the offset is within ±K
 pub record GoodHalfspace (h : Halfspace) : Type 0 where
   pub vector : isVector (h .n) ≡ true
   pub offset : isOffset (h .d) ≡ true
 
+-- adding h to g gives r
 pub record Added (g r : Region) (h : Halfspace) : Type 0 where
   pub good : GoodHalfspace h
   pub in-convex : length (lastConvex g) < 100

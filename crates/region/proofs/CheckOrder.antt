@@ -1,4 +1,4 @@
--- Which of two checks comes first, where no other law has both faults. Document 01, 'What is sent back'. Assumes nothing.
+-- Which of two checks comes first, where an input has two faults and no other law decides. Document 01, 'What is sent back'. Assumes nothing.
 --   empty-before-crowd    a convex that begins after an empty one is 4, whatever the count of convexes: never 7
 --   empty-refused         so is every file from that record on; sixty-fifth: the 65th convex, by computing
 --   fives-before-rows     a row list that is not in whole fives is 4 in both styles, whatever its rows are: never 7, 8 or 9

@@ -130,7 +130,7 @@ halfspace-step d b g c h rest f l t =
     ∙ ap (halfspaceIn (file d b (g ++ c ∷ []))) (halfspace-back h [] f)
     ∙ halfspace-taken d b g c h f l t
 
--- n records more than the list is long
+-- the number n plus one step for each element
 abbrev steps : {A : Type 0} → List A → ℕ → ℕ
 steps [] n = n
 steps (x ∷ xs) n = suc (steps xs n)
@@ -152,7 +152,7 @@ abbrev pub GoodConvexes : Region → Type 0
 GoodConvexes [] = Unit {0}
 GoodConvexes (c ∷ cs) = GoodConvex c × (1 ≤ length c) × (length c ≤ 100) × GoodConvexes cs
 
--- the region so far takes a convex
+-- a new convex may begin
 abbrev closed : Region → Bool
 closed g = cond (begun g) (lastFilled g) true
 

@@ -1,6 +1,6 @@
--- What an accepted file fulfils. The header's checks passed, and no later record changes the header; what a convex more and a halfspace more
--- keep, the whole file keeps. And the bound on the number of records plays no part: a record has four bytes or more, and where no byte is left
--- the file is torn anyway. Assumes nothing.
+-- What holds of an accepted file. The header's checks passed, and no later record changes the header. What a new convex and a new halfspace keep, the whole
+-- file keeps. The bound on the number of records plays no part: a record has four bytes or more, and where no byte is left the file is torn anyway.
+-- Assumes nothing.
 use Prim.Native.Nat.{ℕ, zero, suc, _+_, _≤_}
 use native.Mathlib.Omega.{arith}
 use mathlib.Core.Path.{_≡_, refl, sym, subst}
@@ -177,7 +177,7 @@ accepted-headed f x e =
     let w = then-gives (header f) (λ z. recordsIn Styles.either (length f) z (after f)) x (check-gives Long (leb (length f) 10508) _ x e) in
     header-read f (w .0) (w .1) .0
 
--- ---- what one convex more and one halfspace more keep
+-- ---- what a new convex and a new halfspace keep
 
 module _ (P : File → Type 0)
     (convex : (x : File) → (cond (begun (x .region)) (lastFilled (x .region)) true ≡ true) × (fewConvexes (withConvex (x .region)) ≡ true) → P x → P (withRegion x (withConvex (x .region))))
@@ -213,7 +213,7 @@ module _ (P : File → Type 0)
   pub record-keeps : (k : Styles) (x y : File) (rest : List ℕ) → recordIn k x rest ≡ gives y → P x → P y
   record-keeps k x y rest e = let w = record-taken k x y rest e in part-keeps x y (w .0) (payload rest) (after rest) (w .3)
 
-  -- what is so of the header's file is so at the end
+  -- what holds after the header holds at the end
   pub header-kept : (f : List ℕ) (x : File) → Accepted f x → ((z : File) → header f ≡ gives z → P z) → P x
   header-kept = accepted-leads (λ k rest y. P y) P
       (λ k rest y z t b e. convex-keeps y z e) (λ k rest y z t b e. halfspace-keeps y z (halfspaceOf (payload rest)) e)

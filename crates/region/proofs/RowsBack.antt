@@ -56,7 +56,7 @@ goes-on : (g : Region) (h : Halfspace) → 0 < length g → length g ≤ 64 → 
 unfolding rowIn
 goes-on g h b few = rw (ne-eqb (length g - 1) (length g) (λ e. omega arith), lt-ltb 0 (length g) b, eq-eqb (length g - 1 + 1) (length g) (omega arith), le-leb (length g) 64 few)
 
--- ---- the region read so far: its rows lead to it, or it has a last convex more, with no halfspace yet
+-- ---- the region read so far: its rows lead to it, or they lead to all but its last convex, which has no halfspace yet
 
 data Listed : Region → Type 0 where
   listed : (g : Region) → Leads g → Listed g

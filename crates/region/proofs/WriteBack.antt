@@ -24,7 +24,7 @@ use Rattle.region.proofs.AddLaws.{GoodHalfspace, Added, added}
 use Rattle.region.proofs.ReadBack.{GoodConvex, GoodConvexes, WithinLimits, with-last, read-back}
 use Rattle.region.specs.declared.Style.{Style}
 
--- ---- full convexes stay full
+-- ---- good convexes stay good
 
 good-snoc : (c : Convex) (h : Halfspace) → GoodConvex c → GoodHalfspace h → GoodConvex (c ++ h ∷ [])
 good-snoc [] h f k = (k, tt)
@@ -63,7 +63,7 @@ one-less (pos n) m h e = let q : n ≡ m - 1 = omega (arith, eqb-true (n + 1) m 
 one-less (negsuc zero) m h e = absurd (omega (arith, eqb-true 0 m e))
 one-less (negsuc (suc n)) m h e = absurd (false≢true (rw (lt-ltb 1 (suc (suc n)) (omega arith)) at e))
 
--- the region o, which has a convex, with the halfspace more
+-- the region o, which has a convex, and r, which has h at its end
 module _ (o r : Region) (h : Halfspace) (a : Added o r h) (begun : 0 < length o) where
   grown-length : length r ≡ length o
   grown-length = ap length (sym (a .is)) ∙ halfspace-length o h

@@ -85,7 +85,7 @@ halfspaceOf s = record { n = vec (signed s 0) (signed s 4) (signed s 8); d = sig
 abbrev pub halfspaceIn : File → Halfspace → Answer File
 halfspaceIn x h = check Order (begun (x .region)) (with-value (withRegion x) (add (x .region) h))
 
--- kind 5: a convex begins, all its halfspaces have room, and each is taken as one of kind 3 is
+-- kind 5: a convex begins, all its halfspaces are within the limit, and each is taken as one of kind 3
 unfoldable pub halfspacesOf : ℕ → List ℕ → Convex
 halfspacesOf zero s = []
 halfspacesOf (suc n) s = halfspaceOf s ∷ halfspacesOf n (drop 16 s)
@@ -109,7 +109,7 @@ partIn x Record.Halfspace s following = halfspaceIn x (halfspaceOf s)
 partIn x Record.End s following = endIn x following
 partIn x (Record.Group n) s following = groupIn x (halfspacesOf n s)
 
--- where the records may have the styles k
+-- a record of a file whose records may have the styles k
 unfoldable pub recordIn : Styles → File → List ℕ → Answer File
 recordIn k x rest = then (recordAt rest) (λ r. check Mixed (fits k r) (partIn x r (payload rest) (after rest)))
 

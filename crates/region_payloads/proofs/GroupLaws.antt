@@ -1,5 +1,5 @@
--- A group, halfspace by halfspace: counts and rows stand for what has been taken of it, and the halfspaces left give what all of them do (`Passing`).
--- Before the first of them a convex has begun, and all have room. Assumes nothing.
+-- A group, halfspace by halfspace: size and rows stand for what has been taken of it, and the halfspaces left give what all of them do (`Passing`).
+-- Before the first of them a convex has begun, and all are within the limit. Assumes nothing.
 use Prim.Native.Nat.{ℕ, suc, _+_, _-_, _*_, _≤_, _<_}
 use native.Mathlib.Omega.{arith}
 use mathlib.Core.Path.{_≡_, refl, sym, ap, _∙_}
@@ -87,7 +87,7 @@ module _ (p : List ℕ) (n : ℕ) (rs₀ : List ℤ) (k₀ : RegionSize) (rs : L
       let m : n - i ≡ 0 = omega arith in
       counted-gives (w .0) k (w .2 ∙ ap (λ m. halfspacesIn (w .0) (halfspacesOf m (drop (16 * i) p))) m) (w .1)
 
--- ---- the group: c is what is counted with the convex that begins
+-- ---- the group: c is the size with the convex that begins
 
 module _ (k₀ : RegionSize) (hs : Convex) (rs : List ℤ) (c : Answer RegionSize) (o : (x : File) → k₀ ≡ regionSize (x .region) → c ≡ regionSizeAfter (convexIn x)) where
   abbrev fit : File → Bool

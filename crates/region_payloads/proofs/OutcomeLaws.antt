@@ -1,5 +1,5 @@
--- What a record makes of the reader's state and of the rows, by its answer: the counts decide every check as the region itself does, since they are
--- the region's counts, and a record that is accepted leaves the counts and the rows of the region with it. Assumes nothing.
+-- The reader's state and the rows after a record, by its answer: the size decides every check as the region itself does, since it is
+-- the region's size, and a record that is accepted leaves the size and the rows of the region with it. Assumes nothing.
 use Prim.Native.Nat.{ℕ, _-_, _*_, _<_}
 use native.Mathlib.Omega.{arith}
 use mathlib.Core.Path.{_≡_, refl, sym, ap, subst, _∙_}

@@ -1,12 +1,13 @@
--- What the parts of the reader give, in the terms of region/specs/Reader: the contracts of the functions below the two calls.
---   stateOf at g           the reader's state: its place, and the counts of the region g read so far
---   outcomeGiven next a    the state at the next record with the counts that a gives, or its refusal
+-- What the parts of the reader give, in the terms of region/specs/Reader (document 01, 'Regions'; document 02, F-7): the contracts of the functions below the
+-- reader.
+--   stateOf at g           the reader's state: its position, and the size of the region g read so far
+--   outcomeGiven next a    the state at the next record with the size that a gives, or its refusal
 --   outcomeOf end next a   what a record with the answer a makes of the state, where the next record begins at `next`; `end`: it is the end record
---   regionSizeAfter a          the counts of the region that a gives, or its refusal
---   StandsFor before g k rs   the counts k and the array rs stand for the region g: its counts, and its rows at the beginning of what the array was before
---   SizeAfter ..           counts and array after a convex or halfspaces, by their answer
+--   regionSizeAfter a      the size of the region that a gives, or its refusal
+--   StandsFor before g k rs   the size k and the array rs stand for the region g: k is its size, and rs is `before` with its rows at the beginning
+--   SizeAfter ..           size and array after a convex or halfspaces, by their answer
 --   RecordAfter ..         outcome and array after a record, by the record's answer
---   SizeAfterBy f          the same of what f makes of the file, whatever region counts and array stand for; RecordAfterBy f too
+--   SizeAfterBy f          SizeAfter by the answer of f, for every file whose region size and array stand for; RecordAfterBy f: RecordAfter likewise
 --   groupOf payload        the halfspaces of a payload of kind 5, 16 bytes each
 use Prim.Native.Nat.{ℕ, _/_}
 use mathlib.Core.Path.{_≡_}

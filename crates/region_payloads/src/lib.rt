@@ -1,5 +1,5 @@
 // The payload readers of the records after the first: a header again, a convex, a halfspace, a group of halfspaces and the end, each checked for 4 and 7
-// to 9, with the rows in an array. The rules stand in region/specs/Reader and Building, counts and state between records in specs/Payloads.
+// to 9, with the rows in an array. The rules stand in region/specs/Reader and Building, size and state between records in specs/Payloads.
 use answer::CROWD;
 use answer::ORDER;
 use limits::HALFSPACES;
@@ -21,20 +21,20 @@ ghost use Rattle.region_rows.specs.RegionSizes.{regionSize, regionSizeGiven};
 ghost use Rattle.region_payloads.specs.declared.Outcome.{Outcome};
 ghost use Rattle.region_payloads.specs.Payloads.{outcomeGiven, outcomeOf, regionSizeAfter, SizeAfterBy, RecordAfterBy, groupOf};
 
-// The place of the next record, and the counts of the region so far.
+// The position of the next record, and the size of the region so far.
 pub struct State {
     pub at: usize,
     pub counts: RegionSize,
 }
 
-// After a record: more of them follow, the end has come and there are so many rows, or a check has failed.
+// After a record: records follow, or the end was read and this is the count of the rows, or a check failed.
 pub enum Outcome {
     More(State),
     Done(u32),
     Refused(u32),
 }
 
-// The state at the next record with these counts, or the refusal.
+// The state at the next record with this size, or the refusal.
 fn counted(next: usize, c: RegionSizeOf) -> Outcome
     ensures { λ r. ⌜ r ≡ outcomeGiven next (regionSizeGiven c) ⌝ }
 {
@@ -153,7 +153,7 @@ fn halfspaces_in(payload: &[u8], n: usize, k: RegionSize, rows: &mut [i32]) -> R
     RegionSizeOf::Gives(with)
 }
 
-// The payload of kind 5: a convex begins, all its halfspaces have room, and each is taken.
+// The payload of kind 5: a convex begins, all its halfspaces are within the limit, and each is taken.
 pub fn group_payload(payload: &[u8], s: State, next: usize, rows: &mut [i32]) -> Outcome
     requires { ⌜ length (now rows) ≡ 2560 ⌝ }
     ensures { λ r. ⌜ RecordAfterBy (λ x. groupIn x (groupOf (now (payload .entry)))) (s .counts) next (now (rows .entry)) r (now (rows .exit)) ⌝ }
@@ -185,7 +185,7 @@ fn may_end(k: RegionSize, following: usize) -> bool
     following == 0
 }
 
-// The payload of kind 4, which is empty: the end, which so many bytes follow.
+// The payload of kind 4, which is empty: the end. `following` bytes follow it.
 pub fn end_payload(payload: &[u8], s: State, following: usize) -> Outcome
     requires { ⌜ length (now payload) ≡ 0 ⌝ }
     ensures { λ r. ⌜ ((x : File) (next : ℕ) (left : List ℕ)

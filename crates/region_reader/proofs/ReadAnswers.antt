@@ -1,5 +1,5 @@
--- The file as a whole: its length, its header, its records. And the reader's answer: what the file says where the lent list has room for the rows,
--- which then stand at the list's beginning. Assumes nothing.
+-- The file as a whole: its length, its header, its records. And the reader's answer: where the lent list is long enough for the rows, it is what the file says,
+-- and the rows stand at the list's beginning. Assumes nothing.
 use Prim.Native.Nat.{ℕ, _+_, _*_, _≤_, _<_}
 use native.Mathlib.Omega.{arith}
 use mathlib.Core.Path.{_≡_, sym, ap, _∙_}

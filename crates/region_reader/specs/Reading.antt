@@ -1,7 +1,7 @@
--- What a pass over the records gives, in the terms of region/specs/Reader. `StandsFor` and `RecordAfter` stand in region_payloads/specs/Payloads.
---   RecordStep ..            a record of a file of the style t is taken, whatever region state and array stand for
+-- What a pass over the records gives, in the terms of region/specs/Reader (document 01, 'Regions'; document 02, F-7). `StandsFor` and `RecordAfter` stand in region_payloads/specs/Payloads.
+--   RecordStep ..          outcome and array after the next record of a file of the style t, for every region that state and array stand for
 --   recordsAfter t h f     the records of the file f, of the style t, after its header h
---   RowsGiven a before rs  the array after a pass with the answer a: the rows of the file that a gives, at the beginning of what the array was before
+--   RowsGiven a before rs  the array after a pass with the answer a: `before` with the rows of the file that a gives at the beginning
 --   FilledRows g n rs      the array begins with the n rows of the region g, of 1 to 64 convexes, each with a halfspace
 use Prim.Native.Nat.{ℕ, _+_, _≤_, _<_}
 use mathlib.Core.Path.{_≡_}

@@ -1,4 +1,4 @@
--- The pass that checks rows: the region of the rows so far has the counts that are stored, and the rows that are left lead from it to what all rows
+-- The pass that checks rows: the region of the rows so far has the size that is stored, and the rows that are left lead from it to what all rows
 -- lead to. Assumes nothing.
 use Prim.Native.Nat.{ℕ, suc, _+_, _-_, _*_, _/_, _%_, _≤_, _<_}
 use native.Mathlib.Nat.{add-zero}
@@ -17,7 +17,7 @@ use Rattle.region_rows.specs.declared.counts.RegionSize.{RegionSize}
 use Rattle.region_rows.specs.RegionSizes.{regionSize}
 use Rattle.region_rows.proofs.NumberLaws.{taken, taken-few}
 
--- the rows of rs before element i make a region with the counts k
+-- the rows of rs before element i make a region of the size k
 pub record Checking (rs : List ℤ) (k : RegionSize) (i : ℕ) : Type 0 where
   pub region : Region
   pub left : ℕ

@@ -1,4 +1,4 @@
--- The counts of a region decide the limits as the region itself does, and grow as it grows. Assumes nothing.
+-- The size of a region decides the limits as the region itself does, and grows as it grows. Assumes nothing.
 use Prim.Native.Nat.{ℕ, _+_, _<_}
 use native.Mathlib.Omega.{arith}
 use mathlib.Core.Path.{_≡_, refl, sym, ap, _∙_}
@@ -19,7 +19,7 @@ use Rattle.region.proofs.RegionLaws.{convex-length, convex-last, convex-total, 
 use Rattle.region_rows.specs.declared.counts.RegionSize.{RegionSize}
 use Rattle.region_rows.specs.RegionSizes.{regionSize, addConvex, addHalfspace}
 
--- ---- a convex more
+-- ---- a new convex
 
 few : (g : Region) → ltb (length g) 64 ≡ fewConvexes (withConvex g)
 few g =
@@ -33,7 +33,7 @@ convex-counts g =
     λ i. check Crowd (few g i)
     (gives (record { convexes = sym (convex-length g) i; last = length (sym (convex-last g) i); all = sym (convex-total g) i }))
 
--- ---- a halfspace more
+-- ---- a new halfspace
 
 halfspace-grown : (g : Region) (h : Halfspace) → 0 < length g
     → record { convexes = length g; last = length (lastConvex g) + 1; all = total g + 1 } ≡ regionSize (withHalfspace g h)

@@ -1,5 +1,5 @@
--- The number of a row, and the convex that it belongs to, go by the counts of the region so far. A row that passes adds one halfspace, and one convex
--- where its number is the next. Assumes nothing.
+-- The checks of a row need only the size of the region so far. A row that passes adds one halfspace, and one convex where its number is the next.
+-- Assumes nothing.
 use Prim.Native.Nat.{ℕ, zero, suc, _+_, _-_, _≤_, _<_}
 use native.Mathlib.Omega.{arith}
 use mathlib.Core.Path.{_≡_, refl, sym, ap, _∙_}
@@ -33,7 +33,7 @@ number-before (pos m) n h = split (eqb m (n - 1))
 number-before (negsuc zero) n h = sym (ne-eqb 0 n (λ q. omega arith))
 number-before (negsuc (suc m)) n h = rw (lt-ltb 1 (suc (suc m)) (omega arith))
 
--- the number of a row after n convexes is the next one's or the last one's
+-- after n convexes a row's number is that of a new convex or of the last one
 abbrev pub belongsTo : ℕ → ℤ → Bool
 belongsTo n c = eqZ c (pos n) || (ltb 0 n && eqZ (c +ℤ pos 1) (pos n))
 

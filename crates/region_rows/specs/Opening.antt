@@ -1,5 +1,5 @@
--- The convex of a row, by the counts of the region before it.
---   opensConvex k c    the counts k with the convex that the row with the number c belongs to, or the refusal 7
+-- The convex of a row, by the size of the region before it. Document 01, 'Regions': each row number is the previous or one more.
+--   opensConvex k c    the size k with the convex that the row with the number c belongs to, or the refusal 7
 use mathlib.Core.Bool.{cond}
 use lib.IntN.{ℤ, pos}
 use Rattle.answer.specs.Answer.{Answer, gives}

@@ -1,8 +1,8 @@
--- The counts of a region that grows at its end. They decide the stated limits as the region itself does: proofs/CountLaws.
---   regionSize g              the counts of a region: convexes, halfspaces in the last one, halfspaces in all
---   regionSizeGiven r           what was answered
---   addConvex k         the counts with a convex more, or the refusal 7
---   addHalfspace k h    the counts with the halfspace h more in the last convex, or the first refusal: 7, 8, 9
+-- The size of a region that grows at its end. Document 01, 'Regions', the stated limits: the size decides them as the region itself does (proofs/CountLaws).
+--   regionSize g          three counts: convexes, halfspaces in the last one, halfspaces in all
+--   regionSizeGiven r     the answer of a function that gives a size
+--   addConvex k           the size with a new convex, or the refusal 7
+--   addHalfspace k h      the size with the halfspace h in the last convex, or the first refusal: 7, 8, 9
 use Prim.Native.Nat.{_+_}
 use mathlib.Core.Bool.{_&&_}
 use lib.Dec.{ltb}

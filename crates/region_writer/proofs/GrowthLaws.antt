@@ -1,5 +1,5 @@
--- The bytes of a region that grows at its end, in either style: a convex more is the record with which it begins; a halfspace more is its record, or its
--- numbers, and then the length of the last group grows with it. Assumes nothing.
+-- The bytes of a region that grows at its end, in either style: a new convex adds the record with which it begins; a new halfspace adds its record, or its
+-- numbers, and then the length of the last group grows too. Assumes nothing.
 use Prim.Native.Nat.{ℕ, _+_, _-_, _*_, _≤_, _<_}
 use native.Mathlib.Omega.{arith}
 use mathlib.Core.Path.{_≡_, refl, sym, ap, ap₂, _∙_}
@@ -29,14 +29,14 @@ pub whole-length : (s : Style) (d b : ℕ) (g : Region) → length (fileIn s d b
 whole-length Style.Plain d b g = file-length d b g
 whole-length Style.Grouped d b g = grouped-length d b g
 
--- ---- a convex more
+-- ---- a new convex
 
 pub convex-more : (s : Style) (g : Region) → regionBytes s (withConvex g) ≡ regionBytes s g ++ begin (opening s)
 unfolding payloadBytes
 convex-more Style.Plain g = sym (append-nil (convexesBytes (withConvex g))) ∙ convex-bytes g []
 convex-more Style.Grouped g = sym (append-nil (groupsBytes (withConvex g))) ∙ group-bytes g [] []
 
--- ---- a halfspace more
+-- ---- a new halfspace
 
 payload-more : (c : Convex) (h : Halfspace) → payloadBytes (c ++ h ∷ []) ≡ payloadBytes c ++ numbersBytes h
 unfolding payloadBytes
@@ -112,7 +112,7 @@ module _ {s : Style} {g : Region} {before xs : List ℕ} {p : WriteCursor} (v : 
         ∙ ap (λ b. put 8 b before) (sym (convex-more s g));
   }
 
-  -- what a halfspace more makes of the bytes
+  -- the bytes with a new halfspace
   bytes-more : (t : Style) → s ≡ t → (h : Halfspace) → 0 < length g → withHalfspaceAt t p h xs ≡ put 8 (regionBytes t (withHalfspace g h)) before
   bytes-more Style.Plain q h b =
       ap (put (p .at) (halfspaceBytes h)) (v .bytes ∙ ap (λ s. put 8 (regionBytes s g) before) q)

@@ -1,4 +1,4 @@
--- The pass that writes rows: the region of the rows so far stands from element 8 on, and a row adds to its bytes what it adds to the region, so it has room
+-- The pass that writes rows: the region of the rows so far stands from element 8 on, and a row adds to its bytes what it adds to the region, so it fits
 -- where the whole file does. Assumes nothing.
 use Prim.Native.Nat.{ℕ, zero, suc, _+_, _-_, _*_, _/_, _%_, _≤_, _<_}
 use native.Mathlib.Omega.{arith}
@@ -33,7 +33,7 @@ use Rattle.region_writer.specs.declared.WriteCursor.{WriteCursor}
 use Rattle.region_writer.specs.Writing.{width, opening, withConvexAt, withHalfspaceAt, RegionStands, RowFits, FileFits, RowsStand}
 use Rattle.region_writer.proofs.GrowthLaws.{region-length, convex-more, halfspace-longer, stands-convex, stands-halfspace}
 
--- ---- a halfspace more
+-- ---- a new halfspace
 
 -- the halfspace h makes the region r of g, which stands in xs
 pub record Follows (s : Style) (g r : Region) (before xs : List ℕ) (p : WriteCursor) (h : Halfspace) : Type 0 where
@@ -66,7 +66,7 @@ module _ {s : Style} {g r : Region} {before xs : List ℕ} {p : WriteCursor} {h 
       let w = stands-halfspace (f .stands) (omega (arith, grown, f .room)) h (f .begun) b in
       subst (λ q. RegionStands s r before ys q) (sym e) (subst (λ r. RegionStands s r before ys q) (f .added .is) w)
 
--- ---- a row more
+-- ---- a new row
 
 module _ {s : Style} {xs : List ℕ} {p : WriteCursor} {c : ℤ} {h : Halfspace} (f : RowFits s xs p c h) where
   row : RowAdded (f .region) (f .next) c h
@@ -133,7 +133,7 @@ rows-longer s (suc n) g f rs e =
 
 -- ---- the pass
 
--- the rows of rs before element i are written into xs, which was before, and the next record goes to p. All rows make the region whole, which has room
+-- the rows of rs before element i are written into xs, which was `before`, and the next record goes to p. All rows make the region `whole`, whose file fits
 pub record Writing (s : Style) (rs : List ℤ) (before xs : List ℕ) (p : WriteCursor) (i : ℕ) : Type 0 where
   pub whole : Region
   pub is : regionOf rs ≡ gives whole

@@ -1,12 +1,12 @@
--- A region in either style, written record by record, and when a list has room for its file.
+-- A region in either style, written record by record, and when a list is long enough for its file. Document 01, 'Regions'; document 02, F-7.
 --   width s                    the bytes that a halfspace takes in the style s
 --   opening s                  the record with which a convex begins; a group has no halfspace yet
---   withConvexAt s p xs        the list with a convex more at the place p
---   withHalfspaceAt s p h xs   the list with the halfspace h more at the place p; a group's length grows with it
---   RegionStands s g before xs p     the region g stands in xs, which was before, from element 8 on, and p is the place after it
---   RowFits s xs p c h         some region stands in xs; the row with the number c and the halfspace h may follow it, and has room
+--   withConvexAt s p xs        the list with the beginning of a convex at the cursor p
+--   withHalfspaceAt s p h xs   the list with the halfspace h at the cursor p; a group's length grows with it
+--   RegionStands s g before xs p   xs is `before` with the region g from element 8 on, and p is the cursor after it
+--   RowFits s xs p c h         some region stands in xs; the row with the number c and the halfspace h may follow it, and fits
 --   FileFits s rs n            the rows rs are a region, and its file has at most n bytes
---   RowsStand ..               the region of the rows rs stands in xs, which was before, from element 8 to element n
+--   RowsStand ..               xs is `before` with the region of the rows rs from element 8 up to element n
 use Prim.Native.Nat.{ℕ, _+_, _-_, _*_, _≤_}
 use mathlib.Core.Path.{_≡_}
 use mathlib.Core.List.{List}

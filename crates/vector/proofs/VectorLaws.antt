@@ -1,4 +1,4 @@
--- What the vector rule says of the components and of the square length, and vectors as the algebra has them. Assumes nothing.
+-- A vector by the rule has components within ±K and a length within K ± 2. And vectors as the algebra has them. Assumes nothing.
 use mathlib.Core.Path.{_≡_, refl}
 use mathlib.Core.Bool.{Bool, true, _&&_}
 use lib.IntN.{pos, negℤ, _+ℤ_, _-ℤ_, _*ℤ_}

@@ -1,4 +1,4 @@
-// Sums, products and the vector rule in code, and vectors in lists of numbers. The rules stand in vector/specs, the numbers of a list in specs/Stored.
+// Sums, products and the vector rule in code, and vectors in lists of numbers. The rules stand in vector/specs, vectors in lists in specs/Stored.
 use limits::K;
 use vector::Vec3;
 ghost use mathlib.Core.Path.{_≡_};

@@ -44,7 +44,7 @@ by false a b c d e f g = e ∙ sym (le-ltb c d (g (ltb-false a b e)))
 pub same-test : (a b c d : ℕ) → (a < b → c < d) → (b ≤ a → d ≤ c) → ltb a b ≡ ltb c d
 same-test a b c d f g = by (ltb a b) a b c d refl f g
 
--- the upper words tell, where the lower fit
+-- the upper words decide, where the lower fit
 pub upper : (ah al bh bl : ℕ) → al < 2 ^ 64 → ah < bh → ah * 2 ^ 64 + al < bh * 2 ^ 64 + bl
 upper ah al bh bl f h = omega arith
 

@@ -1,4 +1,5 @@
--- `classify_region::classify_convexes`. Assumes nothing.
+-- `classify_region::classify_convexes` is the region's class: the class so far and that of what is left to be scanned together give it (ScanLaws).
+-- Assumes nothing.
 use Prim.Native.Nat.{ℕ, _+_, _-_, _*_, _^_, _≤_, _<_}
 use native.Mathlib.Omega.{arith}
 use mathlib.Core.Path.{_≡_, refl, sym, ap, subst, _∙_}
@@ -54,7 +55,7 @@ at-convexes-before-left-halfspaces c = in-convexes-before-left-halfspaces c .bef
 abbrev start-before-left-halfspaces : tie.Left-halfspaces Inv-halfspaces μ-halfspaces Inv-convexes μ-convexes → tie.Start Inv-halfspaces μ-halfspaces Inv-convexes μ-convexes
 start-before-left-halfspaces c = start-before-in-convexes (in-convexes-before-left-halfspaces c)
 
--- a halfspace more is taken
+-- the next halfspace is taken
 module _ (t : Trixel) (xs : List ℤ) (es : List ℕ) (n k end i : ℕ) (settled class : Class) where
   abbrev Each : ℕ → Class → Type 0
   Each i class = (g : Region) → Prepared g xs es n → AtHalfspace t xs es n g k end i settled class
@@ -64,18 +65,18 @@ module _ (t : Trixel) (xs : List ℤ) (es : List ℕ) (n k end i : ℕ) (settled
       let s = halfspace-step t xs es n g k end i settled class (inv g p) h in
       subst (AtHalfspace t xs es n g k end (i + 1) settled) (sym m) (s .taken _ (f ∙ ap (λ q. preparedClass q t) e))
 
--- the place of the next end
+-- the next end is in its list
 opening : (c : tie.In-convexes Inv-halfspaces μ-halfspaces Inv-convexes μ-convexes) → c .before .convexes .k < length (c .before .before .before .args .ends .now)
 opening c =
     let l = c .before in
     let r = l .before .before .pre .1 in
     opened _ _ _ _ (r .0) _ _ _ (l .convexes .inv (r .0) (r .1)) (omega arith) .0
 
--- a convex more is still counted
+-- the count of convexes fits
 counted : (c : tie.In-convexes Inv-halfspaces μ-halfspaces Inv-convexes μ-convexes) → c .before .convexes .k + 1 < 2 ^ 64
 counted c = omega (arith, opening c, c .before .before .before .good .1 .1 .1 .1 .1 .0)
 
--- the halfspace at the next place
+-- the next halfspace is in its list
 module _ (c : tie.In-halfspaces Inv-halfspaces μ-halfspaces Inv-convexes μ-convexes) where
   next-halfspace :
       HalfspaceStep (start-before-in-halfspaces c .args .t)

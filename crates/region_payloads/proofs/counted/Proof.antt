@@ -1,4 +1,4 @@
--- `region_payloads::counted` is by what was answered. Assumes nothing.
+-- `region_payloads::counted` is the state with the size that was given, or the refusal. Assumes nothing.
 use mathlib.Core.Path.{sym, ap}
 use Rattle.region_rows.specs.RegionSizes.{regionSizeGiven}
 use Rattle.region_payloads.specs.Payloads.{outcomeGiven}

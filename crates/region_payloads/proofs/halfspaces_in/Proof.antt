@@ -1,4 +1,4 @@
--- The loop's invariant: the counts and the rows stand for the halfspaces taken so far, and those left give what all do (`Passing`). The measure is the
+-- The loop's invariant: the size and the rows stand for the halfspaces taken so far, and those left give what all do (`Passing`). The measure is the
 -- halfspaces left. Assumes nothing.
 use Prim.Native.Nat.{_-_, _*_, _≤_}
 use native.Mathlib.Omega.{arith}

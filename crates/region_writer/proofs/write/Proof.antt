@@ -1,5 +1,5 @@
--- The code makes the rule's checks in their order, and each refusal returns before the file is written. The length of the file goes by the counts
--- of the rows, so its room is known before (WriterLaws). Assumes nothing.
+-- The code makes the rule's checks in their order, and each refusal returns before the file is written. The length of the file follows from the
+-- size of the region, so whether it fits is known before (WriterLaws). Assumes nothing.
 use native.Mathlib.Omega.{arith}
 use mathlib.Core.Path.{_≡_, sym, ap, _∙_}
 use mathlib.Core.Bool.{true}

@@ -1,4 +1,4 @@
--- The loop's invariant: the rows so far make a region with the counts, and the rows that are left lead on from it (`Checking`). Assumes nothing.
+-- The loop's invariant: the rows so far make a region of this size, and the rows that are left lead on from it (`Checking`). Assumes nothing.
 use Prim.Native.Nat.{_-_}
 use native.Mathlib.Omega.{arith}
 use mathlib.Core.Path.{_≡_, sym, ap, _∙_}

@@ -1,4 +1,4 @@
--- The code makes the checks of a row in the rule's order, by the counts: the number, the convexes, then the halfspace. Assumes nothing.
+-- The code makes the checks of a row in the rule's order, by the size: the number, the convexes, then the halfspace. Assumes nothing.
 use mathlib.Core.Path.{_≡_, sym, ap, _∙_}
 use mathlib.Core.Bool.{Bool}
 use borrow.Author.Tests.{not-true, not-false}
