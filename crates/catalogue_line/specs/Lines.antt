@@ -50,7 +50,7 @@ unfoldable pub number : List ℕ → ℕ
 number [] = 0
 number (d ∷ ds) = d * 10 ^ length ds + number ds
 
--- (whole · 10^k + digits) · K div 10^k, where k is the count of the digits; the sign is put on that whole number
+-- (whole · 10^k + digits) · K div 10^k, where k is the count of the digits; the sign is given to that whole number
 unfoldable pub value : Decimal → ℤ
 value d = signed (d .negative) ((d .whole * 10 ^ length (d .digits) + number (d .digits)) * Kℕ / 10 ^ length (d .digits))
 

@@ -112,7 +112,7 @@ behind-held : holdsHalfspace backward (behindTrixel .v1) ≡ true
 behind-held = refl
 
 -- ---- an edge: caps of 45 degrees around directions 45 degrees from the plane of one of the three edges of that inverted trixel. Where D is
--- 741456 the cap ends before that plane, where D is 741455 it touches it. V > 0 is not asked, so the bounding cap plays no part.
+-- 741456 the cap ends before that plane, where D is 741455 it touches it. V is not positive, so the bounding cap plays no part.
 
 abbrev beside : Vec3 → Halfspace
 beside n = record { n = n; d = pos 741458 }

@@ -1,5 +1,5 @@
 -- The active halfspaces of a region beside an anchor, in two lists of their own: those that are not settled for every trixel close to it. Document 01,
--- 'Classifying': a convex is outside if one halfspace is, and a full halfspace leaves it as it is, so both need not be looked at again.
+-- 'Classifying': a convex is outside if one halfspace is, and a full halfspace leaves it as it is, so neither needs to be tested again.
 --   Alike r g h                the regions g and h have the same class for every trixel that is close to r
 --   ActivePrepared ..          for every region that was prepared to xs and es, the lists ys and ms have an alike region of w halfspaces
 --   ActiveLists ..             ps has an anchor, and where w is not 0 the lists ys and ms have the w halfspaces that are active beside it

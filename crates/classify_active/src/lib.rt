@@ -179,7 +179,7 @@ fn active_in_region(
     s.halfspaces
 }
 
-// A third of so many halfspaces is the capacity.
+// From this many halfspaces on, a third of them is the capacity or more.
 const THREE_CAPACITIES: usize = 3 * ACTIVE_CAPACITY;
 
 // How many active halfspaces of n are stored at most: a third, and at most 32. Where more are active it is better to look again below.

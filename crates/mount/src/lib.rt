@@ -1,5 +1,5 @@
 // A mount's report: three floats, in single or in double precision. Each is taken times 2^20 and truncated toward zero. The rules stand in specs/Values and
-// specs/Reports; the code goes by a float's bits, specs/Floats.
+// specs/Reports; the code uses a float's bits, specs/Floats.
 use answer::FLOAT;
 use vector::Vec3;
 use vector::VectorOf;

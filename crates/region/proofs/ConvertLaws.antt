@@ -1,5 +1,5 @@
--- Conversions keep what a file says, and converting back gives the same bytes: what an accepted file says is within all limits, so it may be written in either style,
--- what is written is accepted, and an accepted file is the only one of its style that says the same. Assumes nothing.
+-- Conversions keep what a file says, and converting back gives the same bytes: what an accepted file says is within all limits, so it may be written in either
+-- style, what is written is accepted, and an accepted file is the only one of its style that says the same. Assumes nothing.
 use Prim.Native.Nat.{ℕ}
 use mathlib.Core.Path.{_≡_, refl, sym, ap, subst, _∙_}
 use mathlib.Core.Bool.{false, cond, true}

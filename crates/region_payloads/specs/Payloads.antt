@@ -2,7 +2,7 @@
 -- reader.
 --   stateOf at g           the reader's state: its position, and the size of the region g read so far
 --   outcomeGiven next a    the state at the next record with the size that a gives, or its refusal
---   outcomeOf end next a   what a record with the answer a makes of the state, where the next record begins at `next`; `end`: it is the end record
+--   outcomeOf end next a   the outcome of a record with the answer a, where the next record begins at `next`; `end`: it is the end record
 --   regionSizeAfter a      the size of the region that a gives, or its refusal
 --   StandsFor before g k rs   the size k and the array rs stand for the region g: k is its size, and rs is `before` with its rows at the beginning
 --   SizeAfter ..           size and array after a convex or halfspaces, by their answer

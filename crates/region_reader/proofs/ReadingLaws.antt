@@ -90,7 +90,7 @@ outcome-refused false next (gives y) n e = let z : _≡_ {A = ℕ} 0 1 = cc in a
 
 -- ---- the records after the header h
 
--- `file` is what has been read up to the state's place
+-- `file` is what has been read up to the state's position
 pub record Reading (t : Style) (f : List ℕ) (h : Header) (before rs : List ℤ) (s : State) : Type 0 where
   pub file : File
   pub depth : file .depth ≡ h .depth

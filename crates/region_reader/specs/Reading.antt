@@ -1,4 +1,5 @@
--- What a pass over the records gives, in the terms of region/specs/Reader (document 01, 'Regions'; document 02, F-7). `StandsFor` and `RecordAfter` stand in region_payloads/specs/Payloads.
+-- What a pass over the records gives, in the terms of region/specs/Reader (document 01, 'Regions'; document 02, F-7). `StandsFor` and `RecordAfter` stand in
+-- region_payloads/specs/Payloads.
 --   RecordStep ..          outcome and array after the next record of a file of the style t, for every region that state and array stand for
 --   recordsAfter t h f     the records of the file f, of the style t, after its header h
 --   RowsGiven a before rs  the array after a pass with the answer a: `before` with the rows of the file that a gives at the beginning

@@ -46,7 +46,7 @@ fn word(s: &[u8], k: usize) -> u32
     s[k] as u32 + 256 * (s[k + 1] as u32)
 }
 
-// 2^32: 32 bits have so many values.
+// 2^32: the number of values that 32 bits have.
 pub const TWO_TO_32: i64 = 4294967296;
 
 // 2^31: from here on 32 bits stand for a number below 0.
