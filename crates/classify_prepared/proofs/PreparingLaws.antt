@@ -101,9 +101,9 @@ convex-stored i k n (v ∷ vs) l xs h =
     let a : suc (length vs) + n ≡ suc (length vs + n) = omega arith in
     let b : suc i + length vs ≡ i + suc (length vs) = omega arith in
     let m : 7 * suc i ≡ 7 * i + length q = omega arith in
-    let room : 7 * i + length q ≤ length xs = omega arith in
+    let in-list : 7 * i + length q ≤ length xs = omega arith in
     ap (λ m. stored i m (convexRows k (v ∷ vs) ++ l) xs) a
-    ∙ convex-stored (suc i) k n vs l (put (7 * i) q xs) (omega (arith, put-length (7 * i) q xs room))
+    ∙ convex-stored (suc i) k n vs l (put (7 * i) q xs) (omega (arith, put-length (7 * i) q xs in-list))
     ∙ (λ j. stored (b j) n l (put-put (7 * i) (7 * suc i) q (convexSevens vs) xs m (omega arith) j))
 
 region-stored : (i k : ℕ) (g : Region) (l xs : List ℤ) → 7 * (i + total g) ≤ length xs → stored i (total g) (rowsFrom k g ++ l) xs ≡ put (7 * i) (sevens g) xs
@@ -111,10 +111,10 @@ unfolding stored sevens total
 region-stored i k [] l xs h = sym (put-none (7 * i) xs)
 region-stored i k (c ∷ cs) l xs h =
     let m : 7 * (i + length c) ≡ 7 * i + length (convexSevens c) = omega (arith, length-sevens c) in
-    let room : 7 * i + length (convexSevens c) ≤ length xs = omega (arith, length-sevens c) in
+    let in-list : 7 * i + length (convexSevens c) ≤ length xs = omega (arith, length-sevens c) in
     ap (λ r. stored i (length c + total cs) r xs) (region-rows k c cs l)
     ∙ convex-stored i k (total cs) c (rowsFrom (suc k) cs ++ l) xs (omega arith)
-    ∙ region-stored (i + length c) (suc k) cs l (put (7 * i) (convexSevens c) xs) (omega (arith, put-length (7 * i) (convexSevens c) xs room))
+    ∙ region-stored (i + length c) (suc k) cs l (put (7 * i) (convexSevens c) xs) (omega (arith, put-length (7 * i) (convexSevens c) xs in-list))
     ∙ put-put (7 * i) (7 * (i + length c)) (convexSevens c) (sevens cs) xs m (omega arith)
 
 set-set : (es : List ℕ) (k a b : ℕ) → set (set es k a) k b ≡ set es k b

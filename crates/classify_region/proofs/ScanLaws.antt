@@ -139,7 +139,7 @@ seven-within xs k q rest e = omega (arith, length-drop k xs, ap length e)
 
 -- the halfspace number i, and the halfspaces of the convex behind it
 pub record HalfspaceNext (xs : List ℤ) (i end : ℕ) (v : Convex) : Type 0 where
-  pub room : 7 * i + 7 ≤ length xs
+  pub in-list : 7 * i + 7 ≤ length xs
   pub sound : SoundHalfspace (preparedIn xs (7 * i))
   pub first : Halfspace
   pub good : goodHalfspace first ≡ true
@@ -156,7 +156,7 @@ module _ (xs : List ℤ) (i end : ℕ) where
       let is : preparedIn xs (7 * i) ≡ prepared h = prepared-at xs (7 * i) (prepared h) (convexSevens hs ++ a .more) same in
       let seven : 7 * (i + 1) ≡ 7 * i + 7 = omega arith in
       record {
-        room = seven-within xs (7 * i) (prepared h) (convexSevens hs ++ a .more) same;
+        in-list = seven-within xs (7 * i) (prepared h) (convexSevens hs ++ a .more) same;
         sound = record {
           halfspace = h;
           vector = and-left (isVector (h .n)) (isOffset (h .d)) (both .0);
@@ -297,7 +297,7 @@ module _ (t : Trixel) (xs : List ℤ) (es : List ℕ) (n : ℕ) where
   module _ (g : Region) (k end i : ℕ) (c a : Class) where
     -- the next halfspace of the convex, and the scan after it
     pub record HalfspaceStep : Type 0 where
-      pub room : 7 * i + 7 ≤ length xs
+      pub in-list : 7 * i + 7 ≤ length xs
       pub sound : SoundHalfspace (preparedIn xs (7 * i))
       pub taken : (b : Class) → b ≡ preparedClass (preparedIn xs (7 * i)) t → AtHalfspace g k end (i + 1) c (meet a b)
 
@@ -306,7 +306,7 @@ module _ (t : Trixel) (xs : List ℤ) (es : List ℕ) (n : ℕ) where
     halfspace-step s h =
         let v = halfspace-next xs i end (s .convex) (s .at) h in
         record {
-          room = v .room;
+          in-list = v .in-list;
           sound = v .sound;
           taken = λ b q. record {
             convex = v .rest;

@@ -24,14 +24,14 @@ use Rattle.region_payloads.proofs.OutcomeLaws.{counted-refused, counted
 
 pub record Passing (p : List ℕ) (n : ℕ) (rs₀ : List ℤ) (k₀ : RegionSize) (rs : List ℤ) (k : RegionSize) (i : ℕ) : Type 0 where
   pub within : i ≤ n
-  pub room : length rs ≡ length rs₀
+  pub same-length : length rs ≡ length rs₀
   pub reached : (x : File) (before : List ℤ) → StandsFor before (x .region) k₀ rs₀
       → (y : File) × StandsFor before (y .region) k rs × (halfspacesIn x (halfspacesOf n p) ≡ halfspacesIn y (halfspacesOf (n - i) (drop (16 * i) p)))
 
 pub passing-none : (p : List ℕ) (n : ℕ) (rs : List ℤ) (k : RegionSize) → Passing p n rs k rs k 0
 passing-none p n rs k = record {
   within = omega arith;
-  room = refl;
+  same-length = refl;
   reached = λ x before st. let e : n ≡ n - 0 = omega arith in (x, st, ap (λ m. halfspacesIn x (halfspacesOf m p)) e);
 }
 
@@ -68,7 +68,7 @@ module _ (p : List ℕ) (n : ℕ) (rs₀ : List ℤ) (k₀ : RegionSize) (rs : L
       pub passing-more : (m : RegionSize) → c ≡ gives m → length rs′ ≡ length rs → Passing p n rs₀ k₀ rs′ m (i + 1)
       passing-more m q same = record {
         within = omega arith;
-        room = same ∙ d .room;
+        same-length = same ∙ d .same-length;
         reached = λ x before st.
             let w = d .reached x before st in
             let v = counted-gave m q (t (w .0) before (w .1)) in
@@ -103,15 +103,15 @@ module _ (k₀ : RegionSize) (hs : Convex) (rs : List ℤ) (c : Answer RegionSiz
     begun : (x : File) (before : List ℤ) → StandsFor before (x .region) k₀ rs → (y : File) × (convexIn x ≡ gives y) × StandsFor before (y .region) k rs
     begun x before st = counted-gave k e (convex-counted x st (o x (st .counts)))
 
-    by-room : (x y : File) (t : Bool) → convexIn x ≡ gives y → fit y ≡ t → groupIn x hs ≡ check Crowd t (halfspacesIn y hs)
-    by-room x y t q f = by-convex x (gives y) q ∙ ap (λ t. check Crowd t (halfspacesIn y hs)) f
+    by-limit : (x y : File) (t : Bool) → convexIn x ≡ gives y → fit y ≡ t → groupIn x hs ≡ check Crowd t (halfspacesIn y hs)
+    by-limit x y t q f = by-convex x (gives y) q ∙ ap (λ t. check Crowd t (halfspacesIn y hs)) f
 
     pub group-crowd : 512 < k .all + length hs → SizeAfterBy (λ x. groupIn x hs) k₀ rs (refused Crowd) rs
     group-crowd l x before st =
         let w = begun x before st in
         let y = w .0 in
         let many = lt-leb (total (y .region) + length hs) mostInAll (omega (arith, ap (λ k. k .all) (w .2 .counts))) in
-        counted-refused Crowd (by-room x y _ (w .1) many)
+        counted-refused Crowd (by-limit x y _ (w .1) many)
 
     pub group-all : k .all + length hs ≤ 512 → (b : Answer RegionSize) (rs′ : List ℤ) → SizeAfterBy (λ y. halfspacesIn y hs) k rs b rs′
         → SizeAfterBy (λ x. groupIn x hs) k₀ rs b rs′
@@ -119,4 +119,4 @@ module _ (k₀ : RegionSize) (hs : Convex) (rs : List ℤ) (c : Answer RegionSiz
         let w = begun x before st in
         let y = w .0 in
         let few = le-leb (total (y .region) + length hs) mostInAll (omega (arith, ap (λ k. k .all) (w .2 .counts))) in
-        counted-as (sym (by-room x y _ (w .1) few)) (t y before (w .2))
+        counted-as (sym (by-limit x y _ (w .1) few)) (t y before (w .2))

@@ -96,7 +96,7 @@ pub record Reading (t : Style) (f : List ℕ) (h : Header) (before rs : List ℤ
   pub depth : file .depth ≡ h .depth
   pub budget : file .budget ≡ h .budget
   pub within : s .at ≤ length f
-  pub room : length rs ≡ length before
+  pub same-length : length rs ≡ length before
   pub stands : StandsFor before (file .region) (s .counts) rs
   pub same : recordsIn (Styles.only t) (length (drop (s .at) f)) file (drop (s .at) f) ≡ recordsAfter t h f
 
@@ -108,7 +108,7 @@ reading-none t f h before l k e = record {
   depth = refl;
   budget = refl;
   within = l;
-  room = refl;
+  same-length = refl;
   stands = record { counts = e; rows = refl };
   same = enough t (headedFile h) (drop 8 f) (length (drop 8 f)) (length f) (omega arith) (omega (arith, length-drop 8 f));
 }
@@ -152,7 +152,7 @@ module _ (t : Style) (f : List ℕ) (h : Header) (before rs : List ℤ) (s : Sta
           depth = kept y (found .gave) .0;
           budget = kept y (found .gave) .1;
           within = reading-further .1;
-          room = l ∙ d .room;
+          same-length = l ∙ d .same-length;
           stands = record { counts = ap (λ u. u .counts) (found .state); rows = taken .rows y (found .gave) };
           same =
               ap (λ u. recordsIn (Styles.only t) (length u) y u) (sym p)

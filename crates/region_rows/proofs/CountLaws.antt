@@ -58,13 +58,13 @@ halfspace-counts g h b =
 pub halfspace-passed : (k l : RegionSize) (h : Halfspace) → addHalfspace k h ≡ gives l → GoodHalfspace h × (k .all < 512)
 unfolding addHalfspace
 halfspace-passed k l h e =
-    let room = ltb (k .last) 100 && ltb (k .all) 512 in
+    let below = ltb (k .last) 100 && ltb (k .all) 512 in
     let last : Answer RegionSize = gives (record { convexes = k .convexes; last = k .last + 1; all = k .all + 1 }) in
     let offset = check Offset (isOffset (h .d)) last in
     let vector = check Vector (isVector (h .n)) offset in
-    let v = check-gives Crowd room vector l e in
+    let v = check-gives Crowd below vector l e in
     let good : GoodHalfspace h = record {
       vector = check-passed Vector (isVector (h .n)) offset l v;
       offset = check-passed Offset (isOffset (h .d)) last l (check-gives Vector (isVector (h .n)) offset l v);
     } in
-    (good, ltb-true (k .all) 512 (and-right (ltb (k .last) 100) (ltb (k .all) 512) (check-passed Crowd room vector l e)))
+    (good, ltb-true (k .all) 512 (and-right (ltb (k .last) 100) (ltb (k .all) 512) (check-passed Crowd below vector l e)))

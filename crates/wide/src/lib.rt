@@ -44,8 +44,8 @@ pub fn sum(a: Wide, b: Wide) -> Wide
     requires { ⌜ valueOf a + valueOf b < 2 ^ 128 ⌝ }
     ensures { λ r. ⌜ valueOf r ≡ valueOf a + valueOf b ⌝ }
 {
-    let room = u64::MAX - b.lo;
-    if a.lo <= room {
+    let left = u64::MAX - b.lo;
+    if a.lo <= left {
         return Wide {
             hi: a.hi + b.hi,
             lo: a.lo + b.lo,
@@ -53,7 +53,7 @@ pub fn sum(a: Wide, b: Wide) -> Wide
     }
     Wide {
         hi: a.hi + b.hi + 1,
-        lo: a.lo - room - 1,
+        lo: a.lo - left - 1,
     }
 }
 

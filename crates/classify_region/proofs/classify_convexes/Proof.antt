@@ -94,7 +94,7 @@ module _ (c : tie.In-halfspaces Inv-halfspaces μ-halfspaces Inv-convexes μ-con
       halfspace-step _ _ _ _ (r .0) _ _ _ _ _ (c .before .halfspaces .inv .2 (r .0) (r .1)) (omega arith)
 
   below : 7 * c .before .halfspaces .i + 1 < 2 ^ 64
-  below = let h = next-halfspace .room in omega arith
+  below = let h = next-halfspace .in-list in omega arith
 
 -- where the scan of a convex has ended, at its own end or at a halfspace that leaves the trixel outside
 module _ (c : tie.Left-halfspaces Inv-halfspaces μ-halfspaces Inv-convexes μ-convexes) where
@@ -125,8 +125,8 @@ classify-convexes-spec =
     let r = l .before .before .pre .1 in
     let o = opened _ _ _ _ (r .0) _ _ _ (l .convexes .inv (r .0) (r .1)) (omega arith) .1 _ refl in
     (o .0, omega (arith, o .1 .after .count), λ g p. opened _ _ _ _ g _ _ _ (l .convexes .inv g p) (omega arith) .1 _ refl .1))
-    (λ c. let h = next-halfspace c .room in omega arith)
-    (λ c κs. next-halfspace c .room)
+    (λ c. let h = next-halfspace c .in-list in omega arith)
+    (λ c κs. next-halfspace c .in-list)
     (λ c κs. let p = start-before-in-halfspaces (c .before) .pre .0 in (p .0, (p .1, (p .2, subst SoundHalfspace (sym (c .prepared-at .ensures)) (next-halfspace (c .before) .sound)))))
     (λ c κs. tt)
     (λ c κs. tt)

@@ -96,7 +96,7 @@ pub classify-single-spec : {M : Type 1} → statement M
 classify-single-spec =
     tie.close
     (tie.spec
-    (λ c κs. let s = c .before in let r = s .pre .1 .0 in only-halfspace (s .args .t) _ _ _ (r .0) (r .1) (s .pre .1 .1) .room)
+    (λ c κs. let s = c .before in let r = s .pre .1 .0 in only-halfspace (s .args .t) _ _ _ (r .0) (r .1) (s .pre .1 .1) .in-list)
     (λ c κs. let h = c .before .before in (h .before .before .pre .0 .1, sound h))
     returns
     (λ c κs. let h = prepared-at-before-f (c .before) in (sound-small (sound h), (upto-held (sound-high (sound h)) tt, own-rays (h .before .before .pre .0 .0))))

@@ -64,13 +64,13 @@ halfspaces-in-spec =
     (λ c. omega arith)
     (λ c. omega arith)
     (λ c κs. simp (length-take, length-drop) (omega arith))
-    (λ c κs. let l = at-loop-before-halfspace-of (c .before) .loop in l .inv .2 .room ∙ l .inv .1)
+    (λ c κs. let l = at-loop-before-halfspace-of (c .before) .loop in l .inv .2 .same-length ∙ l .inv .1)
     (λ c. c .match .keys1)
     (λ c. omega arith)
     (λ c. omega arith)
     more
     (λ c. c .match .keys2)
-    (λ c. let r = halfspace-in-before-c2 (c .before) in r .halfspace-in .kept .1 .1 .0 ∙ at-loop-before-halfspace-of (r .before .before) .loop .inv .2 .room)
+    (λ c. let r = halfspace-in-before-c2 (c .before) in r .halfspace-in .kept .1 .1 .0 ∙ at-loop-before-halfspace-of (r .before .before) .loop .inv .2 .same-length)
     refused
-    (λ c. c .before .loop .inv .2 .room)
+    (λ c. c .before .loop .inv .2 .same-length)
     ended)

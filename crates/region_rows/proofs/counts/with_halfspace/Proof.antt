@@ -24,13 +24,13 @@ start-before-else2 c = start-before-n (c .before .before)
 abbrev else2-before-else3 : tie.Else3 → tie.Else2
 else2-before-else3 c = c .before .before .before
 
-room : (c : tie.Else1) → let k = c .before .before .args .k in (ltb (k .last) 100 && ltb (k .all) 512) ≡ true
-room c = sym (c .before .below-limits .ensures) ∙ not-false _ (c .if1 .left)
+below-both : (c : tie.Else1) → let k = c .before .before .args .k in (ltb (k .last) 100 && ltb (k .all) 512) ≡ true
+below-both c = sym (c .before .below-limits .ensures) ∙ not-false _ (c .if1 .left)
 
 below : (c : tie.Else1) → let k = c .before .before .args .k in (k .last < 100) × (k .all < 512)
 below c =
     let k = c .before .before .args .k in
-    (ltb-true (k .last) 100 (and-left (ltb (k .last) 100) _ (room c)), ltb-true (k .all) 512 (and-right (ltb (k .last) 100) _ (room c)))
+    (ltb-true (k .last) 100 (and-left (ltb (k .last) 100) _ (below-both c)), ltb-true (k .all) 512 (and-right (ltb (k .last) 100) _ (below-both c)))
 
 vector : (c : tie.Else2) → isVector (start-before-n (c .before .before) .args .h .n) ≡ true
 vector c = sym (c .before .is-vector .ensures) ∙ not-false _ (c .if2 .left)
@@ -47,18 +47,18 @@ crowd c = simp (sym (c .before .below-limits .ensures) ∙ not-true _ (c .if1 .t
 
 no-vector : tie.Need-returns-2
 unfolding addHalfspace
-no-vector c = simp (room (c .before .before .before), sym (c .before .is-vector .ensures) ∙ not-true _ (c .if2 .taken))
+no-vector c = simp (below-both (c .before .before .before), sym (c .before .is-vector .ensures) ∙ not-true _ (c .if2 .taken))
 
 no-offset : tie.Need-returns-3
 unfolding addHalfspace
-no-offset c = let v = c .before .before .before in simp (room (v .before .before .before), vector v, offset (c .before) _ (not-true _ (c .if3 .taken)))
+no-offset c = let v = c .before .before .before in simp (below-both (v .before .before .before), vector v, offset (c .before) _ (not-true _ (c .if3 .taken)))
 
 more : tie.Need-returns-4
 unfolding addHalfspace
 more c =
     let o = c .before .before in
     let v = o .before .before .before in
-    simp (room (v .before .before .before), vector v, offset (o .before) _ (not-false _ (o .if3 .left)))
+    simp (below-both (v .before .before .before), vector v, offset (o .before) _ (not-false _ (o .if3 .left)))
 
 pub with-halfspace-spec : {M : Type 1} → statement M
 with-halfspace-spec =
