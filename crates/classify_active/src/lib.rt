@@ -186,7 +186,11 @@ const THREE_CAPACITIES: usize = 3 * ACTIVE_CAPACITY;
 fn active_limit(n: usize) -> usize
     ensures { λ m. ⌜ m ≤ 32 ⌝ }
 {
-    if n < THREE_CAPACITIES { n / 3 } else { ACTIVE_CAPACITY }
+    if n < THREE_CAPACITIES {
+        n / 3
+    } else {
+        ACTIVE_CAPACITY
+    }
 }
 
 // Stores an anchor behind the numbers of active halfspaces.

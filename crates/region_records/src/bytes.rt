@@ -27,7 +27,11 @@ fn bits_of(z: i64) -> u32
     requires { ⌜ Upto Kℕ z ⌝ }
     ensures { λ r. ⌜ r ≡ bitsOf z ⌝ }
 {
-    if z < 0 { (crate::TWO_TO_32 + z) as u32 } else { z as u32 }
+    if z < 0 {
+        (crate::TWO_TO_32 + z) as u32
+    } else {
+        z as u32
+    }
 }
 
 // Signed 32 bits at position `at`.
