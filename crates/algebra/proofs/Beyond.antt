@@ -1,4 +1,4 @@
--- Beyond a bound no squares are compared: with r² ≥ S, r ≤ E and M ≥ 2²¹ r it is p S < M² for p up to 3·2⁴⁰, and S G ≤ M E for G up to 2²¹.
+-- Beyond a bound no squares need to be compared: r² ≥ S, r ≤ E and M ≥ 2²¹ r give p S < M² for p up to 3·2⁴⁰, and S G ≤ M E for G up to 2²¹.
 -- Assumes nothing.
 use mathlib.Core.Path.{refl}
 use mathlib.Core.List.{[], _∷_}

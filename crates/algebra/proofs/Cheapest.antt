@@ -1,4 +1,4 @@
--- Taking a cheapest one, again and again, is the cheapest way to take n of some things, of which only the costs are told: any n + 1 of them cost at
+-- The cheapest way to take n of some things is to take a cheapest one again and again. Only their costs matter: any n + 1 of them cost at
 -- least what a cheapest one costs and what any n of the others do. If the cheapest one is among them, the rest are n of the others; if it is not, any
 -- one of them costs as much or more. Which one is taken among equals plays no part. Assumes nothing.
 use Prim.Native.Nat.{ℕ, zero, suc, _+_, _-_, _≤_}
@@ -35,7 +35,7 @@ pub costs-left : (v n x : ℕ) (xs : List ℕ) → Costs v n (x ∷ xs) → Cost
 costs-left v zero x xs s = s
 costs-left v (suc n) x xs s = s .1
 
--- one more costs c more, where none costs less
+-- where none costs less than c, any n + 1 cost at least c more than any n
 costs-more : (c v n : ℕ) (xs : List ℕ) → NoneBelow c xs → Costs v n xs → Costs (c + v) (suc n) xs
 costs-more c v n [] l s = tt
 costs-more c v zero (x ∷ xs) l s = (omega arith, costs-more c v zero xs (l .1) s)

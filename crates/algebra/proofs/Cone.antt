@@ -76,20 +76,20 @@ edge-pair f r s G hr hs gr gs = pair-bound (dot f r) (dot f s) (dot r r) (dot s 
 
 -- ---- the lemma
 
--- f is in front of the edge r, and G² |r|² ≤ (f·r)²
-pub record Far (f r : V3) (G : ℤ) : Type 0 where
+-- f reaches the direction r by G: f·r ≥ 0 and (f·r)² ≥ G² |r|²
+pub record Reaches (f r : V3) (G : ℤ) : Type 0 where
   pub front : pos 0 ≤ℤ dot f r
-  pub far : (G *ℤ G *ℤ dot r r) ≤ℤ (dot f r *ℤ dot f r)
+  pub reach : (G *ℤ G *ℤ dot r r) ≤ℤ (dot f r *ℤ dot f r)
 
 pub cone : (f P0 P1 P2 p : V3) (G : ℤ) → pos 0 <ℤ dot P0 (cross P1 P2) → pos 0 ≤ℤ dot P0 p → pos 0 ≤ℤ dot P1 p → pos 0 ≤ℤ dot P2 p
-    → Far f (cross P1 P2) G → Far f (cross P2 P0) G → Far f (cross P0 P1) G → Far f p G
+    → Reaches f (cross P1 P2) G → Reaches f (cross P2 P0) G → Reaches f (cross P0 P1) G → Reaches f p G
 cone f P0 P1 P2 p G vol in0 in1 in2 e0 e1 e2 = record {
   front = cancel-nn vol
       (subst (λ z. pos 0 ≤ℤ z) (sym (dual-basis f P0 P1 P2 p)) (nn-add (nn-add (nn-mul in0 (e0 .front)) (nn-mul in1 (e1 .front))) (nn-mul in2 (e2 .front))));
-  far = cancel-≤ℤ (<ℤ-mul vol vol)
+  reach = cancel-≤ℤ (<ℤ-mul vol vol)
       (rescale (dot P0 (cross P1 P2)) (dot f p) (dot p p) _ _ G (dual-basis f P0 P1 P2 p) (norms P0 P1 P2 p)
-      (sum-bound _ _ _ _ _ _ _ _ _ _ _ _ G in0 in1 in2 (e0 .far) (e1 .far) (e2 .far)
-      (edge-pair f (cross P1 P2) (cross P2 P0) G (e0 .front) (e1 .front) (e0 .far) (e1 .far))
-      (edge-pair f (cross P1 P2) (cross P0 P1) G (e0 .front) (e2 .front) (e0 .far) (e2 .far))
-      (edge-pair f (cross P2 P0) (cross P0 P1) G (e1 .front) (e2 .front) (e1 .far) (e2 .far))));
+      (sum-bound _ _ _ _ _ _ _ _ _ _ _ _ G in0 in1 in2 (e0 .reach) (e1 .reach) (e2 .reach)
+      (edge-pair f (cross P1 P2) (cross P2 P0) G (e0 .front) (e1 .front) (e0 .reach) (e1 .reach))
+      (edge-pair f (cross P1 P2) (cross P0 P1) G (e0 .front) (e2 .front) (e0 .reach) (e2 .reach))
+      (edge-pair f (cross P2 P0) (cross P0 P1) G (e1 .front) (e2 .front) (e1 .reach) (e2 .reach))));
 }

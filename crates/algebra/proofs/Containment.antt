@@ -1,4 +1,4 @@
--- The containment lemma: where the cap of b and E lies in that of f and G, every direction p that b reaches by E is reached by f and G. With
+-- The containment lemma: where the cap of b and E lies in that of f and G, f reaches by G every direction p that b reaches by E. With
 -- S = b·b − E² and M = f·b − G E: |S f − M b|² ≤ (M E − S G)², so that S (f·p) ≥ M (b·p) − (M E − S G) |p| ≥ S G |p|. Assumes nothing.
 use mathlib.Core.Path.{refl}
 use mathlib.Core.List.{[], _∷_}
@@ -9,7 +9,7 @@ use Rattle.algebra.proofs.Order.{nn-mul, ≤ℤ-trans}
 use Rattle.algebra.proofs.Claim.{_:≤_, _:<_, hyp, sq, _⊕_, _⊗_, prove}
 use Rattle.algebra.proofs.Inequalities.{`0, <ℤ→≤ℤ, sq-≤ℤ, sq-mono, cancel-≤ℤ, cancel-nn, <ℤ-mul}
 use Rattle.algebra.proofs.Vec.{V3, dot, dot-nn, difference-bound}
-use Rattle.algebra.proofs.Cone.{Far}
+use Rattle.algebra.proofs.Cone.{Reaches}
 
 -- ---- of numbers: N = p·p, F = f·p, B = b·p, c = f·b, a = f·f, b = b·b
 
@@ -79,17 +79,17 @@ squared = prove 7
 
 -- ---- the lemma
 
-pub containment : (f b p : V3) (G E : ℤ) → Far b p E → pos 0 <ℤ G → pos 0 <ℤ (dot b b -ℤ E *ℤ E) → pos 0 <ℤ (dot f b -ℤ G *ℤ E)
+pub containment : (f b p : V3) (G E : ℤ) → Reaches b p E → pos 0 <ℤ G → pos 0 <ℤ (dot b b -ℤ E *ℤ E) → pos 0 <ℤ (dot f b -ℤ G *ℤ E)
     → pos 0 ≤ℤ ((dot f b -ℤ G *ℤ E) *ℤ E -ℤ (dot b b -ℤ E *ℤ E) *ℤ G)
-    → ((dot f f -ℤ G *ℤ G) *ℤ (dot b b -ℤ E *ℤ E)) ≤ℤ ((dot f b -ℤ G *ℤ E) *ℤ (dot f b -ℤ G *ℤ E)) → Far f p G
+    → ((dot f f -ℤ G *ℤ G) *ℤ (dot b b -ℤ E *ℤ E)) ≤ℤ ((dot f b -ℤ G *ℤ E) *ℤ (dot f b -ℤ G *ℤ E)) → Reaches f p G
 containment f b p G E near g s m t h =
     let S = dot b b -ℤ E *ℤ E in
     let M = dot f b -ℤ G *ℤ E in
     let c = across (dot p p) (dot f p) (dot b p) (dot f f) (dot b b) (dot f b) G E (dot-nn p) (difference-bound S M f b p) (<ℤ→≤ℤ s) h in
-    let front = ahead-of (dot f p) (dot b p) S M G E (turned (dot p p) (dot f p) (dot b p) S M G E (<ℤ→≤ℤ m) (near .front) t (near .far) c) in
+    let front = ahead-of (dot f p) (dot b p) S M G E (turned (dot p p) (dot f p) (dot b p) S M G E (<ℤ→≤ℤ m) (near .front) t (near .reach) c) in
     let w : pos 0 <ℤ (M *ℤ E *ℤ S) = <ℤ-mul (positive-edge S M G E s g t) s in
     let n : pos 0 ≤ℤ (S *ℤ G *ℤ (M *ℤ dot b p)) = nn-mul (nn-mul (<ℤ→≤ℤ s) (<ℤ→≤ℤ g)) (nn-mul (<ℤ→≤ℤ m) (near .front)) in
     record {
       front = cancel-nn w (≤ℤ-trans n front);
-      far = cancel-≤ℤ (<ℤ-mul w w) (squared (dot p p) (dot f p) (dot b p) S M G E (near .far) (sq-mono n front));
+      reach = cancel-≤ℤ (<ℤ-mul w w) (squared (dot p p) (dot f p) (dot b p) S M G E (near .reach) (sq-mono n front));
     }

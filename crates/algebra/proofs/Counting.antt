@@ -30,7 +30,7 @@ module _ {A : Type 0} (f : A → Bool) where
   tally-some (x ∷ xs) e = split (f x) (λ t. omega (arith, tally-pass x xs t)) (λ t. omega (arith, tally-fail x xs t, tally-some xs (rw t at e)))
 
 module _ {A : Type 0} (f g : A → Bool) where
-  -- where k more pass g than f, so it is with one element more that passes g if it passes f
+  -- an element that passes g if it passes f: where k more passed g than f before it, at least k more do with it
   pub tally-step : (k : ℕ) (x : A) (xs : List A) → (f x ≡ true → g x ≡ true) → tally f xs + k ≤ tally g xs → tally f (x ∷ xs) + k ≤ tally g (x ∷ xs)
   tally-step k x xs h le = split (f x)
       (λ e. omega (arith, tally-pass f x xs e, tally-pass g x xs (h e)))

@@ -30,7 +30,7 @@ module _ {m n : ℕ} {w x y z : ℤ} (p : Moved m w x) (q : Moved n y z) where
   pub moved-sub : Moved (m + n) (w -ℤ y) (x -ℤ z)
   moved-sub = record { by = subst (Upto (m + n)) (ring 4 (λ w x y z. (x :- w) :- (z :- y) :≡ (x :- z) :- (w :- y)) refl w x y z) (upto-sub (p .by) (q .by)) }
 
--- the room k, the margin l, and what was beyond the margin
+-- x was at or beyond the margin l and moved by s at most: it is still at or beyond k, where k + s ≤ l
 beyond-left : (s k l x z : ℤ) → (k +ℤ s) ≤ℤ l → l ≤ℤ x → negℤ s ≤ℤ (z -ℤ x) → k ≤ℤ z
 beyond-left = prove 5
     (λ s k l x z. record {

@@ -1,6 +1,6 @@
--- Elements of any kind that move down by w places, one after the other: after k turns the list is `lowered` by k. The element z is what a read past the
+-- Elements of any kind move down by w positions, one after the other: after k of them the list is `lowered` by k. The element z is what a read past the
 -- end gives; no read is past it. Assumes nothing.
---   lowered w at l k   the list l, where k elements, from number `at` on, are those that stand w places further on
+--   lowered w at l k   the list l, where k elements, from number `at` on, are those that stood w positions further on
 use Prim.Native.Nat.{ℕ, _+_, _<_}
 use mathlib.Core.Path.{_≡_, sym, ap, _∙_}
 use mathlib.Core.List.{List, _++_}

@@ -1,6 +1,6 @@
--- The plane lemma: a direction p in front of the plane of P, and within reach of f and D, forbids that f lies beyond that plane by more than D allows.
--- With q = (P·P) f − (f·P) P it is (P·P)(f·p) ≤ q·p, for f·P < 0 ≤ P·p, and q·q = (P·P)((P·P)(f·f) − (f·P)²) < (P·P)² D². So (f·p)² < D² (p·p).
--- And an edge of a cone is in front of its three planes. Assumes nothing.
+-- The plane lemma: where a direction p is in front of the plane of P and f reaches p by D, f is not beyond that plane by more than D allows.
+-- With q = (P·P) f − (f·P) P: (P·P)(f·p) ≤ q·p, since f·P < 0 ≤ P·p, and q·q = (P·P)((P·P)(f·f) − (f·P)²) < (P·P)² D². So (f·p)² < D² (p·p).
+-- An edge of a cone is in front of its three planes. Assumes nothing.
 use mathlib.Core.Path.{_≡_, refl, sym, subst}
 use mathlib.Core.List.{[], _∷_}
 use lib.IntN.{ℤ, pos, _+ℤ_, _-ℤ_, _*ℤ_}
@@ -10,7 +10,7 @@ use Rattle.algebra.proofs.Order.{≡→≤ℤ}
 use Rattle.algebra.proofs.Claim.{_:≤_, _:<_, _:≡_, nat, hyp, sq, _⊕_, _⊗_, prove}
 use Rattle.algebra.proofs.Inequalities.{`0, `1, false-le, <ℤ→≤ℤ, <ℤ-by-no}
 use Rattle.algebra.proofs.Vec.{V3, dot, cross, dotE, crossE, ringV, cauchy-schwarz, dot-nn, difference-bound}
-use Rattle.algebra.proofs.Cone.{Far}
+use Rattle.algebra.proofs.Cone.{Reaches}
 
 -- ---- of numbers: N = P·P, a = f·P, c = f·f, F = f·p, y = P·p, n = p·p
 
@@ -42,10 +42,10 @@ numbers = prove 7
 
 -- ---- the lemma
 
-pub beyond-plane : (f P p : V3) (D : ℤ) → pos 0 <ℤ dot p p → Far f p D → pos 0 ≤ℤ dot P p
+pub beyond-plane : (f P p : V3) (D : ℤ) → pos 0 <ℤ dot p p → Reaches f p D → pos 0 ≤ℤ dot P p
     → dot f P <ℤ pos 0 → (dot P P *ℤ dot f f) <ℤ (dot P P *ℤ (D *ℤ D) +ℤ dot f P *ℤ dot f P) → ⊥
 beyond-plane f P p D n near front behind beyond = false-le
-    (numbers (dot P P) (dot f P) (dot f f) (dot f p) (dot P p) (dot p p) D n (near .front) (near .far) front behind
+    (numbers (dot P P) (dot f P) (dot f f) (dot f p) (dot P p) (dot p p) D n (near .front) (near .reach) front behind
     (normal-positive (dot P P) (dot f P) (dot f f) (dot-nn f) behind (cauchy-schwarz f P)) beyond (difference-bound (dot P P) (dot f P) f P p))
 
 -- ---- the edges of a cone
@@ -65,6 +65,6 @@ module _ (a b c : V3) (vol : pos 0 <ℤ dot a (cross b c)) where
   pub edge-front : (pos 0 ≤ℤ dot a (cross b c)) × (pos 0 ≤ℤ dot b (cross b c)) × (pos 0 ≤ℤ dot c (cross b c))
   edge-front = (<ℤ→≤ℤ vol, ≡→≤ℤ (first-edge b c), ≡→≤ℤ (second-edge b c))
 
-  -- V is the same from the next normal on
-  pub turned-volume : pos 0 <ℤ dot b (cross c a)
-  turned-volume = subst (λ z. pos 0 <ℤ z) (sym (own-edge a b c)) vol
+  -- V is the same for the normals in cyclic order
+  pub volume-cyclic : pos 0 <ℤ dot b (cross c a)
+  volume-cyclic = subst (λ z. pos 0 <ℤ z) (sym (own-edge a b c)) vol

@@ -1,4 +1,4 @@
--- The separation lemma: a direction p that is near both f and b forbids that f and b are far apart. Assumes nothing.
+-- The separation lemma: where f and b both reach a direction p, f and b are not far apart. Assumes nothing.
 use mathlib.Core.Path.{refl, sym, subst, subst₂}
 use mathlib.Core.List.{[], _∷_}
 use lib.IntN.{ℤ, pos, _-ℤ_, _*ℤ_}
@@ -8,7 +8,7 @@ use Rattle.algebra.proofs.Order.{nn-mul}
 use Rattle.algebra.proofs.Claim.{_:≤_, _:<_, nat, hyp, sq, _⊕_, _⊗_, prove}
 use Rattle.algebra.proofs.Inequalities.{`0, `1, false-le, sq-≤ℤ}
 use Rattle.algebra.proofs.Vec.{V3, dot, cross, lagrange, binet-cauchy, cauchy-schwarz}
-use Rattle.algebra.proofs.Cone.{Far}
+use Rattle.algebra.proofs.Cone.{Reaches}
 
 -- the Gram determinant: ((f·b)(p·p) − (f·p)(b·p))² ≤ ((f·f)(p·p) − (f·p)²) ((b·b)(p·p) − (b·p)²)
 gram : (f b p : V3)
@@ -47,10 +47,10 @@ numbers = prove 8
     })
     refl
 
-pub separation : (f b p : V3) (D E : ℤ) → pos 0 <ℤ dot p p → Far f p D → Far b p E
+pub separation : (f b p : V3) (D E : ℤ) → pos 0 <ℤ dot p p → Reaches f p D → Reaches b p E
     → pos 0 <ℤ (D *ℤ E -ℤ dot f b)
     → ((dot f f -ℤ D *ℤ D) *ℤ (dot b b -ℤ E *ℤ E)) <ℤ ((D *ℤ E -ℤ dot f b) *ℤ (D *ℤ E -ℤ dot f b)) → ⊥
 separation f b p D E n hf hb k apart = false-le
     (numbers (dot p p) (dot f p) (dot b p) (dot f b) (dot f f) (dot b b) D E n
-    (product-bound (dot p p) (dot f p) (dot b p) D E n (hf .front) (hb .front) (hf .far) (hb .far)) (hf .far) (hb .far)
+    (product-bound (dot p p) (dot f p) (dot b p) D E n (hf .front) (hb .front) (hf .reach) (hb .reach)) (hf .reach) (hb .reach)
     (cauchy-schwarz f p) (cauchy-schwarz b p) (gram f b p) k apart)

@@ -1,4 +1,4 @@
--- Bounds on numbers with a sign, and the way to `SFits`, which a signed operation asks for: the size of a sum, a difference, a product and a
+-- Bounds on numbers with a sign, and the way to `SFits`, which a signed operation requires: the size of a sum, a difference, a product and a
 -- quotient, and one law for each operation on the bits of a signed 64-bit number. Closed bounds are answered by `tt`. Assumes nothing.
 use Prim.Native.Nat.{ℕ, zero, suc, _+_, _-_, _*_, _^_, _≤_, _<_}
 use native.Mathlib.Nat.{le-refl, le-trans, lt-of-le-of-lt, mul-le-mul, add-le-add, div-le-self, lt-trans}
@@ -122,7 +122,7 @@ nat {m} h t = held {z = pos m} (record { le = h }) t
 pub lit : (n : ℕ) → T (ltb n (2 ^ 63)) → Is n (pos n) n
 lit n t = nat (le-refl n) t
 
--- a number that is tested against 0: it has no sign, or what it is taken from 0 has none
+-- a number z that is tested against 0: z is not negative, or 0 − z is not
 pub no-sign : (z : ℤ) → ltZ z (pos 0) ≡ false → T (nonNeg z)
 no-sign (pos n) e = tt
 no-sign (negsuc n) e = absurd (true≢false e)
@@ -139,11 +139,11 @@ sign-tested (negsuc n) = refl
 pub sign-held : {z : ℤ} {t : Bool} → SFits w64 z → ltZ (toZ w64 (ofZ w64 z)) (pos 0) ≡ t → nonNeg z ≡ not t
 sign-held {z} h e = sign-tested z ∙ ap not (sym (ap (λ v. ltZ v (pos 0)) (toZ-ofZ h)) ∙ e)
 
--- what a cast to a number without a sign asks
+-- what a cast to a number without a sign requires
 pub fits-cast : {b n : ℕ} {z : ℤ} → Is b z n → T (nonNeg z) → T (ltb n (2 ^ 63)) → T (nonNeg (toZ w64 b)) × Fits w64 (natAbs (toZ w64 b))
 fits-cast {n = n} p h t = subst (λ v. T (nonNeg v) × Fits w64 (natAbs v)) (sym (p .eq)) (h, fits-le (p .size .le) (record { fits = lt-trans (ltb→lt n (2 ^ 63) t) (lit< tt) }))
 
--- the same of a number that was found to be above 0
+-- as above, for a number that was tested to be above 0
 above-zero : (z : ℤ) → leZ z (pos 0) ≡ false → T (nonNeg z)
 above-zero (pos n) e = tt
 above-zero (negsuc n) e = absurd (true≢false e)
@@ -158,7 +158,7 @@ fits-wider h = subst (SFits w64) (sym (toZ-ofZ h)) (record { sfits = lt-trans (h
 pub same-wider : {z : ℤ} → SFits w32 z → toZ w64 (ofZ w64 (toZ w32 (ofZ w32 z))) ≡ z
 same-wider h = toZ-ofZ (fits-wider h) ∙ toZ-ofZ h
 
--- a signed number of 64 bits that fits 32 and is cast to them, alike
+-- a signed 64-bit number that is cast to 32 bits and fits: it is the same number
 pub fits-narrower : {n : ℕ} {z : ℤ} → Upto n z → T (ltb n (2 ^ 31)) → SFits w32 (toZ w64 (ofZ w64 z))
 fits-narrower {z = z} h t = let f = sfits w32 h t in subst (SFits w32) (sym (stored-same z (lt-trans (f .sfits) (lit< tt)))) f
 

@@ -1,4 +1,4 @@
--- Tests and what they say: Booleans joined by &&, the order tests of ℕ and of ℤ, tests over lists. Assumes nothing.
+-- Tests and what follows from them: Booleans, the order tests of ℕ and of ℤ, tests over lists. Assumes nothing.
 use Prim.Native.Nat.{ℕ, _*_, _≤_}
 use mathlib.Core.Path.{_≡_, refl, sym, ap, subst, _∙_}
 use mathlib.Core.Bool.{Bool, true, false, not, _&&_, _||_, true≢false, false≢true}

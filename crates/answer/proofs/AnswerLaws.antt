@@ -1,5 +1,5 @@
--- Where an answer gives, every check before it passed; where a changed value is refused, it was refused before; a call whose number is known gave it. Assumes
--- nothing.
+-- Where an answer gives a value, every check before it passed. Where a changed value is refused, it was refused before. A call whose number is known gave it.
+-- Assumes nothing.
 use Prim.Native.Nat.{ℕ}
 use mathlib.Core.Path.{_≡_, refl, sym, ap}
 use mathlib.Core.Bool.{Bool, true, false}

@@ -1,5 +1,5 @@
--- An answer with its room is the answer's own refusal where it has one, and the answer where there is room; what is stored for a refusal is the list as it
--- was, and what was put at its beginning is its front. Assumes nothing.
+-- The check of a lent list comes last: a refusal stays as it is, and an answer stays where the list is long enough. A refusal leaves the list as it was, and
+-- what was put at its beginning is its front. Assumes nothing.
 use Prim.Native.Nat.{ℕ, _+_, _≤_}
 use mathlib.Core.Path.{_≡_, ap, _∙_}
 use mathlib.Core.List.{List}
@@ -19,7 +19,7 @@ module _ {A B : Type 0} (value : A → B) where
   not-stored write a before n e = ap (λ x. stored write x before) (value-refused value a n e)
 
 module _ {X A : Type 0} (before : List X) where
-  -- what is given was given before the room was looked at
+  -- what is given after the check of the list was given before it
   pub room-gives : (n : A → ℕ) (a : Answer A) (y : A) → then a (λ x. room (n x) before x) ≡ gives y → a ≡ gives y
   room-gives n a y e =
       let w = then-gives a (λ x. room (n x) before x) y e in

@@ -23,7 +23,7 @@ module _ {X : Type 0} where
   pub put-none : (k : ℕ) (before : List X) → put k [] before ≡ before
   put-none k before = let e : k + 0 ≡ k = omega arith in ap (λ m. take k before ++ drop m before) e ∙ take-append-drop k before
 
-  -- ys right after xs, at place m
+  -- ys right after xs, at position m
   pub put-put : (k m : ℕ) (xs ys before : List X) → m ≡ k + length xs → k ≤ length before → put m ys (put k xs before) ≡ put k (xs ++ ys) before
   put-put k m xs ys before e h =
       let a = take k before in
@@ -52,7 +52,7 @@ module _ {X : Type 0} where
       ap₂ (λ s r. s ++ (y ++ r)) (take-at t ((x ++ b) ++ rest) m l) (ap (drop (m + length y)) whole ∙ drop-at (t ++ x) (b ++ rest) (m + length y) n)
       ∙ ap (λ r. t ++ r) (sym (append-assoc y b rest) ∙ ap (λ j. (y ++ b) ++ drop j before) same)
 
-  -- y in the place of x, which is as long
+  -- y instead of x, which is as long
   pub put-over : (k m : ℕ) (a x y b before : List X) → m ≡ k + length a → length x ≡ length y → k + length a ≤ length before
       → put m y (put k (a ++ (x ++ b)) before) ≡ put k (a ++ (y ++ b)) before
   put-over k m a x y b before e l h =
@@ -69,7 +69,7 @@ module _ {X : Type 0} where
   pub set-put : (k : ℕ) (a : X) (before : List X) → k < length before → set before k a ≡ put k (a ∷ []) before
   set-put k a before h = sets-eq (a ∷ []) before k (omega arith) ∙ append-assoc (take k before) (a ∷ []) (drop (k + 1) before)
 
-  -- elements that are stored one after the other: the first at place k, the next at k + 1, k + 2 and so on
+  -- elements that are stored one after the other: the first at position k, the next at k + 1, k + 2 and so on
   abbrev storedFrom : ℕ → ℕ → List X → List X → List X
   storedFrom k j [] l = l
   storedFrom k j (x ∷ xs) l = storedFrom k (suc j) xs (set l (k + j) x)

@@ -36,7 +36,7 @@ pub const ABSENT: u32 = 17;
 
 pub const OWNER: u32 = 18;
 
-// An identifier or a length, or the number of the first check that failed.
+// The answer of a call that gives one number: an identifier or a length, or the number of the first check that failed.
 pub enum Number {
     Gives(u64),
     Refused(u32),

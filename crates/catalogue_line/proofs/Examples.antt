@@ -1,5 +1,5 @@
 -- Lines of document 02, F-3, computed: −0.5 is −524288 and −0.0 is 0; 0.3 and −0.3 are truncated toward zero; 1.9999999 is a number. A missing line
--- feed and one too many, two blanks and an eighth digit are another shape. Assumes nothing.
+-- feed or one too many, two blanks and an eighth digit are malformed. Assumes nothing.
 use Prim.Native.Nat.{ℕ}
 use mathlib.Core.Path.{_≡_, refl}
 use mathlib.Core.List.{List, [], _∷_, _++_}

@@ -15,7 +15,7 @@ use Rattle.algebra.proofs.Tests.{split, and-left, and-right, and-both}
 use Rattle.answer.specs.Answer as answer
 use Rattle.answer.specs.Answer.{Answer, refused, gives, check, then}
 use Rattle.answer.proofs.AnswerLaws.{refused-gives, check-passed, check-gives, same-value, then-gives}
-use Rattle.catalogue_line.specs.Lines.{digit0, point, minus, blank, lineFeed, Decimal, isDecimal, digitBytes, signBytes, written, Line, isLine, lineOf, Found, isDigitTo, digitsIn, unsignedIn, decimalIn, nextIn, isEnd, decimalsIn, LinesInverse, OtherShapes}
+use Rattle.catalogue_line.specs.Lines.{digit0, point, minus, blank, lineFeed, Decimal, isDecimal, digitBytes, signBytes, written, Line, isLine, lineOf, Found, isDigitTo, digitsIn, unsignedIn, decimalIn, nextIn, isEnd, decimalsIn, LinesInverse, MalformedRefused}
 
 abbrev small : ℕ → Bool
 small n = leb n 9
@@ -296,8 +296,8 @@ line-only l =
     then-only (nextIn (x .rest)) _ (next-only (x .rest)) (λ y.
     then-only (nextIn (y .rest)) _ (next-only (y .rest)) (λ z. check-only (isEnd (z .rest)) (gives _) (gives-only _))))
 
-pub other-shapes : OtherShapes
-other-shapes = (line-only, λ l h. too-long l h (decimalsIn l) refl)
+pub malformed-refused : MalformedRefused
+malformed-refused = (line-only, λ l h. too-long l h (decimalsIn l) refl)
   where
     too-long : (l : List ℕ) → 33 < length l → (a : Answer Line) → decimalsIn l ≡ a → decimalsIn l ≡ refused answer.Line
     too-long l h (refused n) e = e ∙ ap refused (line-only l n e)

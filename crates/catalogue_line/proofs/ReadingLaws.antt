@@ -1,5 +1,5 @@
--- A line read byte by byte. What the bytes from a place on give is decided by the byte there: past the end it is 0, which no shape has. The number of the
--- digits read so far, with those that are left after it, is the number of all of them. Assumes nothing.
+-- A line is read byte by byte. What the bytes from a position on give is decided by the byte there: past the end it is 0, which no line has. The number of
+-- the digits read so far, with those that are left after it, is the number of all of them. Assumes nothing.
 use Prim.Native.Nat.{ℕ, zero, suc, _+_, _-_, _*_, _/_, _^_, _≤_, _<_}
 use native.Mathlib.Nat.{pow-succ', one-le-pow, lt-of-not-le, mul-assoc, add-mul, add-assoc, le-mul-of-pos-right, le-trans}
 use native.Mathlib.Numerals.{add-one}
@@ -30,7 +30,7 @@ past [] k h = refl
 past (b ∷ l) zero h = absurd (omega arith)
 past (b ∷ l) (suc k) h = past l k (omega arith)
 
--- where a byte stands, the place is in the line
+-- where a byte is not 0, its position is in the line
 pub inside : (l : List ℕ) (k : ℕ) → 0 < getD l k 0 → k < length l
 inside l k h = lt-of-not-le (λ g. absurd (omega (arith, past l k g)))
 
@@ -75,7 +75,7 @@ module _ (l : List ℕ) (k : ℕ) where
 
 -- ---- digits
 
--- number and power of ten of the digits read so far, the place after them, and how many more may follow
+-- number and power of ten of the digits read so far, the position after them, and how many may still follow
 pub record Reading (w k : ℕ) (l : List ℕ) (n p at left : ℕ) : Type 0 where
   pub digits : n * 10 ^ length (digitsIn left (drop at l)) + number (digitsIn left (drop at l)) ≡ w * 10 ^ length (digitsIn 7 (drop k l)) + number (digitsIn 7 (drop k l))
   pub power : p * 10 ^ length (digitsIn left (drop at l)) ≡ 10 ^ length (digitsIn 7 (drop k l))
@@ -117,7 +117,7 @@ digit-then at l left e =
     let c : drop at l ≡ getD l at 0 ∷ drop (at + 1) l = rw (add-one, drop-cons l at 0 h) in
     rw (c, e) refl
 
--- one digit more before those that are left
+-- the next digit d goes from the m that is left to the number n
 shifted : (n d x m : ℕ) → n * (10 * x) + (d * x + m) ≡ (n * 10 + d) * x + m
 shifted n d x m = ap (λ y. y + (d * x + m)) (sym (mul-assoc n 10 x)) ∙ sym (add-assoc (n * 10 * x) (d * x) m) ∙ ap (λ y. y + m) (sym (add-mul (n * 10) d x))
 

@@ -3,10 +3,10 @@
 --   value d         its value times K, truncated toward zero; the sign belongs to the whole number
 --   written d       its bytes: an optional minus, a 0 or 1, a point, the digits; isDecimal d: it is one, with one to seven digits
 --   Line            three decimals; lineOf t: the bytes of the line
---   decimalsIn l    the decimals of the line l, its line feed included: refusal 13 where it has another shape
+--   decimalsIn l    the decimals of the line l, its line feed included: refusal 13 where it is malformed
 --   pointingIn l    their values, as a vector of whole numbers
 --   LinesInverse    decimalsIn reads what lineOf writes, and nothing else (proofs/LinesInverse)
---   OtherShapes     all else is refused with 13; the longest line has 33 bytes
+--   MalformedRefused   every other line is refused with 13; the longest line has 33 bytes
 use Prim.Native.Nat.{ℕ, zero, suc, _+_, _-_, _*_, _/_, _^_, _<_}
 use mathlib.Core.Path.{_≡_}
 use mathlib.Core.Bool.{Bool, true, false, cond, _&&_}
@@ -50,7 +50,7 @@ unfoldable pub number : List ℕ → ℕ
 number [] = 0
 number (d ∷ ds) = d * 10 ^ length ds + number ds
 
--- (whole · 10^k + digits) · K div 10^k, where k is the count of the digits; the sign is put on that whole number
+-- (whole · 10^k + digits) · K div 10^k, where k is the count of the digits; the sign is given to that whole number
 unfoldable pub value : Decimal → ℤ
 value d = signed (d .negative) ((d .whole * 10 ^ length (d .digits) + number (d .digits)) * Kℕ / 10 ^ length (d .digits))
 
@@ -135,6 +135,6 @@ pointingIn l = with-value (λ t. vec (value (t .x)) (value (t .y)) (value (t .z)
 abbrev pub LinesInverse : Type 0
 LinesInverse = (t : Line) (l : List ℕ) → (isLine t ≡ true → lineOf t ≡ l → decimalsIn l ≡ gives t) × (decimalsIn l ≡ gives t → (isLine t ≡ true) × (lineOf t ≡ l))
 
--- every other line is refused with 13, and so is every line that is longer than the longest
-abbrev pub OtherShapes : Type 0
-OtherShapes = ((l : List ℕ) (n : ℕ) → decimalsIn l ≡ refused n → n ≡ answer.Line) × ((l : List ℕ) → 33 < length l → decimalsIn l ≡ refused answer.Line)
+-- a line is refused with 13 or with nothing, and every line of more than 33 bytes is refused
+abbrev pub MalformedRefused : Type 0
+MalformedRefused = ((l : List ℕ) (n : ℕ) → decimalsIn l ≡ refused n → n ≡ answer.Line) × ((l : List ℕ) → 33 < length l → decimalsIn l ≡ refused answer.Line)

@@ -1,8 +1,8 @@
--- What the parts of the reader give, in the terms of Lines: the contracts of the functions below the call.
+-- What the parts of the reader of catalogue lines give, in the terms of Lines (document 02, F-3): the contracts of the functions below the call.
 --   Valued            the value of a decimal, and the bytes after it
 --   valued a          the value of the decimal that a gives
---   readGiven l r     what a function gave that reads a decimal in the line l
---   Reads w k l r     the digits from place k of the line l on, at most seven, after the whole part w: number, power of ten, place after them
+--   readGiven l r     the answer of a function that reads a decimal in the line l
+--   Reads w k l r     r has the digits from byte k of the line l on, at most seven, after the whole part w: number, power of ten, position after them
 use Prim.Native.Nat.{ℕ, _+_, _*_, _^_, _≤_, _<_}
 use mathlib.Core.Path.{_≡_}
 use mathlib.Core.List.{List}

@@ -16,20 +16,20 @@ ghost use Rattle.catalogue_line.specs.Reading.{Reads, readGiven, valued}
 // The most digits of a decimal.
 const DIGITS: u32 = 7;
 
-// The value of a decimal times K, and the place after it.
+// The value of a decimal times K, and the position after it; or there is no decimal.
 pub enum ReadAt {
     Is(i64, usize),
     Not,
 }
 
-// The number of a decimal's digits, with the whole part before them, their power of ten, and the place after them.
+// The number of a decimal's digits, with the whole part before them, their power of ten, and the position after them.
 pub struct Fraction {
     pub number: u64,
     pub power: u64,
     pub next: usize,
 }
 
-// The byte at a place; past the end 0, which no decimal has.
+// The byte at a position; past the end 0, which no decimal has.
 fn byte_at(line: &[u8], at: usize) -> u8
     ensures { λ r. ⌜ r ≡ getD (now (line .entry)) at 0 ⌝ }
 {
@@ -78,7 +78,7 @@ fn scaled(negative: bool, number: u64, power: u64) -> i64
     if negative { -size } else { size }
 }
 
-// The decimal at a place after its sign: a 0 or 1, a point, one to seven digits.
+// The decimal at a position, after its sign: a 0 or 1, a point, one to seven digits.
 fn unsigned_at(line: &[u8], at: usize, negative: bool) -> ReadAt
     ensures { λ r. ⌜ readGiven (now (line .entry)) r ≡ valued (unsignedIn negative (drop at (now (line .entry)))) ⌝ }
 {
@@ -96,7 +96,7 @@ fn unsigned_at(line: &[u8], at: usize, negative: bool) -> ReadAt
     ReadAt::Is(scaled(negative, d.number, d.power), d.next)
 }
 
-// The decimal at a place.
+// The decimal at a position.
 fn decimal_at(line: &[u8], at: usize) -> ReadAt
     ensures { λ r. ⌜ readGiven (now (line .entry)) r ≡ valued (decimalIn (drop at (now (line .entry)))) ⌝ }
 {
@@ -106,7 +106,7 @@ fn decimal_at(line: &[u8], at: usize) -> ReadAt
     unsigned_at(line, at, false)
 }
 
-// A blank at a place, and the decimal after it.
+// A blank at a position, and the decimal after it.
 fn next_at(line: &[u8], at: usize) -> ReadAt
     ensures { λ r. ⌜ readGiven (now (line .entry)) r ≡ valued (nextIn (drop at (now (line .entry)))) ⌝ }
 {

@@ -1,4 +1,4 @@
--- A class says what is held: of a point inside the trixel, full means that it is held and outside that it is not,
+-- A class decides what is held: a point inside a full trixel is held, and a point inside an outside trixel is not,
 -- for a halfspace, for a convex and for a region. Assumes nothing.
 use Prim.Native.Nat.{suc}
 use mathlib.Core.Path.{_≡_, refl, subst}
@@ -11,7 +11,7 @@ use Rattle.algebra.proofs.Tests.{every-every, some-some, every-none, some-fails
 use Rattle.vector.specs.declared.Vec3.{Vec3}
 use Rattle.vector.specs.Numbers.{K}
 use Rattle.vector.specs.Vectors.{dot, minus}
-use Rattle.vector.proofs.VectorLaws.{Long, dot-minus}
+use Rattle.vector.proofs.VectorLaws.{UnitLength, dot-minus}
 use Rattle.mesh.specs.declared.Trixel.{Trixel}
 use Rattle.mesh.proofs.Path.{Inside}
 use Rattle.region.specs.declared.Halfspace.{Halfspace}
@@ -53,7 +53,7 @@ convex-full = full-apart
 convex-outside : (o f : Bool) → isOutside (cond o Outside (cond f Full Partial)) ≡ true → o ≡ true
 convex-outside = outside-within
 
-module _ (p : Vec3) (l : Long p) (t : Trixel) (i : Inside p t) where
+module _ (p : Vec3) (l : UnitLength p) (t : Trixel) (i : Inside p t) where
   -- ---- a halfspace
   full-halfspace′ : (n : Vec3) (d : ℤ) → isFull (halfspaceClass (record { n = n; d = d }) t) ≡ true → holdsHalfspace (record { n = n; d = d }) p ≡ true
   unfolding halfspaceClass

@@ -1,5 +1,5 @@
 -- Two trixels that show what 'V > 0' and 'every b·r > 0' are for: in each, that condition alone decides, and a point of the trixel would
--- be classified wrongly without it. And caps beside each edge of the first of them, one that ends just before the edge's plane and one that touches it, for
+-- be classified wrongly without it. And caps beside each edge of the first trixel: one ends just before the edge's plane, one touches it, for
 -- both signs of the offset. The facts hold by computing. Assumes nothing.
 use mathlib.Core.Path.{_≡_, refl}
 use mathlib.Core.Bool.{true, false}
@@ -16,10 +16,10 @@ use Rattle.classify.specs.declared.Class.the-variants.{Outside, Partial,
 use Rattle.classify.specs.Shape.{positive, volume, eOf, fOf, DOf, GOf, ahead, reaches, bOf, EOf, within, far, beyondEdge, apart}
 use Rattle.classify.specs.Classes.{halfspaceClass}
 
--- ---- V > 0: an octant with its three normals turned inside out
+-- ---- V > 0: an octant with its three normals negated
 
-abbrev turnedTrixel : Trixel
-turnedTrixel = record {
+abbrev invertedTrixel : Trixel
+invertedTrixel = record {
   v0 = vec K (pos 0) (pos 0);
   v1 = vec (pos 0) K (pos 0);
   v2 = vec (pos 0) (pos 0) K;
@@ -33,18 +33,18 @@ abbrev middle : Halfspace
 middle = record { n = vec (pos 605396) (pos 605396) (pos 605396); d = pos 524288 }
 
 -- not within, and only the volume says so
-turned : within middle turnedTrixel ≡ false
+inverted : within middle invertedTrixel ≡ false
 unfolding within
-turned = refl
+inverted = refl
 
-turned-volume : positive (volume turnedTrixel) ≡ false
-turned-volume = refl
+inverted-volume : positive (volume invertedTrixel) ≡ false
+inverted-volume = refl
 
-turned-ahead : ahead (fOf middle) turnedTrixel ≡ true
-turned-ahead = refl
+inverted-ahead : ahead (fOf middle) invertedTrixel ≡ true
+inverted-ahead = refl
 
-turned-reaches : reaches (fOf middle) (GOf (eOf middle)) turnedTrixel ≡ true
-turned-reaches = refl
+inverted-reaches : reaches (fOf middle) (GOf (eOf middle)) invertedTrixel ≡ true
+inverted-reaches = refl
 
 -- Without V > 0 the trixel would be full. But its points are those of the opposite octant, and the halfspace holds none of them. Here is one.
 abbrev opposite : Vec3
@@ -54,7 +54,7 @@ opposite-vector : isVector opposite ≡ true
 unfolding isVector
 opposite-vector = refl
 
-opposite-inside : Inside opposite turnedTrixel
+opposite-inside : Inside opposite invertedTrixel
 opposite-inside = record { in0 = leZ-yes tt; in1 = leZ-yes tt; in2 = leZ-yes tt }
 
 opposite-not-held : holdsHalfspace middle opposite ≡ false
@@ -111,29 +111,29 @@ behind-inside = record { in0 = leZ-yes tt; in1 = leZ-yes tt; in2 = leZ-yes tt }
 behind-held : holdsHalfspace backward (behindTrixel .v1) ≡ true
 behind-held = refl
 
--- ---- an edge: caps of 45 degrees around directions 45 degrees from the plane of one of the three edges of the trixel that is turned inside out. Where D is
--- 741456 the cap ends before that plane, where D is 741455 it touches it. V > 0 is not asked, so the bounding cap plays no part.
+-- ---- an edge: caps of 45 degrees around directions 45 degrees from the plane of one of the three edges of that inverted trixel. Where D is
+-- 741456 the cap ends before that plane, where D is 741455 it touches it. V is not positive, so the bounding cap plays no part.
 
 abbrev beside : Vec3 → Halfspace
 beside n = record { n = n; d = pos 741458 }
 
-first-edge : halfspaceClass (beside (vec (pos 741455) (negℤ (pos 741455)) (pos 0))) turnedTrixel ≡ Outside
+first-edge : halfspaceClass (beside (vec (pos 741455) (negℤ (pos 741455)) (pos 0))) invertedTrixel ≡ Outside
 unfolding halfspaceClass within apart beyondEdge
 first-edge = refl
 
-second-edge : halfspaceClass (beside (vec (pos 0) (pos 741455) (negℤ (pos 741455)))) turnedTrixel ≡ Outside
+second-edge : halfspaceClass (beside (vec (pos 0) (pos 741455) (negℤ (pos 741455)))) invertedTrixel ≡ Outside
 unfolding halfspaceClass within apart beyondEdge
 second-edge = refl
 
-third-edge : halfspaceClass (beside (vec (negℤ (pos 741455)) (pos 0) (pos 741455))) turnedTrixel ≡ Outside
+third-edge : halfspaceClass (beside (vec (negℤ (pos 741455)) (pos 0) (pos 741455))) invertedTrixel ≡ Outside
 unfolding halfspaceClass within apart beyondEdge
 third-edge = refl
 
 -- the same cap, left out
-left-out : halfspaceClass (record { n = vec (negℤ (pos 741455)) (pos 741455) (pos 0); d = negℤ (pos 741458) }) turnedTrixel ≡ Full
+left-out : halfspaceClass (record { n = vec (negℤ (pos 741455)) (pos 741455) (pos 0); d = negℤ (pos 741458) }) invertedTrixel ≡ Full
 unfolding halfspaceClass within apart beyondEdge
 left-out = refl
 
-touching : halfspaceClass (record { n = vec (pos 741455) (negℤ (pos 741455)) (pos 0); d = pos 741457 }) turnedTrixel ≡ Partial
+touching : halfspaceClass (record { n = vec (pos 741455) (negℤ (pos 741455)) (pos 0); d = pos 741457 }) invertedTrixel ≡ Partial
 unfolding halfspaceClass within apart beyondEdge
 touching = refl

@@ -1,4 +1,5 @@
--- Within and apart never hold together, so it does not matter which is asked first: within passes all three rays, and one refutes apart. Assumes nothing.
+-- Within and apart never hold together, so it does not matter which is tested first: within passes all three rays, and one such ray
+-- refutes apart. Assumes nothing.
 use mathlib.Core.Path.{_≡_, sym, _∙_}
 use mathlib.Core.Bool.{true, true≢false}
 use Rattle.algebra.proofs.Tests.{and-left, and-right, or-left}

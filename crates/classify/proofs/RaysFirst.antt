@@ -15,8 +15,8 @@ use Rattle.algebra.proofs.Claim.{_:≤_, nat, hyp, _⊕_, _⊗_, prove}
 use Rattle.algebra.proofs.Order.{nn-pos}
 use Rattle.algebra.proofs.Inequalities.{`0, <ℤ→≤ℤ, factor-positive}
 use Rattle.algebra.proofs.Vec.{cauchy-schwarz, dot-nn}
-use Rattle.algebra.proofs.Cone.{Far}
-use Rattle.algebra.proofs.Plane.{edge-front, turned-volume}
+use Rattle.algebra.proofs.Cone.{Reaches}
+use Rattle.algebra.proofs.Plane.{edge-front, volume-cyclic}
 use Rattle.algebra.proofs.Tests.{split, and-left, and-right, and-pairs, or-cases, le-yes, lt-yes}
 use Rattle.vector.specs.declared.Vec3.{Vec3}
 use Rattle.vector.specs.Vectors.{dot}
@@ -49,9 +49,9 @@ smaller = prove 4
     refl
 
 -- a ray that passes, as the algebra has it
-pub passes-far : (f : Vec3) (g : ℤ) (r : Vec3) → passes f g r ≡ true → Far (v3 f) (v3 r) g
+pub passes-reaches : (f : Vec3) (g : ℤ) (r : Vec3) → passes f g r ≡ true → Reaches (v3 f) (v3 r) g
 unfolding passes
-passes-far f g r e = record { front = <ℤ→≤ℤ (lt-yes (and-left (positive (dot f r)) _ e)); far = le-yes (and-right (positive (dot f r)) _ e) }
+passes-reaches f g r e = record { front = <ℤ→≤ℤ (lt-yes (and-left (positive (dot f r)) _ e)); reach = le-yes (and-right (positive (dot f r)) _ e) }
 
 -- ---- the three rays of a trixel
 
@@ -71,13 +71,13 @@ module _ (t : Trixel) (v : positive (volume t) ≡ true) where
 
   inside1 : Inside (ray1 t) t
   inside1 =
-      let e = edge-front (v3 (t .p1)) (v3 (t .p2)) (v3 (t .p0)) (turned-volume (v3 (t .p0)) (v3 (t .p1)) (v3 (t .p2)) (lt-yes v)) in
+      let e = edge-front (v3 (t .p1)) (v3 (t .p2)) (v3 (t .p0)) (volume-cyclic (v3 (t .p0)) (v3 (t .p1)) (v3 (t .p2)) (lt-yes v)) in
       record { in0 = e .2; in1 = e .0; in2 = e .1 }
 
   inside2 : Inside (ray2 t) t
   inside2 =
-      let w = turned-volume (v3 (t .p0)) (v3 (t .p1)) (v3 (t .p2)) (lt-yes v) in
-      let e = edge-front (v3 (t .p2)) (v3 (t .p0)) (v3 (t .p1)) (turned-volume (v3 (t .p1)) (v3 (t .p2)) (v3 (t .p0)) w) in
+      let w = volume-cyclic (v3 (t .p0)) (v3 (t .p1)) (v3 (t .p2)) (lt-yes v) in
+      let e = edge-front (v3 (t .p2)) (v3 (t .p0)) (v3 (t .p1)) (volume-cyclic (v3 (t .p1)) (v3 (t .p2)) (v3 (t .p0)) w) in
       record { in0 = e .1; in1 = e .2; in2 = e .0 }
 
 module _ (f : Vec3) (e : ℕ) (t : Trixel) where
@@ -85,11 +85,11 @@ module _ (f : Vec3) (e : ℕ) (t : Trixel) where
   unfolding passes
   refutes r i p =
       let D = DOf (pos e) in
-      let near : Far (v3 f) (v3 r) (GOf (pos e)) = passes-far f (GOf (pos e)) r p in
+      let near : Reaches (v3 f) (v3 r) (GOf (pos e)) = passes-reaches f (GOf (pos e)) r p in
       split (apartBy f D t)
       (λ a. absurd (not-apart r t i
       (factor-positive (dot f r) (dot f f) (dot r r) (lt-yes (and-left (positive (dot f r)) _ p)) (cauchy-schwarz (v3 f) (v3 r)) (dot-nn (v3 f)))
-      f D (record { front = near .front; far = smaller D (GOf (pos e)) (dot r r) (square (dot f r)) (nn-pos (e * 1048576 / 1048578)) (D-below-G e) (dot-nn (v3 r)) (near .far) })
+      f D (record { front = near .front; reach = smaller D (GOf (pos e)) (dot r r) (square (dot f r)) (nn-pos (e * 1048576 / 1048578)) (D-below-G e) (dot-nn (v3 r)) (near .reach) })
       a))
       (λ n. n)
 

@@ -1,4 +1,4 @@
--- What the two tests say of a point p inside the trixel: within gives f·p > e·K, apart gives f·p < e·K.
+-- For a point p inside the trixel, within gives f·p > e·K and apart gives f·p < e·K.
 -- Within: by the cone lemma (f·p)² ≥ G² (p·p) ≥ (G (K − 2))², and G (K − 2) > e K.
 -- Apart: if f·p ≥ e K ≥ D (K + 2) then (f·p)² ≥ D² (p·p). By the bounding cap: (b·p)² ≥ E² (p·p), by the cone lemma, against the separation lemma. By
 -- an edge: P·p ≥ 0, against the plane lemma. Assumes nothing.
@@ -16,13 +16,13 @@ use Rattle.algebra.proofs.Claim.{_:≤_, nat, hyp, sq, _⊕_, _⊗_, prove}
 use Rattle.algebra.proofs.Order.{by-order, ≤ℤ-trans, nn-sq, nn-pos}
 use Rattle.algebra.proofs.Inequalities.{`0, <ℤ→≤ℤ, sq-≤ℤ}
 use Rattle.algebra.proofs.Tests.{and-left, and-right, and-both, or-cases, le-yes, lt-yes, yes-le}
-use Rattle.algebra.proofs.Cone.{Far, cone}
+use Rattle.algebra.proofs.Cone.{Reaches, cone}
 use Rattle.algebra.proofs.Separation.{separation}
 use Rattle.algebra.proofs.Plane.{beyond-plane}
 use Rattle.vector.specs.declared.Vec3.{Vec3}
 use Rattle.vector.specs.Numbers.{K, Kℕ, greatest}
 use Rattle.vector.specs.Vectors.{dot}
-use Rattle.vector.proofs.VectorLaws.{v3, Long}
+use Rattle.vector.proofs.VectorLaws.{v3, UnitLength}
 use Rattle.vector.proofs.GreatestLaws.{greatest-passes, greatest-most, greatest-above}
 use Rattle.mesh.specs.declared.Trixel.{Trixel}
 use Rattle.mesh.proofs.Path.{Inside}
@@ -32,7 +32,7 @@ use Rattle.classify.specs.Shape.{square, positive, ray0, ray1, ray2, vol
 -- ---- the cone lemma, from the tests
 
 module _ (p : Vec3) (t : Trixel) (i : Inside p t) where
-  pub reach : (f : Vec3) (g : ℤ) → positive (volume t) ≡ true → ahead f t ≡ true → reaches f g t ≡ true → Far (v3 f) (v3 p) g
+  pub reach : (f : Vec3) (g : ℤ) → positive (volume t) ≡ true → ahead f t ≡ true → reaches f g t ≡ true → Reaches (v3 f) (v3 p) g
   reach f g vol a r =
       let a0 = and-left (positive (dot f (ray0 t))) (positive (dot f (ray1 t)) && positive (dot f (ray2 t))) a in
       let a12 = and-right (positive (dot f (ray0 t))) (positive (dot f (ray1 t)) && positive (dot f (ray2 t))) a in
@@ -43,9 +43,9 @@ module _ (p : Vec3) (t : Trixel) (i : Inside p t) where
       let r1 = and-left (reachesRay f g (ray1 t)) (reachesRay f g (ray2 t)) r12 in
       let r2 = and-right (reachesRay f g (ray1 t)) (reachesRay f g (ray2 t)) r12 in
       cone (v3 f) (v3 (t .p0)) (v3 (t .p1)) (v3 (t .p2)) (v3 p) g (lt-yes vol) (i .in0) (i .in1) (i .in2)
-      (record { front = <ℤ→≤ℤ (lt-yes a0); far = le-yes r0 })
-      (record { front = <ℤ→≤ℤ (lt-yes a1); far = le-yes r1 })
-      (record { front = <ℤ→≤ℤ (lt-yes a2); far = le-yes r2 })
+      (record { front = <ℤ→≤ℤ (lt-yes a0); reach = le-yes r0 })
+      (record { front = <ℤ→≤ℤ (lt-yes a1); reach = le-yes r1 })
+      (record { front = <ℤ→≤ℤ (lt-yes a2); reach = le-yes r2 })
 
 -- ---- D and G of e
 
@@ -105,14 +105,14 @@ E-greatest t =
       above = λ n h e. le-leb n (greatest test Kℕ) (greatest-above test Kℕ n h e);
     }
 
--- ---- a direction inside the trixel is not within reach of what is apart
+-- ---- where f reaches a direction inside the trixel by D, it is not apart
 
-module _ (p : Vec3) (t : Trixel) (i : Inside p t) (n : pos 0 <ℤ dot p p) (f : Vec3) (D : ℤ) (near : Far (v3 f) (v3 p) D) where
+module _ (p : Vec3) (t : Trixel) (i : Inside p t) (n : pos 0 <ℤ dot p p) (f : Vec3) (D : ℤ) (near : Reaches (v3 f) (v3 p) D) where
   not-by-cap : byCap f D t ≡ true → ⊥
   not-by-cap a =
       let vol = and-left (positive (volume t)) (ahead (bOf t) t && far f D (bOf t) (EOf t)) a in
       let rest = and-right (positive (volume t)) (ahead (bOf t) t && far f D (bOf t) (EOf t)) a in
-      let b : Far (v3 (bOf t)) (v3 p) (EOf t) = reach p t i (bOf t) (EOf t) vol (and-left (ahead (bOf t) t) (far f D (bOf t) (EOf t)) rest) (E-reaches t) in
+      let b : Reaches (v3 (bOf t)) (v3 p) (EOf t) = reach p t i (bOf t) (EOf t) vol (and-left (ahead (bOf t) t) (far f D (bOf t) (EOf t)) rest) (E-reaches t) in
       let w = and-right (ahead (bOf t) t) (far f D (bOf t) (EOf t)) rest in
       separation (v3 f) (v3 (bOf t)) (v3 p) D (EOf t) n near b
       (lt-yes (and-left (positive (D *ℤ EOf t -ℤ dot f (bOf t))) _ w))
@@ -133,15 +133,15 @@ module _ (p : Vec3) (t : Trixel) (i : Inside p t) (n : pos 0 <ℤ dot p p) (f : 
 
 -- ---- the two tests
 
-module _ (p : Vec3) (l : Long p) (t : Trixel) (i : Inside p t) (h : Halfspace) where
+module _ (p : Vec3) (l : UnitLength p) (t : Trixel) (i : Inside p t) (h : Halfspace) where
   pub within-above : within h t ≡ true → (eOf h *ℤ K) <ℤ dot (fOf h) p
   unfolding within
   within-above w =
       let e : ℕ = natAbs (h .d) in
       let vol = and-left (positive (volume t)) (ahead (fOf h) t && reaches (fOf h) (GOf (eOf h)) t) w in
       let ar = and-right (positive (volume t)) (ahead (fOf h) t && reaches (fOf h) (GOf (eOf h)) t) w in
-      let c : Far (v3 (fOf h)) (v3 p) (GOf (eOf h)) = reach p t i (fOf h) (GOf (eOf h)) vol (and-left (ahead (fOf h) t) (reaches (fOf h) (GOf (eOf h)) t) ar) (and-right (ahead (fOf h) t) (reaches (fOf h) (GOf (eOf h)) t) ar) in
-      <ℤ-≤ℤ-trans (below-G e) (sq-≤ℤ (c .front) (up (GOf (pos e)) (pos 1048574) (dot p p) (dot (fOf h) p) (l .low) (c .far)))
+      let c : Reaches (v3 (fOf h)) (v3 p) (GOf (eOf h)) = reach p t i (fOf h) (GOf (eOf h)) vol (and-left (ahead (fOf h) t) (reaches (fOf h) (GOf (eOf h)) t) ar) (and-right (ahead (fOf h) t) (reaches (fOf h) (GOf (eOf h)) t) ar) in
+      <ℤ-≤ℤ-trans (below-G e) (sq-≤ℤ (c .front) (up (GOf (pos e)) (pos 1048574) (dot p p) (dot (fOf h) p) (l .low) (c .reach)))
 
   pub apart-below : apart h t ≡ true → dot (fOf h) p <ℤ (eOf h *ℤ K)
   unfolding apart
@@ -152,5 +152,5 @@ module _ (p : Vec3) (l : Long p) (t : Trixel) (i : Inside p t) (h : Halfspace) w
       let q : (DOf (pos e) *ℤ pos 1048578) ≤ℤ dot (fOf h) p = ≤ℤ-trans (D-below e) above in
       let n : pos 0 ≤ℤ (DOf (pos e) *ℤ pos 1048578) = nn-pos (e * 1048576 / 1048578 * 1048578) in
       absurd (not-apart p t i (positive-square (dot p p) (l .low)) (fOf h) (DOf (pos e))
-      (record { front = ≤ℤ-trans n q; far = down (DOf (pos e)) (pos 1048578) (dot p p) (dot (fOf h) p) (l .high) n q })
+      (record { front = ≤ℤ-trans n q; reach = down (DOf (pos e)) (pos 1048578) (dot p p) (dot (fOf h) p) (l .high) n q })
       a))

@@ -26,11 +26,11 @@ use Rattle.classify_active.specs.Anchor.{IsAnchor, settledBy, Close}
 use Rattle.classify_halfspace.proofs.ClassLaws.{prepared-class-is}
 use Rattle.classify_active.proofs.AnchorLaws.{stays-outside, stays-full}
 use Rattle.classify_prepared.specs.PreparedLists.{seven, preparedIn, convexSevens, ConvexAt, meet}
-use Rattle.classify_region.proofs.ScanLaws.{meet-assoc, meet-full, convex-cons, no-convex, HalfAt, half-next, convex-end}
+use Rattle.classify_region.proofs.ScanLaws.{meet-assoc, meet-full, convex-cons, no-convex, HalfspaceNext, halfspace-next, convex-end}
 use Rattle.classify_prepared.proofs.PreparingLaws.{length-sevens}
 use Rattle.classify_active.specs.Active.{Stores, activeStoredCount, activeStoredList}
 
--- ---- one more at the end of a convex
+-- ---- a halfspace at the end of a convex
 
 meet-outside : (a : Class) → meet a Outside ≡ Outside
 meet-outside Outside = refl
@@ -88,10 +88,10 @@ module _ (r : Anchor) (xs : List ℤ) (end : ℕ) (v : Convex) (w : ℕ) (ys : L
     class = λ t c. ap (λ a. meet a (convexClass v t)) (no-convex [] t refl);
   }
 
-  -- one more is stored
+  -- another halfspace is stored
   stored-more : (u : Convex) (h : Halfspace) {ys′ : List ℤ} → Stores w u ys ys′ → goodHalfspace h ≡ true → {m : ℕ} → m ≡ w + length u → m < 32 → 7 * 32 ≤ length ys
       → {q : PreparedHalfspace} → q ≡ prepared h → Stores w (u ++ h ∷ []) ys (put (7 * m) (seven q) ys′)
-  stored-more u h {ys′} s f {m} e l room {q} is =
+  stored-more u h {ys′} s f {m} e l long {q} is =
       let at : 7 * m ≡ 7 * w + length (convexSevens u) = omega (arith, e, length-sevens u) in
       record {
         good = good-snoc h u (s .good) f;
@@ -104,15 +104,15 @@ module _ (r : Anchor) (xs : List ℤ) (end : ℕ) (v : Convex) (w : ℕ) (ys : L
 
   -- the halfspace that stands at number i
   pub record NextHalfspace (i m : ℕ) (ys′ : List ℤ) : Type 0 where
-    pub room : 7 * i + 7 ≤ length xs
+    pub in-list : 7 * i + 7 ≤ length xs
     pub sound : SoundHalfspace (preparedIn xs (7 * i))
     pub outside : settledBy (preparedIn xs (7 * i)) r ≡ Outside → (t : Trixel) → Close r t → convexClass v t ≡ Outside
     pub after : (c : Class) → c ≡ settledBy (preparedIn xs (7 * i)) r → isOutside c ≡ false → m < 32 → 7 * 32 ≤ length ys
         → ConvexSearch (i + 1) (activeStoredCount c m) (activeStoredList c m (preparedIn xs (7 * i)) ys′)
 
   module _ (p : IsAnchor r) (i m : ℕ) (ys′ : List ℤ) (a : ConvexSearch i m ys′) (l : i < end) where
-    here : HalfAt xs i end (a .left)
-    here = half-next xs i end (a .left) (a .at) l
+    here : HalfspaceNext xs i end (a .left)
+    here = halfspace-next xs i end (a .left) (a .at) l
 
     -- the class of the convex, with that of the halfspace
     with-first : (t : Trixel) → Close r t → {c : Class} → preparedClass (preparedIn xs (7 * i)) t ≡ c → meet (convexClass (a .stored) t) (meet c (convexClass (here .rest) t)) ≡ convexClass v t
@@ -130,11 +130,11 @@ module _ (r : Anchor) (xs : List ℤ) (end : ℕ) (v : Convex) (w : ℕ) (ys : L
     }
 
     left-active : m < 32 → 7 * 32 ≤ length ys → ConvexSearch (i + 1) (m + 1) (put (7 * m) (seven (preparedIn xs (7 * i))) ys′)
-    left-active l room = record {
+    left-active l long = record {
       left = here .rest;
       at = here .after;
       stored = a .stored ++ here .first ∷ [];
-      stores = stored-more (a .stored) (here .first) (a .stores) (here .good) (a .count) l room (here .is);
+      stores = stored-more (a .stored) (here .first) (a .stores) (here .good) (a .count) l long (here .is);
       count = omega (arith, a .count, length-snoc (a .stored) (here .first));
       class = λ t c.
           ap (λ b. meet b (convexClass (here .rest) t)) (convex-snoc (here .first) (a .stored) t)
@@ -144,13 +144,13 @@ module _ (r : Anchor) (xs : List ℤ) (end : ℕ) (v : Convex) (w : ℕ) (ys : L
 
     stored-by : (c : Class) → c ≡ settledBy (preparedIn xs (7 * i)) r → isOutside c ≡ false → m < 32 → 7 * 32 ≤ length ys
         → ConvexSearch (i + 1) (activeStoredCount c m) (activeStoredList c m (preparedIn xs (7 * i)) ys′)
-    stored-by Outside e o l room = absurd (true≢false o)
-    stored-by Partial e o l room = left-active l room
-    stored-by Full e o l room = passed (sym e)
+    stored-by Outside e o l long = absurd (true≢false o)
+    stored-by Partial e o l long = left-active l long
+    stored-by Full e o l long = passed (sym e)
 
     pub next-halfspace : NextHalfspace i m ys′
     next-halfspace = record {
-      room = here .room;
+      in-list = here .in-list;
       sound = here .sound;
       outside = λ s t c. sym (with-first t c (stays-outside p (here .sound) c s)) ∙ meet-outside (convexClass (a .stored) t);
       after = stored-by;
@@ -167,5 +167,5 @@ module _ (r : Anchor) (xs : List ℤ) (end : ℕ) (v : Convex) (w : ℕ) (ys : L
     next-outside e = k .outside (sym (settled ∙ ap (λ q. settledBy q r) is) ∙ only-outside c (sym tested ∙ e))
 
     pub next-stored : o ≡ false → m < 32 → 7 * 32 ≤ length ys → {m′ : ℕ} {ys″ : List ℤ} → m′ ≡ activeStoredCount c m → ys″ ≡ activeStoredList c m q ys′ → ConvexSearch (i + 1) m′ ys″
-    next-stored e l room f g =
-        subst₂ (ConvexSearch (i + 1)) (sym f) (sym (g ∙ ap (λ q. activeStoredList c m q ys′) is)) (k .after c (settled ∙ ap (λ q. settledBy q r) is) (sym tested ∙ e) l room)
+    next-stored e l long f g =
+        subst₂ (ConvexSearch (i + 1)) (sym f) (sym (g ∙ ap (λ q. activeStoredList c m q ys′) is)) (k .after c (settled ∙ ap (λ q. settledBy q r) is) (sym tested ∙ e) l long)

@@ -33,7 +33,7 @@ use Rattle.classify_active.specs.declared.ActiveResult.{ActiveResult}
 use Rattle.classify_active.specs.Active.{Alike, ActivePrepared, ActiveLists, ActiveListsIn, ByActive, activeCount, Stores, ActiveResultOf, SomeConvex, ActiveConvex, RegionSearch}
 use Rattle.classify_active.proofs.ActiveConvexLaws.{length-snoc}
 
--- ---- one more at the end of a region
+-- ---- a convex at the end of a region
 
 module _ (c : Convex) where
   region-snoc : (g : Region) (t : Trixel) → regionClass (g ++ c ∷ []) t ≡ join (regionClass g t) (convexClass c t)
@@ -87,7 +87,7 @@ unfolding total
 few-convexes [] f = omega arith
 few-convexes (c ∷ cs) f = omega (arith, f .0, few-convexes cs (f .1))
 
--- ---- what is put behind a place leaves what is before it
+-- ---- what is put at a position leaves what is before it
 
 module _ {A : Type 0} (k : ℕ) (xs before : List A) (h : k ≤ length before) where
   put-before : take k (put k xs before) ≡ take k before

@@ -1,17 +1,17 @@
 -- The active halfspaces of a region beside an anchor, in two lists of their own: those that are not settled for every trixel close to it. Document 01,
--- 'Classifying': a convex is outside if one halfspace is, and a full halfspace leaves it as it is, so both need not be looked at again.
+-- 'Classifying': a convex is outside if one halfspace is, and a full halfspace leaves it as it is, so neither needs to be tested again.
 --   Alike r g h                the regions g and h have the same class for every trixel that is close to r
---   ActivePrepared ..          for every region that was prepared to xs and es the lists ys and ms have one of w halfspaces that is alike
+--   ActivePrepared ..          for every region that was prepared to xs and es, the lists ys and ms have an alike region of w halfspaces
 --   ActiveLists ..             ps has an anchor, and where w is not 0 the lists ys and ms have the w halfspaces that are active beside it
---   activeCount ms             how many they are, behind the ends of 32 convexes
+--   activeCount ms             how many halfspaces are active: the number behind the ends of 32 convexes
 --   ActiveListsIn xs es ys ms  ActiveLists, where the anchor stands behind the numbers of 32 halfspaces
 --   ByActive t m ys ms         the class of t is that by the active halfspaces
 --   Stores w u ys ys′          the halfspaces of u were stored from number w on; 32 are the most
---   ActiveResultOf ..          what was found of a convex: it is outside, or the active halfspaces were stored, or they are too many
---   SomeConvex, ActiveConvex   of some convex that stands there; of every one
+--   ActiveResultOf ..          the result for a convex: it is outside, or the active halfspaces were stored, or they are too many
+--   SomeConvex, ActiveConvex   some convex stands there; the result for every convex that does
 --   activeStoredCount c w      how many are stored after a halfspace of class c: an active one is stored; activeStoredList: the list then
---   RegionSearch ..            how far the search is, before convex number k, whose first halfspace is number i: w halfspaces in c convexes are stored
---   SomeRegionSearch ..        the same of some region; RegionSearchOn: it goes on behind a convex more, of every one
+--   RegionSearch ..            the search before convex number k, whose first halfspace is number i: w halfspaces in c convexes are stored
+--   SomeRegionSearch ..        a RegionSearch for some region; RegionSearchOn: for every region it leads to the RegionSearch before convex number k + 1
 use Prim.Native.Nat.{ℕ, _+_, _*_, _≤_, _<_}
 use mathlib.Core.Path.{_≡_}
 use mathlib.Core.Bool.{true}
@@ -109,7 +109,7 @@ pub record RegionSearch (r : Anchor) (xs : List ℤ) (es : List ℕ) (n : ℕ) (
 abbrev pub SomeRegionSearch : Anchor → List ℤ → List ℕ → ℕ → ℕ → ActiveCounts → List ℤ → List ℕ → Type 0
 SomeRegionSearch r xs es i k s ys ms = (n : ℕ) × (i < n) × (g : Region) × RegionSearch r xs es n g i k (s .halfspaces) (s .convexes) ys ms
 
--- convex number k more: the search goes on behind it, for every region that has one more
+-- after convex number k the search goes on behind it, for every region that has a convex there
 abbrev pub RegionSearchOn : Anchor → List ℤ → List ℕ → ℕ → ℕ → ActiveCounts → List ℤ → List ℕ → ActiveCounts → List ℤ → List ℕ → Type 0
 RegionSearchOn r xs es i k s ys ms s′ ys′ ms′ =
     (n : ℕ) (g : Region) → i < n → RegionSearch r xs es n g i k (s .halfspaces) (s .convexes) ys ms → s′ .more ≡ true

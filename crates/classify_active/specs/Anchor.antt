@@ -1,6 +1,6 @@
--- A halfspace that is settled once, at a trixel's middle, for every trixel whose middle is close to it. Document 01, 'Classifying': D·E − f·b and
+-- A halfspace is settled once, at a trixel's middle, for every trixel whose middle is close to it. Document 01, 'Classifying': D·E − f·b and
 -- f·b − G·E change by at most K for a step of b by one, and by at most 2K for a step of E by one (proofs/AnchorLaws).
---   IsAnchor r     how large what r holds is
+--   IsAnchor r     the numbers of r are in range
 --   anchorIn ps    the anchor of five numbers: b, E and the margin
 --   stepsTo r m    the steps from r to the middle of m: those of b by component, and those of E, counted twice
 --   closeTo r m    b is ahead of its rays, and what is beyond the margin of r is beyond the clearance of m

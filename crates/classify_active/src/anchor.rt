@@ -1,4 +1,4 @@
-// Anchors: when a halfspace is settled for every trixel close to a trixel's middle. What is settled and what is close stands in specs/Anchor.
+// Anchors: a halfspace may be settled for every trixel close to a trixel's middle. specs/Anchor defines settled and close.
 use classify::Class;
 use classify_cap::BoundingCap;
 use classify_prepared::PreparedHalfspace;
@@ -16,10 +16,10 @@ ghost use Rattle.vector.proofs.Sizes.{Small};
 ghost use Rattle.classify_prepared.specs.Measures.{SoundHalfspace};
 ghost use Rattle.classify_cap.specs.Middle.{IsBoundingCap};
 
-// No halfspace is beyond it.
+// A margin that no halfspace reaches.
 const NEVER: i64 = 17592186044416;
 
-// Half of it: a clearance up to here leaves room for the margin.
+// Half of it: the margin of a clearance up to here is still below it.
 const WIDEST_CLEARANCE: i64 = NEVER / 2;
 
 // An anchor beside which halfspaces are settled: a middle b, E there as `reach`, and how far beyond it a halfspace must be.

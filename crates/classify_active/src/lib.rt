@@ -1,4 +1,4 @@
-// The active halfspaces of a region beside a trixel, in two lists of their own, and the class of a trixel by them. specs/Active says what they are.
+// The active halfspaces of a region beside a trixel, in two lists of their own, and the class of a trixel by them. specs/Active defines them.
 use crate::anchor::Anchor;
 use classify::Class;
 use classify_cap::BoundingCap;
@@ -29,18 +29,21 @@ pub const ACTIVE_NUMBERS: usize = 7 * ACTIVE_CAPACITY + 5;
 
 pub const ACTIVE_ENDS: usize = ACTIVE_CAPACITY + 1;
 
+// The anchor begins at this number of the list.
+const ANCHOR_AT: usize = 7 * ACTIVE_CAPACITY;
+
 pub type ActiveHalfspaces = [i64; ACTIVE_NUMBERS];
 
 pub type ActiveEnds = [u64; ACTIVE_ENDS];
 
-// What was found of a convex: it is outside, or so many halfspaces are stored now, or there are too many.
+// The result for a convex: it is outside, or this many halfspaces are stored now, or there are too many.
 pub enum ActiveResult {
     Outside,
     Active(usize),
     Crowded,
 }
 
-// How far the search for active halfspaces came: whether it goes on, and how many halfspaces and convexes are stored.
+// The state of the search for active halfspaces: whether it goes on, and how many halfspaces and convexes are stored.
 pub struct ActiveCounts {
     pub more: bool,
     pub halfspaces: usize,
@@ -176,11 +179,18 @@ fn active_in_region(
     s.halfspaces
 }
 
+// From this many halfspaces on, a third of them is the capacity or more.
+const THREE_CAPACITIES: usize = 3 * ACTIVE_CAPACITY;
+
 // How many active halfspaces of n are stored at most: a third, and at most 32. Where more are active it is better to look again below.
 fn active_limit(n: usize) -> usize
     ensures { λ m. ⌜ m ≤ 32 ⌝ }
 {
-    if n < 96 { n / 3 } else { 32 }
+    if n < THREE_CAPACITIES {
+        n / 3
+    } else {
+        ACTIVE_CAPACITY
+    }
 }
 
 // Stores an anchor behind the numbers of active halfspaces.
@@ -188,7 +198,7 @@ fn store_anchor_behind(active: &mut [i64], r: Anchor)
     requires { ⌜ length (now active) ≡ 229 ⌝ }
     ensures { λ _. ⌜ anchorIn (drop 224 (now (active .exit))) ≡ r ⌝ }
 {
-    crate::anchor::store_anchor(&mut active[224..], r);
+    crate::anchor::store_anchor(&mut active[ANCHOR_AT..], r);
 }
 
 // The active halfspaces of a region beside r, which stands behind them, and their count, which is 0 where none are known.
@@ -210,11 +220,11 @@ fn active_beside(
         prepared,
         ends,
         n,
-        &mut active[..224],
-        &mut stops[..32],
+        &mut active[..ANCHOR_AT],
+        &mut stops[..ACTIVE_CAPACITY],
         active_limit(n),
     );
-    stops[32] = w as u64;
+    stops[ACTIVE_CAPACITY] = w as u64;
 }
 
 // The active halfspaces beside the middle of t.
@@ -246,7 +256,7 @@ pub fn find_active(
 fn active_count(stops: &ActiveEnds) -> usize
     ensures { λ w. ⌜ w ≡ activeCount (now (stops .entry)) ⌝ }
 {
-    stops[32] as usize
+    stops[ACTIVE_CAPACITY] as usize
 }
 
 // The anchor that stands behind the numbers of active halfspaces.
@@ -254,7 +264,7 @@ fn anchor_behind(active: &[i64]) -> Anchor
     requires { ⌜ length (now active) ≡ 229 ⌝ }
     ensures { λ r. ⌜ r ≡ anchorIn (drop 224 (now (active .entry))) ⌝ }
 {
-    crate::anchor::anchor_in(&active[224..])
+    crate::anchor::anchor_in(&active[ANCHOR_AT..])
 }
 
 // Whether the class of t is that by the active halfspaces: there are some, and t is close to their anchor.
@@ -305,7 +315,10 @@ pub fn class_beside(
     classify_region::classify_convexes(t, s, m, ps, prepared, ends, n)
 }
 
-// Whether active halfspaces shall be looked for: there are many halfspaces, and none is known to be active.
+// A region with more halfspaces than this has many.
+const MANY_HALFSPACES: usize = 8;
+
+// Whether to look for active halfspaces: the region has many halfspaces, and none is known to be active.
 pub fn wants_active(ends: &ConvexEnds, stops: &ActiveEnds) -> bool {
-    8 < classify_prepared::lists::count(ends) && active_count(stops) == 0
+    MANY_HALFSPACES < classify_prepared::lists::count(ends) && active_count(stops) == 0
 }

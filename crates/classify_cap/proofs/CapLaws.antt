@@ -24,7 +24,7 @@ use Rattle.vector.proofs.Sizes.{Small}
 use Rattle.vector.proofs.GreatestLaws.{greatest-most}
 use Rattle.vector.proofs.QuotLaws.{square-minus}
 use Rattle.vector.proofs.SizeLaws.{at-most-minus, between-upto, dot-upto, unit-small}
-use Rattle.vector.proofs.VectorLaws.{v3, vector-small, vector-long}
+use Rattle.vector.proofs.VectorLaws.{v3, vector-small, vector-unit-length}
 use Rattle.mesh.specs.declared.Trixel.{Trixel}
 use Rattle.region.specs.declared.Halfspace.{Halfspace}
 use Rattle.region.specs.Building.{isOffset}
@@ -80,7 +80,7 @@ prepared-beside h v o =
       small = f-small (h .n) (nonNeg (h .d)) (vector-small (h .n) v);
       size = record { le = omega arith };
       is = refl;
-      sign = yes-nonNeg (gap-nn (≤ℤ-trans short (subst (λ z. (pos 1048574 *ℤ pos 1048574) ≤ℤ z) (sym (f-square (h .n) (nonNeg (h .d)))) (vector-long (h .n) v .low))));
+      sign = yes-nonNeg (gap-nn (≤ℤ-trans short (subst (λ z. (pos 1048574 *ℤ pos 1048574) ≤ℤ z) (sym (f-square (h .n) (nonNeg (h .d)))) (vector-unit-length (h .n) v .low))));
     }
 
 pub sound-beside : {q : PreparedHalfspace} → SoundHalfspace q → Beside (q .f) (q .low) (q .rest)

@@ -15,7 +15,7 @@ use Rattle.algebra.proofs.Tests.{and-left, and-right, and-both, fails-above, sp
 use Rattle.vector.specs.declared.Vec3.{Vec3}
 use Rattle.vector.specs.Numbers.{Kℕ, greatest}
 use Rattle.vector.specs.Vectors.{dot}
-use Rattle.vector.proofs.SizeLaws.{dot-self-positive}
+use Rattle.vector.proofs.SizeLaws.{dot-self-nonnegative}
 use Rattle.vector.proofs.GreatestLaws.{greatest-is}
 use Rattle.mesh.specs.declared.Trixel.{Trixel}
 use Rattle.classify_prepared.specs.declared.Ray.{Ray}
@@ -60,7 +60,7 @@ module _ (x0 x1 x2 : ℕ) (s : TrixelRays) where
 -- ---- E
 
 square-is : {v : Vec3} {y : Ray} → IsRay v y → dot v v ≡ pos (squareOf y)
-square-is {v} h = sym (ap (λ r. pos (natAbs (dot r r))) (h .r) ∙ pos-natAbs (dot v v) (dot-self-positive v))
+square-is {v} h = sym (ap (λ r. pos (natAbs (dot r r))) (h .r) ∙ pos-natAbs (dot v v) (dot-self-nonnegative v))
 
 pub reach-is-E : (t : Trixel) (s : TrixelRays) → RaysOf t s → (x0 x1 x2 : ℕ) → dot (bOf t) (ray0 t) ≡ pos x0 → dot (bOf t) (ray1 t) ≡ pos x1 → dot (bOf t) (ray2 t) ≡ pos x2
     → EOf t ≡ pos (greatestReach x0 x1 x2 s)

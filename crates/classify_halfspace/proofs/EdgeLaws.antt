@@ -15,7 +15,7 @@ use Rattle.algebra.proofs.Tests.{and-no-right, or-left, or-right, or-neither, l
 use Rattle.vector.specs.declared.Vec3.{Vec3}
 use Rattle.vector.specs.Vectors.{dot}
 use Rattle.vector.proofs.Sizes.{Small}
-use Rattle.vector.proofs.SizeLaws.{dot-upto, dot-self-positive}
+use Rattle.vector.proofs.SizeLaws.{dot-upto, dot-self-nonnegative}
 use Rattle.vector.proofs.VectorLaws.{v3}
 use Rattle.mesh.specs.declared.Trixel.{Trixel}
 use Rattle.classify_prepared.specs.declared.PreparedHalfspace.{PreparedHalfspace}
@@ -41,7 +41,7 @@ moved a N c D = same-lt-tests
 -- ---- an edge
 
 pub normal-rest : {p : Vec3} → Small p → Rest (dot p p)
-normal-rest {p} s = record { sign = dot-self-positive p; size = dot-upto s s }
+normal-rest {p} s = record { sign = dot-self-nonnegative p; size = dot-upto s s }
 
 pub edge-is : {q : PreparedHalfspace} → SoundHalfspace q → (p : Vec3)
     → positive (pos 0 -ℤ dot (q .f) p) && ltZ (q .rest *ℤ dot p p) ((pos 0 -ℤ dot (q .f) p) *ℤ (pos 0 -ℤ dot (q .f) p)) ≡ beyondEdge (q .f) (q .low) p

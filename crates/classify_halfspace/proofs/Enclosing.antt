@@ -13,7 +13,7 @@ use Rattle.algebra.proofs.Order.{nn-pos, gap-nn}
 use Rattle.algebra.proofs.Claim.{_:≤_, _:<_, nat, hyp, _⊕_, _⊗_, prove}
 use Rattle.algebra.proofs.Inequalities.{`0, `1, <ℤ-by-no, factor-positive}
 use Rattle.algebra.proofs.Vec.{cauchy-schwarz, dot-nn}
-use Rattle.algebra.proofs.Cone.{Far}
+use Rattle.algebra.proofs.Cone.{Reaches}
 use Rattle.algebra.proofs.Containment.{containment}
 use Rattle.algebra.proofs.Tests.{and-left, and-right, and-both, le-yes, lt-yes, yes-le, yes-lt}
 use Rattle.vector.specs.declared.Vec3.{Vec3}
@@ -23,7 +23,7 @@ use Rattle.mesh.specs.declared.Trixel.{Trixel}
 use Rattle.classify_prepared.specs.declared.PreparedHalfspace.{PreparedHalfspace}
 use Rattle.classify.specs.Shape.{square, positive, ray0, ray1, ray2, fOf, DOf, GOf, ahead, bOf, EOf}
 use Rattle.classify_prepared.specs.Measures.{SoundHalfspace}
-use Rattle.classify.proofs.RaysFirst.{passes, allPass, D-below-G, passes-far, by-rays}
+use Rattle.classify.proofs.RaysFirst.{passes, allPass, D-below-G, passes-reaches, by-rays}
 use Rattle.classify_halfspace.specs.Halfspaces.{enclosed}
 use Rattle.classify.proofs.WithinApart.{E-reaches}
 
@@ -66,9 +66,9 @@ ray-passes f b r D G E d l g w p =
     let s : pos 0 <ℤ S = lt-yes (and-left (positive S) _ w1) in
     let t : (S *ℤ G) ≤ℤ (M *ℤ E) = le-yes (and-left (leZ (S *ℤ G) (M *ℤ E)) _ w2) in
     let h : ((dot f f -ℤ square D) *ℤ S) <ℤ (M *ℤ M) = lt-yes (and-right (leZ (S *ℤ G) (M *ℤ E)) _ w2) in
-    let c : Far (v3 f) (v3 r) G = containment (v3 f) (v3 b) (v3 r) G E (passes-far b E r p) g s m (gap-nn t) (by-G (dot f f) S M D G d l s h) in
+    let c : Reaches (v3 f) (v3 r) G = containment (v3 f) (v3 b) (v3 r) G E (passes-reaches b E r p) g s m (gap-nn t) (by-G (dot f f) S M D G d l s h) in
     let n = factor-positive (dot b r) (dot b b) (dot r r) (lt-yes (and-left (positive (dot b r)) _ p)) (cauchy-schwarz (v3 b) (v3 r)) (dot-nn (v3 b)) in
-    and-both (yes-lt (front (dot r r) (dot f r) G g n (c .front) (c .far))) (yes-le (c .far))
+    and-both (yes-lt (front (dot r r) (dot f r) G g n (c .front) (c .reach))) (yes-le (c .reach))
 
 -- ---- the three rays of a trixel
 

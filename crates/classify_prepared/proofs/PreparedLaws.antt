@@ -1,4 +1,4 @@
--- How large what belongs to a halfspace gets: f and d are within ±K, D is at most K and G at most K + 4. Assumes nothing.
+-- The sizes of a prepared halfspace's numbers: f and d are within ±K, D is at most K and G at most K + 4. Assumes nothing.
 use Prim.Native.Nat.{ℕ, _+_, _^_, _≤_}
 use native.Mathlib.Omega.{arith}
 use mathlib.Core.Path.{sym, subst}
@@ -33,7 +33,7 @@ near-most h = record { le = omega arith }
 pub high-most : {e : ℕ} → e ≤ Kℕ → Upto (2 ^ 21) (GOf (pos e))
 high-most h = upto-mono (lit≤ tt) (near-most h)
 
--- ---- of what a good halfspace is prepared to
+-- ---- of a sound halfspace
 
 pub sound-small : {q : PreparedHalfspace} → SoundHalfspace q → Small (q .f)
 sound-small s = subst (λ q. Small (q .f)) (sym (s .is)) (turned-small (nonNeg (s .halfspace .d)) (s .halfspace .n) (vector-small (s .halfspace .n) (s .vector)))

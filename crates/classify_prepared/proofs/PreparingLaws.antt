@@ -1,5 +1,5 @@
--- Rows are prepared one after the other: what is stored after each is the whole of what the rule stores, with the rows that are left; and of the rows of
--- a region the two lists are the region's sevens and the ends of its convexes. Assumes nothing.
+-- Rows are prepared one after the other: what is stored so far, with the rows that are left, gives all that the rule stores. For the rows of a region the
+-- two lists are the region's sevens and the ends of its convexes. Assumes nothing.
 use Prim.Native.Nat.{ℕ, zero, suc, _+_, _-_, _*_, _≤_, _<_}
 use native.Mathlib.Omega.{arith}
 use mathlib.Core.Path.{_≡_, refl, sym, ap, subst, subst₂, _∙_}
@@ -71,7 +71,7 @@ module _ (rs : List ℤ) (n : ℕ) (before : List ℤ) (first : List ℕ) where
         wide = length-set es k (i + 1) ∙ p .wide;
       }
 
-  -- a row more: its seven numbers q are stored, and its convex, number k, ends behind it
+  -- the next row: its seven numbers q are stored, and its convex, number k, ends behind it
   pub prepare-more : (i : ℕ) (xs : List ℤ) (es : List ℕ) → Preparing i xs es → i < n → 7 * n ≤ length before → {q : PreparedHalfspace} {k : ℕ} {xs′ : List ℤ}
       → q ≡ prepared (halfspaceAt (drop (5 * i) rs)) → k ≡ natAbs (getD (drop (5 * i) rs) 0 (pos 0)) → xs′ ≡ put (7 * i) (seven q) xs → Preparing (i + 1) xs′ (set es k (i + 1))
   prepare-more i xs es p h l eq ek ex = subst₂ (λ m k. Preparing (i + 1) m (set es k (i + 1))) (sym (ex ∙ ap (λ q. put (7 * i) (seven q) xs) eq)) (sym ek) (taken i xs es p h l)
@@ -101,9 +101,9 @@ convex-stored i k n (v ∷ vs) l xs h =
     let a : suc (length vs) + n ≡ suc (length vs + n) = omega arith in
     let b : suc i + length vs ≡ i + suc (length vs) = omega arith in
     let m : 7 * suc i ≡ 7 * i + length q = omega arith in
-    let room : 7 * i + length q ≤ length xs = omega arith in
+    let in-list : 7 * i + length q ≤ length xs = omega arith in
     ap (λ m. stored i m (convexRows k (v ∷ vs) ++ l) xs) a
-    ∙ convex-stored (suc i) k n vs l (put (7 * i) q xs) (omega (arith, put-length (7 * i) q xs room))
+    ∙ convex-stored (suc i) k n vs l (put (7 * i) q xs) (omega (arith, put-length (7 * i) q xs in-list))
     ∙ (λ j. stored (b j) n l (put-put (7 * i) (7 * suc i) q (convexSevens vs) xs m (omega arith) j))
 
 region-stored : (i k : ℕ) (g : Region) (l xs : List ℤ) → 7 * (i + total g) ≤ length xs → stored i (total g) (rowsFrom k g ++ l) xs ≡ put (7 * i) (sevens g) xs
@@ -111,10 +111,10 @@ unfolding stored sevens total
 region-stored i k [] l xs h = sym (put-none (7 * i) xs)
 region-stored i k (c ∷ cs) l xs h =
     let m : 7 * (i + length c) ≡ 7 * i + length (convexSevens c) = omega (arith, length-sevens c) in
-    let room : 7 * i + length (convexSevens c) ≤ length xs = omega (arith, length-sevens c) in
+    let in-list : 7 * i + length (convexSevens c) ≤ length xs = omega (arith, length-sevens c) in
     ap (λ r. stored i (length c + total cs) r xs) (region-rows k c cs l)
     ∙ convex-stored i k (total cs) c (rowsFrom (suc k) cs ++ l) xs (omega arith)
-    ∙ region-stored (i + length c) (suc k) cs l (put (7 * i) (convexSevens c) xs) (omega (arith, put-length (7 * i) (convexSevens c) xs room))
+    ∙ region-stored (i + length c) (suc k) cs l (put (7 * i) (convexSevens c) xs) (omega (arith, put-length (7 * i) (convexSevens c) xs in-list))
     ∙ put-put (7 * i) (7 * (i + length c)) (convexSevens c) (sevens cs) xs m (omega arith)
 
 set-set : (es : List ℕ) (k a b : ℕ) → set (set es k a) k b ≡ set es k b
@@ -178,10 +178,10 @@ region-fits k (c ∷ cs) l few e =
 
 -- ---- together
 
-module _ (g : Region) (l : List ℤ) (fine : good g ≡ true) (filled : Filled g) (few : length g ≤ 64) where
+module _ (g : Region) (l : List ℤ) (is-good : good g ≡ true) (filled : Filled g) (few : length g ≤ 64) where
   pub rows-fit : FitRows (total g) (rows g ++ l)
   unfolding rows
-  rows-fit = region-fits 0 g l (omega arith) fine
+  rows-fit = region-fits 0 g l (omega arith) is-good
 
   pub rows-prepared : {n : ℕ} (before : List ℤ) {xs : List ℤ} (first : List ℕ) {es : List ℕ} → n ≡ total g → 7 * n ≤ length before → 64 ≤ length first
       → xs ≡ stored 0 n (rows g ++ l) before → es ≡ marked 0 n (rows g ++ l) first → Prepared g xs es n
@@ -189,7 +189,7 @@ module _ (g : Region) (l : List ℤ) (fine : good g ≡ true) (filled : Filled g
   rows-prepared {n} before {xs} first {es} e h m x y = record {
     count = e;
     filled = filled;
-    good = fine;
+    good = is-good;
     more = drop (0 + length (sevens g)) before;
     halfspaces = x ∙ ap (λ k. stored 0 k (rows g ++ l) before) e ∙ region-stored 0 0 g l before (omega (arith, e));
     further = drop (0 + length (endsFrom 0 g)) first;

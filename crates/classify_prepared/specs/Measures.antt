@@ -1,7 +1,7 @@
--- What classifying measures once, and stores, of a halfspace and of a trixel. Document 01, 'Classifying'.
---   prepared h           of a halfspace: f, d, D, G and f·f − D²
+-- What classifying measures once, and stores, in a halfspace and in a trixel. Document 01, 'Classifying'.
+--   prepared h           the halfspace h prepared: f, d, D, G and f·f − D²
 --   SoundHalfspace q     q is what a good halfspace is prepared to
---   Rest z               z has no sign, and is at most 3·2⁴⁰: so is f·f − D², and b·b − E² where b is ahead
+--   Rest z               z is not negative, and at most 3·2⁴⁰, as f·f − D² is, and b·b − E² where b is ahead
 --   upperSquare z        (|z| / 2¹⁰)²
 --   heightOf v           the height of a ray: its three upper squares, divided by 2³²; near (v·v) / 2⁵² (classify_rays/proofs/RayLaws)
 --   squareOf y           r·r of the ray r that y has

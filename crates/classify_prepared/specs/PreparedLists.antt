@@ -6,9 +6,9 @@
 --   countIn es              the count of halfspaces, which stands behind the ends of 64 convexes
 --   ConvexAt, RegionAt      a convex that stands in the list from a halfspace on; a region that stands in both lists from a convex on
 --   Ready xs es n           some region was prepared to the two lists
---   Classed t xs es n c     c is the class of t for every region that was
---   stored i n rs xs        the list of halfspaces after n rows more, from row number i on, and marked i n rs es that of the ends (proofs/PreparingLaws:
---                           they are those of the rows' region)
+--   Classed t xs es n c     c is the class of t for every region that was prepared to the two lists
+--   stored i n rs xs        the list of halfspaces after n rows, from row number i on; marked i n rs es: the list of ends. They are those of the rows'
+--                           region (proofs/PreparingLaws)
 --   FitRows n rs            n rows as an accepted file has them
 --   meet a b                the class of a convex, from the classes of two parts of it
 --   join a b                the class of a region, from the classes of two parts of it
@@ -97,12 +97,12 @@ Classed t xs es n c = (g : Region) → Prepared g xs es n → c ≡ regionClass 
 
 -- ---- from rows to the two lists
 
--- the sevens of n rows more, stored from halfspace number i on
+-- the sevens of n rows, stored from halfspace number i on
 unfoldable pub stored : ℕ → ℕ → List ℤ → List ℤ → List ℤ
 stored i zero rs xs = xs
 stored i (suc n) rs xs = stored (suc i) n (drop 5 rs) (put (7 * i) (seven (prepared (halfspaceAt rs))) xs)
 
--- the ends of the convexes of n rows more: each row moves the end of its convex to behind itself
+-- the ends of the convexes of n rows: each row moves the end of its convex to behind itself
 unfoldable pub marked : ℕ → ℕ → List ℤ → List ℕ → List ℕ
 marked i zero rs es = es
 marked i (suc n) rs es = marked (suc i) n (drop 5 rs) (set es (natAbs (getD rs 0 (pos 0))) (suc i))

@@ -1,4 +1,4 @@
-// What is measured once: of a halfspace f, D, G and f·f − D², of a trixel its rays with their heights and the sign of V. The rules stand in
+// What is measured once: f, D, G and f·f − D² of a halfspace, the rays of a trixel with their heights and the sign of V. The rules stand in
 // classify/specs/Shape, what is stored in specs/Measures.
 use limits::UNSIGNED_K as K;
 use mesh::Trixel;
@@ -20,7 +20,7 @@ ghost use Rattle.classify_prepared.specs.Measures.{upperSquare, heightOf
 
 pub mod lists;
 
-// What belongs to a halfspace: f and d, D as `low`, G as `high`, and f·f − D² as `rest`.
+// A halfspace prepared for classifying: f and d, D as `low`, G as `high`, and f·f − D² as `rest`.
 pub struct PreparedHalfspace {
     pub f: Vec3,
     pub d: i64,
@@ -35,7 +35,7 @@ pub struct Ray {
     pub height: u64,
 }
 
-// What belongs to a trixel: its rays, and whether V > 0.
+// The rays of a trixel, and whether V > 0.
 pub struct TrixelRays {
     pub r0: Ray,
     pub r1: Ray,
@@ -70,7 +70,7 @@ fn high_of(e: u64) -> i64
     (e * K / (K - 2) + 1) as i64
 }
 
-// What belongs to the halfspace of a direction n and an offset d.
+// Prepares the halfspace of a direction n and an offset d.
 pub fn prepared(n: Vec3, d: i64) -> PreparedHalfspace
     requires { ⌜ isVector n ≡ true ⌝ }
     requires { ⌜ isOffset d ≡ true ⌝ }
@@ -97,7 +97,7 @@ fn upper_square(a: i64) -> u64
     n * n
 }
 
-// What the squares of a ray are divided by to be its height.
+// 2^32: the sum of a ray's three upper squares is divided by it.
 const HEIGHT: u64 = 4294967296;
 
 // The height of r: its three upper squares, divided by 2^32.
@@ -138,7 +138,7 @@ pub fn first_ray(t: Trixel) -> Vec3
     vector_products::cross(p1, p2)
 }
 
-// What belongs to a trixel, whose first ray is r: a child has it from the trixel that was cut.
+// The rays of a trixel whose first ray is r: a child has its first ray from the trixel that was cut.
 pub fn measured(t: Trixel, r: Vec3) -> TrixelRays
     requires { ⌜ SmallTrixel t ⌝ }
     requires { ⌜ r ≡ ray0 t ⌝ }

@@ -69,7 +69,7 @@ fn prepare_rows(rows: &[i32], n: usize, prepared: &mut [i64], ends: &mut [u64])
     }
 }
 
-// The same, of arrays with room for the rows of every accepted file, and the count of halfspaces.
+// As above, with arrays that are long enough for every accepted file; the count of halfspaces is stored too.
 pub fn prepare(
     rows: &[i32; 5 * HALFSPACES],
     n: usize,

@@ -119,7 +119,7 @@ unfolding regionClass some every
 no-region [] t l e = refl
 no-region (c ∷ cs) t l e = absurd (omega (arith, total-cons c cs, l .0))
 
--- the numbers at a place where a seven begins
+-- the numbers where a seven begins
 prepared-at : (xs : List ℤ) (k : ℕ) (q : PreparedHalfspace) (rest : List ℤ) → drop k xs ≡ seven q ++ rest → preparedIn xs k ≡ q
 prepared-at xs k q rest e =
     let at : (m : ℕ) → getD xs (k + m) (pos 0) ≡ getD (seven q ++ rest) m (pos 0) = λ m. sym (getD-drop k xs m (pos 0)) ∙ ap (λ l. getD l m (pos 0)) e in
@@ -132,14 +132,14 @@ prepared-at xs k q rest e =
       rest = at 6 i;
     }
 
-half-room : (xs : List ℤ) (k : ℕ) (q : PreparedHalfspace) (rest : List ℤ) → drop k xs ≡ seven q ++ rest → k + 7 ≤ length xs
-half-room xs k q rest e = omega (arith, length-drop k xs, ap length e)
+seven-within : (xs : List ℤ) (k : ℕ) (q : PreparedHalfspace) (rest : List ℤ) → drop k xs ≡ seven q ++ rest → k + 7 ≤ length xs
+seven-within xs k q rest e = omega (arith, length-drop k xs, ap length e)
 
 -- ---- the next halfspace of a convex
 
 -- the halfspace number i, and the halfspaces of the convex behind it
-pub record HalfAt (xs : List ℤ) (i end : ℕ) (v : Convex) : Type 0 where
-  pub room : 7 * i + 7 ≤ length xs
+pub record HalfspaceNext (xs : List ℤ) (i end : ℕ) (v : Convex) : Type 0 where
+  pub in-list : 7 * i + 7 ≤ length xs
   pub sound : SoundHalfspace (preparedIn xs (7 * i))
   pub first : Halfspace
   pub good : goodHalfspace first ≡ true
@@ -149,14 +149,14 @@ pub record HalfAt (xs : List ℤ) (i end : ℕ) (v : Convex) : Type 0 where
   pub class : (t : Trixel) → convexClass v t ≡ meet (preparedClass (preparedIn xs (7 * i)) t) (convexClass rest t)
 
 module _ (xs : List ℤ) (i end : ℕ) where
-  half-first : (h : Halfspace) (hs : Convex) → ConvexAt xs i end (h ∷ hs) → HalfAt xs i end (h ∷ hs)
-  half-first h hs a =
+  halfspace-first : (h : Halfspace) (hs : Convex) → ConvexAt xs i end (h ∷ hs) → HalfspaceNext xs i end (h ∷ hs)
+  halfspace-first h hs a =
       let both = convex-good h hs (a .good) in
       let same : drop (7 * i) xs ≡ seven (prepared h) ++ (convexSevens hs ++ a .more) = a .halfspaces ∙ convex-numbers h hs (a .more) in
       let is : preparedIn xs (7 * i) ≡ prepared h = prepared-at xs (7 * i) (prepared h) (convexSevens hs ++ a .more) same in
       let seven : 7 * (i + 1) ≡ 7 * i + 7 = omega arith in
       record {
-        room = half-room xs (7 * i) (prepared h) (convexSevens hs ++ a .more) same;
+        in-list = seven-within xs (7 * i) (prepared h) (convexSevens hs ++ a .more) same;
         sound = record {
           halfspace = h;
           vector = and-left (isVector (h .n)) (isOffset (h .d)) (both .0);
@@ -176,9 +176,9 @@ module _ (xs : List ℤ) (i end : ℕ) where
         class = λ t. convex-cons h hs t ∙ ap (λ c. meet c (convexClass hs t)) (sym (prepared-class-is h t) ∙ ap (λ q. preparedClass q t) (sym is));
       }
 
-  pub half-next : (v : Convex) → ConvexAt xs i end v → i < end → HalfAt xs i end v
-  half-next [] a l = absurd (omega (arith, a .stop))
-  half-next (h ∷ hs) a l = half-first h hs a
+  pub halfspace-next : (v : Convex) → ConvexAt xs i end v → i < end → HalfspaceNext xs i end v
+  halfspace-next [] a l = absurd (omega (arith, a .stop))
+  halfspace-next (h ∷ hs) a l = halfspace-first h hs a
 
   -- no halfspace is left
   pub convex-end : (v : Convex) → ConvexAt xs i end v → end ≤ i → (t : Trixel) → convexClass v t ≡ Full
@@ -274,7 +274,7 @@ module _ (t : Trixel) (xs : List ℤ) (es : List ℕ) (n : ℕ) where
   start g p = record { left = g; at = region-start xs es n g p; class = refl }
 
   module _ (g : Region) (i k : ℕ) (c : Class) where
-    -- a convex more: its end is read
+    -- the next convex: its end is read
     pub opened : AtConvex g i k c → i < n → (k < length es) × ((end : ℕ) → end ≡ getD es k 0 → (i < end) × AtHalfspace g k end i c Full)
     opened a h =
         let v = convex-next xs es n i k (a .left) (a .at) h in (
@@ -295,18 +295,18 @@ module _ (t : Trixel) (xs : List ℤ) (es : List ℕ) (n : ℕ) where
   full g i k Full e a = a .class
 
   module _ (g : Region) (k end i : ℕ) (c a : Class) where
-    -- the halfspace that stands there
-    pub record Stands : Type 0 where
-      pub room : 7 * i + 7 ≤ length xs
+    -- the next halfspace of the convex, and the scan after it
+    pub record HalfspaceStep : Type 0 where
+      pub in-list : 7 * i + 7 ≤ length xs
       pub sound : SoundHalfspace (preparedIn xs (7 * i))
       pub taken : (b : Class) → b ≡ preparedClass (preparedIn xs (7 * i)) t → AtHalfspace g k end (i + 1) c (meet a b)
 
-    -- a halfspace more
-    pub stands : AtHalfspace g k end i c a → i < end → Stands
-    stands s h =
-        let v = half-next xs i end (s .convex) (s .at) h in
+    -- the next halfspace
+    pub halfspace-step : AtHalfspace g k end i c a → i < end → HalfspaceStep
+    halfspace-step s h =
+        let v = halfspace-next xs i end (s .convex) (s .at) h in
         record {
-          room = v .room;
+          in-list = v .in-list;
           sound = v .sound;
           taken = λ b q. record {
             convex = v .rest;
@@ -340,10 +340,10 @@ module _ (t : Trixel) (xs : List ℤ) (es : List ℕ) (n : ℕ) (g : Region) (p 
   only-convex : (0 < getD es 0 0) × AtHalfspace t xs es n g 0 (getD es 0 0) 0 Outside Full
   only-convex = opened t xs es n g 0 0 Outside (start t xs es n g p) (omega (arith, one)) .1 _ refl
 
-  pub only-half : Stands t xs es n g 0 (getD es 0 0) 0 Outside Full
-  only-half = stands t xs es n g 0 (getD es 0 0) 0 Outside Full (only-convex .1) (only-convex .0)
+  pub only-halfspace : HalfspaceStep t xs es n g 0 (getD es 0 0) 0 Outside Full
+  only-halfspace = halfspace-step t xs es n g 0 (getD es 0 0) 0 Outside Full (only-convex .1) (only-convex .0)
 
   pub only-class : {c : Class} → c ≡ preparedClass (preparedIn xs 0) t → c ≡ regionClass g t
   only-class {c} e = ended t xs es n g _ _ _
-      (exhausted t xs es n g 0 (getD es 0 0) 1 Outside c (only-half .taken c e) (omega (arith, one, only-convex .1 .after .count)))
+      (exhausted t xs es n g 0 (getD es 0 0) 1 Outside c (only-halfspace .taken c e) (omega (arith, one, only-convex .1 .after .count)))
       (omega (arith, one, only-convex .0))

@@ -109,7 +109,7 @@ pub fn classify_convexes(
     settled
 }
 
-// The same for a region of one halfspace: the rays come first, for where one of them passes and where all do b and E are not needed.
+// As above, for a region of one halfspace: the rays are tested first, since b and E are needed only where none passes.
 pub fn classify_single(
     t: Trixel,
     s: TrixelRays,

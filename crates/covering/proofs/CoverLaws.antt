@@ -16,7 +16,7 @@ use Rattle.algebra.proofs.Inequalities.{`1}
 use Rattle.algebra.proofs.Tests.{split}
 use Rattle.vector.specs.declared.Vec3.{Vec3}
 use Rattle.vector.proofs.DepthLaws.{depth-range}
-use Rattle.vector.proofs.VectorLaws.{Long}
+use Rattle.vector.proofs.VectorLaws.{UnitLength}
 use Rattle.mesh.specs.declared.Trixel.{Trixel}
 use Rattle.mesh.specs.Trixels.{child, rootTrixel}
 use Rattle.mesh.specs.Lookup.{rootNumber, digit, descend, identifier}
@@ -132,7 +132,7 @@ module _ (g : Region) where
 
   -- ---- the path of a point
 
-  module _ (p : Vec3) (l : Long p) where
+  module _ (p : Vec3) (l : UnitLength p) where
     not-held : {X : Type 0} (t : Trixel) → Inside p t → regionClass g t ≡ Outside → holds g p ≡ true → X
     not-held t i e h = absurd (true≢false (sym h ∙ outside-region p l t i g (ap isOutside e)))
 
@@ -223,7 +223,7 @@ module _ (g : Region) (d : ℕ) where
   pub full-ascends : SpacedBy 0 (cutting d g .full)
   full-ascends = between-spaced (8 * 4 ^ (d - 1)) (16 * 4 ^ (d - 1)) (cutting d g .full) (cutting-between full)
 
-  module _ (p : Vec3) (l : Long p) where
+  module _ (p : Vec3) (l : UnitLength p) where
     pub cutting-accepts : holds g p ≡ true → Has (cutting d g .accepted) (identifier p d)
     unfolding cutting identifier
     cutting-accepts h = has-eight (rootList accepted) (rootNumber p) (identifier p d) (root-small p) (held-accepted g p l (d - 1) (rootTrixel (rootNumber p)) (8 + rootNumber p) (root-inside p) h)

@@ -20,7 +20,7 @@ use Rattle.answer.proofs.AnswerLaws.{check-passed, check-gives, same-value, the
 use Rattle.vector.specs.declared.Vec3.{Vec3}
 use Rattle.vector.specs.Numbers.{eqZ}
 use Rattle.vector.specs.Vectors.{isVector}
-use Rattle.vector.proofs.VectorLaws.{vector-long}
+use Rattle.vector.proofs.VectorLaws.{vector-unit-length}
 use Rattle.vector.proofs.DepthLaws.{depth-range}
 use Rattle.mesh.specs.Lookup.{identifier}
 use Rattle.mesh.proofs.LookupLaws.{shorter}
@@ -116,7 +116,7 @@ module _ (d b : ℕ) (g : Region) (low : 1 ≤ d) (high : d ≤ 12) where
       let f = filed e h in
       let p = e .pointing in
       let s : shortened d e ≡ identifier p d = ap (λ z. whole z / 4 ^ (12 - d)) (f .id) ∙ shorter p d low high in
-      let k : CoverSound (shortened d e) os ns (budgetOf b) (holds g p) = subst (λ i. CoverSound i os ns (budgetOf b) (holds g p)) (sym s) (kept d b g p (vector-long p (f .vector))) in
+      let k : CoverSound (shortened d e) os ns (budgetOf b) (holds g p) = subst (λ i. CoverSound i os ns (budgetOf b) (holds g p)) (sym s) (kept d b g p (vector-unit-length p (f .vector))) in
       delivered-held (holds g) p (inSome (shortened d e) ns) (inSome (shortened d e) os) (holds g p) (f .vector) refl (k .inner-held) (λ t. once-some (shortened d e) os (k .held-outer t))
 
   -- the walk over entries of an index

@@ -2,7 +2,7 @@
 -- The path of the point finds its identifier in the cutting's lists (CoverLaws), and the budget's rules keep what is needed (Sound of ranges). Assumes nothing.
 use Prim.Native.Nat.{ℕ}
 use Rattle.vector.specs.declared.Vec3.{Vec3}
-use Rattle.vector.proofs.VectorLaws.{Long, vector-long}
+use Rattle.vector.proofs.VectorLaws.{UnitLength, vector-unit-length}
 use Rattle.mesh.specs.Lookup.{identifier, lookup}
 use Rattle.region.specs.Regions.{Region, holds}
 use Rattle.region.specs.Budgets.{budgetOf}
@@ -37,7 +37,7 @@ inner-proper d b g =
     let F = cutting d g .full in
     separate-proper (budgetOf b) (innerOf (budgetOf b) F) (inner-separate (budgetOf b) (budget-one b) F (full-ascends g d)) (inner-few (budgetOf b) (budget-one b) F)
 
-pub kept : (d b : ℕ) (g : Region) (p : Vec3) → Long p → CoverSound (identifier p d) (coverOf d b g .outer) (coverOf d b g .inner) (budgetOf b) (holds g p)
+pub kept : (d b : ℕ) (g : Region) (p : Vec3) → UnitLength p → CoverSound (identifier p d) (coverOf d b g .outer) (coverOf d b g .inner) (budgetOf b) (holds g p)
 unfolding coverOf
 kept d b g p l =
     let i = identifier p d in
@@ -63,4 +63,4 @@ pub promise-kept :
     → (i : ℕ) × (lookup p (x .depth) ≡ gives i)
     × CoverSound i (cover x .outer) (cover x .inner) (budgetOf (x .budget)) (holds (x .region) p)
 unfolding lookup
-promise-kept p f x v r = (identifier p (x .depth), rw (read-depth f x r, v), kept (x .depth) (x .budget) (x .region) p (vector-long p v))
+promise-kept p f x v r = (identifier p (x .depth), rw (read-depth f x r, v), kept (x .depth) (x .budget) (x .region) p (vector-unit-length p v))

@@ -15,7 +15,7 @@ use Rattle.region.specs.declared.Halfspace.{Halfspace}
 use Rattle.region.specs.declared.Record.{Record}
 use Rattle.region.specs.Regions.{Convex}
 use Rattle.region.specs.Budgets.{isBudget, budgetOf}
-use Rattle.region.specs.Building.{mostInAll, total, withConvex, begun, filled, fewConvexes, belowLimits, isOffset, add}
+use Rattle.region.specs.Building.{mostInAll, total, withConvex, begun, lastFilled, fewConvexes, belowLimits, isOffset, add}
 use Rattle.region.specs.Bytes.{word}
 use Rattle.region.specs.Records.{is, firstOf, known, Styles, fits, stylesAfter}
 use Rattle.region.specs.Reader.{File, lengthOf, kindOf, payload, after, whole, recordAt, headerIn, header, withRegion, convexIn, halfspaceOf, halfspaceIn}
@@ -83,7 +83,7 @@ header-nonzero rest = next (recordAt rest) _ (record-at rest) (λ r. header-in r
 
 convex-in : (x : File) → Nonzero (convexIn x)
 convex-in x =
-    checked Order refl (cond (begun (x .region)) (filled (x .region)) true) _
+    checked Order refl (cond (begun (x .region)) (lastFilled (x .region)) true) _
     (checked Crowd refl (fewConvexes (withConvex (x .region))) _ (given _))
 
 halfspace-in : (x : File) (h : Halfspace) → Nonzero (halfspaceIn x h)
@@ -102,7 +102,7 @@ part-in : (x : File) (r : Record) (s following : List ℕ) → Nonzero (partIn x
 part-in x Record.Header s following = refuses Order refl
 part-in x Record.Convex s following = convex-in x
 part-in x Record.Halfspace s following = halfspace-in x (halfspaceOf s)
-part-in x Record.End s following = checked Order refl (begun (x .region) && (filled (x .region) && eqb (length following) 0)) _ (given x)
+part-in x Record.End s following = checked Order refl (begun (x .region) && (lastFilled (x .region) && eqb (length following) 0)) _ (given x)
 part-in x (Record.Group n) s following =
     let c = halfspacesOf n s in
     next (convexIn x) _ (convex-in x) (λ y. checked Crowd refl (leb (total (y .region) + length c) mostInAll) _ (halfspaces-in y c))

@@ -1,4 +1,4 @@
--- The depth of an identifier, the identifiers of a depth, and that the name of one leads back to it. Assumes nothing.
+-- An identifier has one depth, by its highest bit, and its name leads back to it. Assumes nothing.
 use Prim.Native.Nat.{ℕ, zero, suc, _+_, _-_, _*_, _/_, _%_, _^_, _≤_, _<_}
 use native.Mathlib.Nat.{pow-le-pow-right, pow-suc, pow-succ', div-div-eq-div-mul, le-div-iff-mul-le, div-lt-iff-lt-mul, one-le-pow}
 use native.Mathlib.Omega.{arith}
@@ -51,10 +51,10 @@ depth-found i e = greatest-found (λ d. identifierAt d i) 31 (depth-low i e)
 
 -- ---- the digits lead back
 
-one-digit-more : (a : ℕ) (cs : List ℕ) (c : ℕ) → withDigits a (cs ++ c ∷ []) ≡ 4 * withDigits a cs + (c - digit0)
+last-digit : (a : ℕ) (cs : List ℕ) (c : ℕ) → withDigits a (cs ++ c ∷ []) ≡ 4 * withDigits a cs + (c - digit0)
 unfolding withDigits
-one-digit-more a [] c = refl
-one-digit-more a (b ∷ cs) c = one-digit-more (4 * a + (b - digit0)) cs c
+last-digit a [] c = refl
+last-digit a (b ∷ cs) c = last-digit (4 * a + (b - digit0)) cs c
 
 pub digits-lead-back : (n i : ℕ) → withDigits (i / 4 ^ n) (digits n i) ≡ i
 unfolding withDigits digits
@@ -62,7 +62,7 @@ digits-lead-back zero i = omega arith
 digits-lead-back (suc n) i =
     let q : i / 4 ^ suc n ≡ i / 4 / 4 ^ n = ap (λ x. i / x) (pow-succ' 4 n) ∙ sym (div-div-eq-div-mul i 4 (4 ^ n)) in
     let h : withDigits (i / 4 ^ suc n) (digits n (i / 4)) ≡ i / 4 = ap (λ x. withDigits x (digits n (i / 4))) q ∙ digits-lead-back n (i / 4) in
-    let s = one-digit-more (i / 4 ^ suc n) (digits n (i / 4)) (digit0 + i % 4) in
+    let s = last-digit (i / 4 ^ suc n) (digits n (i / 4)) (digit0 + i % 4) in
     omega arith
 
 -- ---- a name of an identifier is a name

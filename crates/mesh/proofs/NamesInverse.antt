@@ -1,5 +1,5 @@
 -- Names and identifiers are inverse to each other. The identifier of a name with d digits, divided by 4 to the power of d, is the 2 or 3 of
--- its letter: so its depth is d, and its letter and its digits, from the first to the last, come back. So it is of the calls: what is written is at the
+-- its letter: so its depth is d, and its letter and its digits, from the first to the last, come back. The two calls are inverse too: what is written is at the
 -- front of the lent list. Assumes nothing.
 use Prim.Native.Nat.{ℕ, zero, suc, _+_, _-_, _*_, _/_, _%_, _^_, _≤_, _<_}
 use native.Mathlib.Nat.{pow-suc, pow-succ', div-div-eq-div-mul, le-div-iff-mul-le, div-lt-iff-lt-mul, one-le-pow}
@@ -142,7 +142,7 @@ identifier-then-name (c ∷ cs) i e =
 pub names-inverse : (i : ℕ) (s : List ℕ) → (nameOf i ≡ gives s → identifierOf s ≡ gives i) × (identifierOf s ≡ gives i → nameOf i ≡ gives s)
 names-inverse i s = (name-then-identifier i s, identifier-then-name s i)
 
--- ---- of the calls
+-- ---- the calls
 
 pub names-of-calls : NamesOfCalls
 unfolding nameAnswer nameAfter

@@ -1,6 +1,6 @@
 -- The path of a point: the three normals of every trixel that the descent of p passes are not negative at p.
 -- A root's normals are its corners, and the signs of p choose the root; a child's are the normal whose test chose it and two of its parent's,
--- or, of the child in the middle, the three whose tests all failed, turned round. Assumes nothing.
+-- or, of the child in the middle, the three whose tests all failed, negated. Assumes nothing.
 use Prim.Native.Nat.{ℕ, suc, _+_, _*_, _/_, _%_, _<_}
 use native.Mathlib.Omega.{arith}
 use lib.Dec.{lit<}
@@ -80,8 +80,8 @@ root-inside p = by-signs p (notNegative (p .z)) (notNegative (p .y)) (notNegativ
 
 -- ---- a child
 
-turned : (c p : Vec3) → notNegative (dot c p) ≡ false → pos 0 ≤ℤ dot (minus c) p
-turned c p e = prove 6
+negated-inside : (c p : Vec3) → notNegative (dot c p) ≡ false → pos 0 ≤ℤ dot (minus c) p
+negated-inside c p e = prove 6
     (λ a b c x y z. record {
       given = (a :* x :+ b :* y :+ c :* z :< `0) ∷ [];
       goal = `0 :≤ :neg a :* x :+ :neg b :* y :+ :neg c :* z;
@@ -94,7 +94,7 @@ by-tests : (p : Vec3) (t : Trixel) (c : Cut) (b0 b1 b2 : Bool) → notNegative (
 by-tests p t c true b1 b2 e0 e1 e2 h = record { in0 = le-yes e0; in1 = h .in1; in2 = h .in2 }
 by-tests p t c false true b2 e0 e1 e2 h = record { in0 = le-yes e1; in1 = h .in2; in2 = h .in0 }
 by-tests p t c false false true e0 e1 e2 h = record { in0 = le-yes e2; in1 = h .in0; in2 = h .in1 }
-by-tests p t c false false false e0 e1 e2 h = record { in0 = turned (c .c0) p e0; in1 = turned (c .c1) p e1; in2 = turned (c .c2) p e2 }
+by-tests p t c false false false e0 e1 e2 h = record { in0 = negated-inside (c .c0) p e0; in1 = negated-inside (c .c1) p e1; in2 = negated-inside (c .c2) p e2 }
 
 pub child-inside : (p : Vec3) (t : Trixel) → Inside p t → Inside p (child (digit p t) t)
 unfolding child digit

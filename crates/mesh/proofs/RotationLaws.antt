@@ -1,5 +1,5 @@
 -- The eight rotations commute with sum, opposite, cross product, Unit and Scale, and keep the dot product. They are made of two, a quarter turn about z
--- and a half turn about x; the laws are proved of these, and go over to what is made of maps that have them. A mirror has all of them but the one of the
+-- and a half turn about x; the laws are proved for these two, and hold for every composition of maps that have them. A mirror has all of them but that of the
 -- cross product. Unit and Scale divide by what a rotation keeps, the square length and the largest component. Assumes nothing.
 use Prim.Native.Nat.{ℕ, zero, suc, max, _<_}
 use native.Mathlib.Nat.{max-comm}

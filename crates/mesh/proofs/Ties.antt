@@ -1,5 +1,5 @@
 -- A point on a cut goes to the earlier child: where C·p is 0 the test passes, and the child in the middle has only what no other takes.
--- The point is the middle of each edge of N3, which lies on two of its cuts. By computing; assumes nothing.
+-- The points are the midpoints of the edges of N3, each on two of its cuts. By computing; assumes nothing.
 use mathlib.Core.Path.{_≡_, refl}
 use lib.IntN.{pos}
 use Rattle.vector.specs.Numbers.{root, rootIn}

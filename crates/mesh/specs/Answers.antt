@@ -3,9 +3,9 @@
 --   nameInto i before     the name to write, or the refusal: 11, then 10
 --   nameAnswer i before   the name's length, or the refusal
 --   nameAfter i before    the list afterwards: the name at its beginning
---   cornersGiven r   what the call that gives corners answered
---   NamesOfCalls     what `htm::name` wrote `htm::identifier` reads back, and the other way round, of values that meet their contracts (htm/src/lib.rt);
---                    proofs/NamesInverse
+--   cornersGiven r        the answer of the call that gives corners
+--   NamesOfCalls          `htm::identifier` reads back what `htm::name` wrote, and the other way round, by the contracts of the two calls (htm/src/lib.rt);
+--                         proved in proofs/NamesInverse
 use Prim.Native.Nat.{ℕ, _≤_}
 use mathlib.Core.Path.{_≡_}
 use mathlib.Core.List.{List}
@@ -33,9 +33,9 @@ cornersGiven (Gives c) = gives c
 cornersGiven (Refused n) = refused n
 
 pub record NamesOfCalls : Type 0 where
-  -- `name` gave n of the identifier i and left `after` in the lent list: `identifier`, on its first n elements, gives i
+  -- `name` gave n for the identifier i and left `after` in the lent list: `identifier`, on its first n elements, gives i
   pub read-back : (i n : ℕ) (before after : List ℕ) → numberOf (Number.Gives n) ≡ nameAnswer i before → after ≡ nameAfter i before
       → (r : Number) → numberOf r ≡ identifierOf (take n after) → r ≡ Number.Gives i
-  -- `identifier` gave i of the name s: `name`, on a list that is long enough, gives the length of s and leaves s at its front, the rest as it was
+  -- `identifier` gave i for the name s: `name`, on a list that is long enough, gives the length of s and leaves s at its front, the rest as it was
   pub written-back : (i : ℕ) (s before after : List ℕ) → numberOf (Number.Gives i) ≡ identifierOf s → length s ≤ length before
       → (r : Number) → numberOf r ≡ nameAnswer i before → after ≡ nameAfter i before → (r ≡ Number.Gives (length s)) × (after ≡ put 0 s before)

@@ -63,5 +63,3 @@ valueOf (c ∷ cs) = withDigits (cond (eqb c letterS) 2 3) cs
 
 unfoldable pub identifierOf : List ℕ → Answer ℕ
 identifierOf s = check Name (isName s) (gives (valueOf s))
-
--- ---- both ways

@@ -3,7 +3,7 @@
 --   rotation r         the rotation that takes S0 to the root number r
 --   turned r a         the vector a, turned by it
 --   turnedTrixel r t   corners and normals of a trixel, turned, in their order
---   determinant f      of a map of vectors, by where it takes the three unit vectors
+--   determinant f      the determinant of a map of vectors, from the images of the three unit vectors
 --   Proper             statement: each of the eight has determinant 1, so none of them mirrors (proofs/RotationLaws)
 --   Rotated            statement: at every depth the trixels of a root are those of S0, turned (proofs/Rotated)
 use Prim.Native.Nat.{ℕ, _+_, _*_, _^_, _<_}

@@ -17,7 +17,7 @@ use Rattle.mesh.proofs.NameLaws.{digits-length}
 
 -- ---- the list
 
--- the digits of the identifier id of depth d after place k stand in xs, and rest is what is left of id
+-- the digits of the identifier id of depth d after position k stand in xs, and rest is what is left of id
 pub record Written (id d : ℕ) (before xs : List ℕ) (rest k : ℕ) : Type 0 where
   pub same : length xs ≡ length before
   pub most : k ≤ d

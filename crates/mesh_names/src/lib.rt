@@ -28,7 +28,7 @@ pub fn depth_of(id: u64) -> u32
     bits / 2 - 1
 }
 
-// The letter of what stands before the digits, 2 or 3.
+// The letter for what stands before the digits, 2 or 3.
 fn letter_of(a: u64) -> u8
     ensures { λ r. ⌜ r ≡ letter a ⌝ }
 {
@@ -99,6 +99,9 @@ fn are_digits(name: &[u8]) -> bool
     true
 }
 
+// The longest name: a letter and 31 digits.
+const MAX_NAME_BYTES: usize = 32;
+
 // A letter and 1 to 31 digits.
 fn is_name(name: &[u8]) -> bool
     ensures { λ r. ⌜ r ≡ isName (now (name .entry)) ⌝ }
@@ -106,7 +109,7 @@ fn is_name(name: &[u8]) -> bool
     if name.len() < 2 {
         return false;
     }
-    if 32 < name.len() {
+    if MAX_NAME_BYTES < name.len() {
         return false;
     }
     if !is_letter(name[0]) {

@@ -1,5 +1,5 @@
-// The constant table of depth 3 for S0: corners and normals of the trixels 128 to 143, and the rotations by which the other seven roots have theirs.
-// specs/Table says what the numbers are, mesh/specs/Rotations what the rotations are.
+// The constant table of depth 3 for S0: corners and normals of the trixels 128 to 143, and the rotations that give those of the other seven roots.
+// specs/Table defines the numbers, mesh/specs/Rotations the rotations.
 use mesh::Corners;
 use mesh::Rotation;
 use vector::Vec3;
@@ -95,7 +95,7 @@ pub fn turned_back(k: Rotation, p: Vec3) -> Vec3
     }
 }
 
-// A vector of S0's, turned.
+// A vector of the table, turned.
 fn turned(k: Rotation, a: Vec3) -> Vec3
     requires { ⌜ Small a ⌝ }
     ensures { λ r. ⌜ (r ≡ rule.turnedBy k a) × Small r ⌝ }

@@ -2,7 +2,7 @@
 --   tripleOf a b c   three corners
 --   bare c           a trixel of which only the corners are known; cutting and descent look at nothing else (proofs/CornerLaws)
 --   SmallCorners c   each component of each corner is within ±K
---   SmallTrixel t, SmallCut c   so is each component of each vector of a trixel, of a cut
+--   SmallTrixel t, SmallCut c   each component of each vector of a trixel, of a cut, is within ±K
 use lib.IntN.{pos}
 use Rattle.vector.specs.declared.Vec3.{Vec3}
 use Rattle.vector.specs.Vectors.{vec}

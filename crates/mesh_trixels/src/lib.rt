@@ -1,5 +1,5 @@
 // Trixels in code: roots, midpoints, cuts and children, with their normals and by corners alone; the corners of an identifier. The rules stand in
-// mesh/specs/Trixels and Identifiers, what is said of corners alone in specs/Corners.
+// mesh/specs/Trixels and Identifiers, corners alone in specs/Corners.
 use answer::NAME;
 use limits::K;
 use limits::MINUS_K;
@@ -108,6 +108,9 @@ fn child_corners(c: Corners, k: u64) -> Corners
     triple(w0, w1, w2)
 }
 
+// The identifier of S0: the roots are 8 to 15.
+const FIRST_ROOT: u64 = 8;
+
 // The corners of the trixel with the identifier id, n levels below its root.
 fn corners_below(id: u64, n: u32) -> Corners
     requires { ⌜ 8 * 4 ^ n ≤ id ⌝ }
@@ -115,7 +118,7 @@ fn corners_below(id: u64, n: u32) -> Corners
     ensures { λ r. ⌜ (r ≡ identifiers.cornersOf (identifiers.trixel n id)) × SmallCorners r ⌝ }
 {
     if n == 0 {
-        return root_corners(id - 8);
+        return root_corners(id - FIRST_ROOT);
     }
     child_corners(corners_below(id / 4, n - 1), id % 4)
 }

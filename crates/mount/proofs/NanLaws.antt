@@ -1,4 +1,4 @@
--- A NaN is what differs from itself, and it is refused in both formats. Assumes nothing.
+-- A NaN is the only float that differs from itself, and it is refused in both formats. Assumes nothing.
 use mathlib.Core.Path.{_≡_, refl, sym, ap, subst, _∙_}
 use mathlib.Core.Bool.{true, false, not}
 use lib.Dec.{T}

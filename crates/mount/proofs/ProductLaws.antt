@@ -66,9 +66,9 @@ raised (negsuc k) l h =
     let sum : 20 + l ≡ 20 + (l - suc k) + suc k = omega arith in
     (20 + (l - suc k), sym (pow-add 2 20 l) ∙ ap (λ n. 2 ^ n) sum ∙ pow-add 2 (20 + (l - suc k)) (suc k) ∙ ap (λ n. 2 ^ (20 + (l - suc k)) * n) (sym (mul-one (2 ^ suc k))))
 
-room : (f : Format) → 2 ^ 20 * 2 ^ low f < 2 ^ (low f + suc (emax f))
-room binary32 = lit< tt
-room binary64 = lit< tt
+scale-fits : (f : Format) → 2 ^ 20 * 2 ^ low f < 2 ^ (low f + suc (emax f))
+scale-fits binary32 = lit< tt
+scale-fits binary64 = lit< tt
 
 -- the product with 2^20 is exact
 exact : (f : Format) (s : Bool) (m : ℕ) (e : ℤ) → T (fits f (fin s m e)) → m * up e ≤ down e → HasValue (round f s (m * up e * 2 ^ 20) (down e * 1)) s (m * up e * 2 ^ 20) (down e * 1)
@@ -84,7 +84,7 @@ exact f s m e t h =
     (le-trans (mul-le-mul-right (2 ^ low f) (mul-le-mul-right (2 ^ 20) h))
     (le-of-eq (mul-assoc (down e) (2 ^ 20) (2 ^ low f) ∙ mul-comm (down e) (2 ^ 20 * 2 ^ low f) ∙ ap (λ n. 2 ^ 20 * 2 ^ low f * n) (sym (mul-one (down e)))))))
     den in
-    round-exact f s (m * up e * 2 ^ 20) (down e * 1) m j den (digits f s m e t) (lt-of-le-of-lt small (room f)) same
+    round-exact f s (m * up e * 2 ^ 20) (down e * 1) m j den (digits f s m e t) (lt-of-le-of-lt small (scale-fits f)) same
 
 -- what a value of the size n / d, at most 2^20, is as an i64
 cut : (x : Float) (s : Bool) (n d : ℕ) → 0 < d → n / d ≤ 2 ^ 20 → HasValue x s n d → toSigned 63 x ≡ signed s (n / d)

@@ -190,7 +190,7 @@ by-one-shift w u b = compared (leb (size w b) (bias w * 2 ^ w .fraction)) refl
 
 -- ---- the same in the numbers that the code has: unit, half and sign are powers of two
 
-pub record Laid (w : Width) (unit half sign : ℕ) : Type 0 where
+pub record WidthPowers (w : Width) (unit half sign : ℕ) : Type 0 where
   pub usual : Usual w
   pub unit-is : unit ≡ 2 ^ w .fraction
   pub half-is : half ≡ 2 ^ (w .exponent - 1)
@@ -200,7 +200,7 @@ signed-zero : (s : Bool) → signed s 0 ≡ pos 0
 signed-zero true = refl
 signed-zero false = refl
 
-module _ {w : Width} {unit half sign : ℕ} (k : Laid w unit half sign) where
+module _ {w : Width} {unit half sign : ℕ} (k : WidthPowers w unit half sign) where
   pub unit-some : 0 < unit
   unit-some = rw (k .unit-is) (pow-pos (w .fraction))
 

@@ -9,8 +9,8 @@
 --   usable w b        finite, and at most 1 in size
 --   scaled w b        the float times 2^20, truncated toward zero
 --   component w b     the answer: check 12
---   componentOf f v   the same of a float v of a format f, by its bits
---   componentGiven r   what a function of the code answered
+--   componentOf f v   the component of a float v of a format f, by its bits
+--   componentGiven r   the answer of a function in code
 use Prim.Native.Nat.{ℕ, _+_, _-_, _*_, _/_, _%_, _^_, max}
 use mathlib.Core.Bool.{Bool, cond, not, _&&_}
 use lib.Dec.{leb, eqb}

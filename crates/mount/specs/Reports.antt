@@ -27,5 +27,3 @@ singleReport x y z = Single (record { x = x; y = y; z = z })
 
 abbrev pub doubleReport : Float → Float → Float → Report
 doubleReport x y z = Double (record { x = x; y = y; z = z })
-
--- ---- what a function answered

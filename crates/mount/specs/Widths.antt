@@ -1,4 +1,4 @@
--- What the code asks of a width: room for 2^-20 above the smallest exponent, for 2^20 in a significand, and for all bits in 64.
+-- What the code requires of a width: 2^-20 is above the smallest exponent, 2^20 fits a significand, and all bits fit 64. Document 02, F-1, both widths.
 --   Usual w   6 to 11 bits of exponent, 20 to 52 of fraction
 use Prim.Native.Nat.{_≤_}
 use Rattle.mount.specs.declared.Width.{Width}

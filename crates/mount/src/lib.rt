@@ -1,5 +1,5 @@
 // A mount's report: three floats, in single or in double precision. Each is taken times 2^20 and truncated toward zero. The rules stand in specs/Values and
-// specs/Reports; the code goes by a float's bits, specs/Floats.
+// specs/Reports; the code uses a float's bits, specs/Floats.
 use answer::FLOAT;
 use vector::Vec3;
 use vector::VectorOf;
@@ -16,8 +16,8 @@ ghost use Rattle.mount.specs.Reports.{threeOf};
 
 // ---- a component
 
-// Each component is multiplied by 2 to this power.
-const PLACES: u64 = 20;
+// A component is multiplied by 2 to the power of this.
+const SCALE_BITS: u64 = 20;
 
 // The width of a float: how many of its bits are the exponent's, and how many the fraction's.
 pub struct Width {
@@ -61,10 +61,10 @@ fn component(bits: u64, w: Width) -> ComponentOf
         return ComponentOf::Refused(FLOAT);
     }
     let field = size / unit;
-    if field + PLACES < bias {
+    if field + SCALE_BITS < bias {
         return ComponentOf::Gives(0);
     }
-    let n = (unit + size % unit) >> (bias + f - PLACES - field);
+    let n = (unit + size % unit) >> (bias + f - SCALE_BITS - field);
     ComponentOf::Gives(with_sign(sign <= bits, n))
 }
 
@@ -122,7 +122,7 @@ pub enum Report {
 }
 
 // The pointing of three components, or the first refusal among them.
-fn joined(x: ComponentOf, y: ComponentOf, z: ComponentOf) -> VectorOf
+fn three_of(x: ComponentOf, y: ComponentOf, z: ComponentOf) -> VectorOf
     ensures { λ r. ⌜ vectorGiven r ≡ threeOf (componentGiven x) (componentGiven y) (componentGiven z) ⌝ }
 {
     match x {
@@ -142,7 +142,7 @@ pub fn pointing(report: Report) -> VectorOf
     ensures { λ r. ⌜ vectorGiven r ≡ reports.pointing report ⌝ }
 {
     match report {
-        Report::Single(s) => joined(of_single(s.x), of_single(s.y), of_single(s.z)),
-        Report::Double(d) => joined(of_double(d.x), of_double(d.y), of_double(d.z)),
+        Report::Single(s) => three_of(of_single(s.x), of_single(s.y), of_single(s.z)),
+        Report::Double(d) => three_of(of_double(d.x), of_double(d.y), of_double(d.z)),
     }
 }

@@ -1,4 +1,4 @@
--- A halfspace that was added passed its checks: there was room, its direction is a vector and its offset is within ±K. Assumes nothing.
+-- A halfspace that was added passed its checks: the region was below its limits, the direction is a vector and the offset is within ±K. Assumes nothing.
 use Prim.Native.Nat.{_<_}
 use mathlib.Core.Path.{_≡_}
 use mathlib.Core.Bool.{true}
@@ -13,14 +13,16 @@ use Rattle.region.specs.declared.Halfspace.{Halfspace}
 use Rattle.region.specs.Regions.{Region}
 use Rattle.region.specs.Building.{isOffset, lastConvex, total, withHalfspace, belowLimits, add}
 
-pub record Fine (h : Halfspace) : Type 0 where
+-- the direction is a vector, and the offset is within ±K
+pub record GoodHalfspace (h : Halfspace) : Type 0 where
   pub vector : isVector (h .n) ≡ true
   pub offset : isOffset (h .d) ≡ true
 
+-- adding h to g gives r
 pub record Added (g r : Region) (h : Halfspace) : Type 0 where
-  pub fine : Fine h
-  pub room : length (lastConvex g) < 100
-  pub all : total g < 512
+  pub good : GoodHalfspace h
+  pub in-convex : length (lastConvex g) < 100
+  pub in-all : total g < 512
   pub is : withHalfspace g h ≡ r
 
 pub added : (g r : Region) (h : Halfspace) → add g h ≡ gives r → Added g r h
@@ -33,8 +35,8 @@ added g r h e =
     let v = check-gives Crowd (belowLimits g) vector r e in
     let o = check-gives Vector (isVector (h .n)) offset r v in
     record {
-      fine = record { vector = check-passed Vector (isVector (h .n)) offset r v; offset = check-passed Offset (isOffset (h .d)) last r o };
-      room = ltb-true (length (lastConvex g)) 100 (and-left (ltb (length (lastConvex g)) 100) (ltb (total g) 512) m);
-      all = ltb-true (total g) 512 (and-right (ltb (length (lastConvex g)) 100) (ltb (total g) 512) m);
+      good = record { vector = check-passed Vector (isVector (h .n)) offset r v; offset = check-passed Offset (isOffset (h .d)) last r o };
+      in-convex = ltb-true (length (lastConvex g)) 100 (and-left (ltb (length (lastConvex g)) 100) (ltb (total g) 512) m);
+      in-all = ltb-true (total g) 512 (and-right (ltb (length (lastConvex g)) 100) (ltb (total g) 512) m);
       is = same-value (withHalfspace g h) r (check-gives Offset (isOffset (h .d)) last r o);
     }

@@ -1,4 +1,4 @@
--- Writer and reader, and the conversions, one after the other on the same bytes and rows, from the theorems over the definitions. Assumes nothing.
+-- Writer and reader, and the conversions, called one after the other on the same bytes and rows: by the laws of the rules. Assumes nothing.
 use Prim.Native.Nat.{ℕ, _*_, _≤_, _/_}
 use native.Mathlib.Omega.{arith}
 use mathlib.Core.Path.{_≡_, refl, sym, ap, subst, _∙_}

@@ -1,4 +1,4 @@
--- Which of two checks comes first, where no other law has both faults. Document 01, 'What is sent back'. Assumes nothing.
+-- Which of two checks comes first, where an input has two faults and no other law decides. Document 01, 'What is sent back'. Assumes nothing.
 --   empty-before-crowd    a convex that begins after an empty one is 4, whatever the count of convexes: never 7
 --   empty-refused         so is every file from that record on; sixty-fifth: the 65th convex, by computing
 --   fives-before-rows     a row list that is not in whole fives is 4 in both styles, whatever its rows are: never 7, 8 or 9
@@ -16,7 +16,7 @@ use Rattle.region.specs.declared.Record.{Record}
 use Rattle.region.specs.declared.Style.{Style}
 use Rattle.region.specs.Regions.{Convex}
 use Rattle.region.specs.Budgets.{isBudget}
-use Rattle.region.specs.Building.{lastConvex, total, withHalfspace, begun, filled, add}
+use Rattle.region.specs.Building.{lastConvex, total, withHalfspace, begun, lastFilled, add}
 use Rattle.region.specs.Records.{Styles, fits}
 use Rattle.region.specs.Reader.{File, recordAt, header, convexIn, recordIn, recordsIn, read}
 use Rattle.region.specs.Rows.{regionOf}
@@ -24,7 +24,7 @@ use Rattle.region.specs.Writer.{headerBytes, convexBytes, halfspacesByte
 
 -- ---- a convex after an empty one
 
-module _ (x : File) (has-convex : begun (x .region) ≡ true) (is-empty : filled (x .region) ≡ false) where
+module _ (x : File) (has-convex : begun (x .region) ≡ true) (is-empty : lastFilled (x .region) ≡ false) where
   pub empty-before-crowd : convexIn x ≡ refused Order
   empty-before-crowd = rw has-convex (rw is-empty)
 

@@ -1,5 +1,5 @@
--- Conversions keep what a file says and come back to the same bytes: what an accepted file says is within all limits, so it may be written in either style,
--- what is written is accepted, and an accepted file is the only one of its style that says the same. Assumes nothing.
+-- Conversions keep what a file says, and converting back gives the same bytes: what an accepted file says is within all limits, so it may be written in either
+-- style, what is written is accepted, and an accepted file is the only one of its style that says the same. Assumes nothing.
 use Prim.Native.Nat.{ℕ}
 use mathlib.Core.Path.{_≡_, refl, sym, ap, subst, _∙_}
 use mathlib.Core.Bool.{false, cond, true}
@@ -21,7 +21,7 @@ use Rattle.region.specs.Converting.{inStyle, convert, AsItIs}
 use Rattle.region.proofs.ReaderLaws.{read-depth, read-budget}
 use Rattle.region.proofs.StyleLaws.{same-style, style-itself}
 use Rattle.region.proofs.ReadBack.{read-back}
-use Rattle.region.proofs.RowsBack.{accepted-rows, accepted-limited}
+use Rattle.region.proofs.RowsBack.{accepted-rows, accepted-within-limits}
 use Rattle.region.proofs.FileBack.{read-file}
 use Rattle.region.specs.Bytes.{areBytes}
 use Rattle.vector.specs.declared.Vec3.{Vec3}
@@ -32,7 +32,7 @@ anew s x = fileIn s (x .depth) (x .budget) (x .region)
 
 -- what an accepted file says, written in either style, is accepted and says the same
 pub said-anew : (s : Style) (f : List ℕ) (x : File) → Accepted f x → AcceptedIn s (anew s x) x
-said-anew s f x a = read-back s (x .depth) (x .budget) (x .region) (read-depth f x a) (read-budget f x a) (accepted-limited f x a)
+said-anew s f x a = read-back s (x .depth) (x .budget) (x .region) (read-depth f x a) (read-budget f x a) (accepted-within-limits f x a)
 
 -- ---- what is given
 

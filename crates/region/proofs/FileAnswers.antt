@@ -1,5 +1,5 @@
--- What a call answers and leaves in the list that it is lent, where it has a file to write: the file's refusal, 10 where the list is shorter than the file, or
--- the file's length, and the file at the list's beginning. Assumes nothing.
+-- A call that writes a file answers the refusal of the file, 10 where the lent list is shorter than the file, or the file's length. Only in the last case it
+-- writes: the file, at the list's beginning. Assumes nothing.
 use Prim.Native.Nat.{ℕ, _≤_, _<_}
 use mathlib.Core.Path.{_≡_, sym, ap, _∙_}
 use mathlib.Core.List.{List}
@@ -9,7 +9,7 @@ use Rattle.answer.specs.Answer.{Answer, refused, gives, check, with-value, Spac
 use Rattle.answer.specs.Lent.{put, stored, room}
 use Rattle.region.specs.Answers.{fileInto, fileAnswer, fileAfter}
 
--- a is what the call answers that writes the file w, or its refusal, to the list `before`, and xs is that list afterwards
+-- the call that writes w, a file or its refusal, to the list `before` answers a and leaves xs
 abbrev pub Answered : Answer (List ℕ) → List ℕ → Answer ℕ → List ℕ → Type 0
 Answered w before a xs = (a ≡ fileAnswer w before) × (xs ≡ fileAfter w before)
 

@@ -248,7 +248,7 @@ abbrev SaidOnly : List ℕ → Style → Styles → List ℕ → File → Type 0
 SaidOnly f s k rest x = (k ≡ Styles.only s) × Said f s rest x
 
 module _ (f : List ℕ) (s t : Style) (k : Styles) (n : ℕ) (rest : List ℕ) (x z : File) where
-  -- what a record of the style t does, it does in a file of the style s, which is the same
+  -- a record of the style t in a file of the style s: the styles are the same
   in-only : (r : Record) → fits (Styles.only s) r ≡ sameStyle s t → fits k r ≡ true → (Said f t rest x → Said f t (after rest) z) → SaidOnly f s k rest x
       → SaidOnly f s (stylesAfter k n) (after rest) z
   in-only r own fit more m =

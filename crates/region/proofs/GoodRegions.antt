@@ -11,8 +11,8 @@ use Rattle.region.specs.declared.Halfspace.{Halfspace}
 use Rattle.region.specs.Regions.{Convex, Region}
 use Rattle.region.specs.Building.{isOffset}
 use Rattle.region.specs.Reader.{File, Accepted}
-use Rattle.region.proofs.ReadBack.{AllFine, AllFull}
-use Rattle.region.proofs.RowsBack.{accepted-limited}
+use Rattle.region.proofs.ReadBack.{GoodConvex, GoodConvexes}
+use Rattle.region.proofs.RowsBack.{accepted-within-limits}
 
 abbrev pub goodHalfspace : Halfspace → Bool
 goodHalfspace h = isVector (h .n) && isOffset (h .d)
@@ -23,15 +23,15 @@ goodConvex c = every goodHalfspace c
 unfoldable pub good : Region → Bool
 good g = every goodConvex g
 
-fine-good : (c : Convex) → AllFine c → goodConvex c ≡ true
+good-convex : (c : Convex) → GoodConvex c → goodConvex c ≡ true
 unfolding goodConvex every
-fine-good [] f = refl
-fine-good (h ∷ c) f = and-both (and-both (f .0 .vector) (f .0 .offset)) (fine-good c (f .1))
+good-convex [] f = refl
+good-convex (h ∷ c) f = and-both (and-both (f .0 .vector) (f .0 .offset)) (good-convex c (f .1))
 
-full-good : (g : Region) → AllFull g → good g ≡ true
+good-convexes : (g : Region) → GoodConvexes g → good g ≡ true
 unfolding good every
-full-good [] f = refl
-full-good (c ∷ g) f = and-both (fine-good c (f .0)) (full-good g (f .3))
+good-convexes [] f = refl
+good-convexes (c ∷ g) f = and-both (good-convex c (f .0)) (good-convexes g (f .3))
 
 pub accepted-good : (f : List ℕ) (x : File) → Accepted f x → good (x .region) ≡ true
-accepted-good f x a = full-good (x .region) (accepted-limited f x a .full)
+accepted-good f x a = good-convexes (x .region) (accepted-within-limits f x a .good)

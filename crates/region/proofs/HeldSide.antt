@@ -1,4 +1,4 @@
--- What is strictly above the plane of a halfspace is held, and what is strictly below it is not: whoever compares goes by these two laws. A point on
+-- What is strictly above the plane of a halfspace is held, and what is strictly below it is not: other proofs use only these two laws. A point on
 -- the plane is held (document 02, F-5): so the halfspace with d = −K holds the point opposite to its direction, two opposite halfspaces with opposite
 -- offsets both hold every point of their plane, and every point is held by at least one of them. Assumes nothing.
 use mathlib.Core.Path.{_≡_, refl, sym, subst, subst₂}

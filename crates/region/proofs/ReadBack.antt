@@ -22,12 +22,12 @@ use Rattle.region.specs.declared.Record.{Record}
 use Rattle.region.specs.declared.Style.{Style}
 use Rattle.region.specs.Regions.{Convex, Region}
 use Rattle.region.specs.Budgets.{isBudget}
-use Rattle.region.specs.Building.{isOffset, lastConvex, total, withConvex, withHalfspace, begun, filled, fewConvexes, add}
+use Rattle.region.specs.Building.{isOffset, lastConvex, total, withConvex, withHalfspace, begun, lastFilled, fewConvexes, add}
 use Rattle.region.specs.Bytes.{signedOf, signed, bitsOf, signedBytes}
 use Rattle.region.specs.Records.{firstOf, recordOf, Styles, fits}
 use Rattle.region.specs.Reader.{File, lengthOf, kindOf, payload, after, recordAt, headerIn, header, withRegion, convexIn, halfspaceOf, halfspaceIn, halfspacesOf, halfspacesIn, groupIn, partIn, recordIn, recordsIn, readIn, styleAt, AcceptedIn}
 use Rattle.region.specs.Writer.{headerBytes, convexBytes, numbersBytes, halfspaceBytes, endBytes, halfspacesBytes, convexesBytes, payloadBytes, groupBytes, groupsBytes, regionBytes, fileIn}
-use Rattle.region.proofs.AddLaws.{Fine}
+use Rattle.region.proofs.AddLaws.{GoodHalfspace}
 use Rattle.region.proofs.StyleLaws.{in-style}
 
 -- ---- numbers
@@ -50,7 +50,7 @@ signed-back z rest h = ap signedOf (four-bytes (bitsOf z)) ∙ signed-bits z h
 
 -- ---- a halfspace's record
 
-halfspace-back : (h : Halfspace) (rest : List ℕ) → Fine h → halfspaceOf (numbersBytes h ++ rest) ≡ h
+halfspace-back : (h : Halfspace) (rest : List ℕ) → GoodHalfspace h → halfspaceOf (numbersBytes h ++ rest) ≡ h
 halfspace-back h rest f =
     let b = vector-small (h .n) (f .vector) in
     let o = between-upto (h .d) (f .offset) in
@@ -103,11 +103,11 @@ begun-of g c = lt-ltb 0 (length (g ++ c ∷ [])) (omega (arith, length-append g 
 
 -- ---- a halfspace that passes
 
-abbrev pub AllFine : Convex → Type 0
-AllFine [] = Unit {0}
-AllFine (h ∷ hs) = Fine h × AllFine hs
+abbrev pub GoodConvex : Convex → Type 0
+GoodConvex [] = Unit {0}
+GoodConvex (h ∷ hs) = GoodHalfspace h × GoodConvex hs
 
-add-passes : (g : Region) (c : Convex) (h : Halfspace) → Fine h → length c < 100 → total g + length c < 512 → add (g ++ c ∷ []) h ≡ gives (g ++ (c ++ h ∷ []) ∷ [])
+add-passes : (g : Region) (c : Convex) (h : Halfspace) → GoodHalfspace h → length c < 100 → total g + length c < 512 → add (g ++ c ∷ []) h ≡ gives (g ++ (c ++ h ∷ []) ∷ [])
 unfolding add
 add-passes g c h f l t =
     let a : ltb (length (lastConvex (g ++ c ∷ []))) 100 ≡ true = ap (λ x. ltb (length x) 100) (last-of g c) ∙ lt-ltb (length c) 100 l in
@@ -117,25 +117,25 @@ add-passes g c h f l t =
     ∙ ap (λ u. check Offset u (gives (withHalfspace (g ++ c ∷ []) h))) (f .offset)
     ∙ ap gives (with-last g c h)
 
-halfspace-taken : (d b : ℕ) (g : Region) (c : Convex) (h : Halfspace) → Fine h → length c < 100 → total g + length c < 512
+halfspace-taken : (d b : ℕ) (g : Region) (c : Convex) (h : Halfspace) → GoodHalfspace h → length c < 100 → total g + length c < 512
     → halfspaceIn (file d b (g ++ c ∷ [])) h ≡ gives (file d b (g ++ (c ++ h ∷ []) ∷ []))
 halfspace-taken d b g c h f l t =
     ap (λ u. check Order u (with-value (withRegion (file d b (g ++ c ∷ []))) (add (g ++ c ∷ []) h))) (begun-of g c)
     ∙ ap (with-value (withRegion (file d b (g ++ c ∷ [])))) (add-passes g c h f l t)
 
-halfspace-step : (d b : ℕ) (g : Region) (c : Convex) (h : Halfspace) (rest : List ℕ) → Fine h → length c < 100 → total g + length c < 512
+halfspace-step : (d b : ℕ) (g : Region) (c : Convex) (h : Halfspace) (rest : List ℕ) → GoodHalfspace h → length c < 100 → total g + length c < 512
     → recordIn plain (file d b (g ++ c ∷ [])) (halfspaceBytes h ++ rest) ≡ gives (file d b (g ++ (c ++ h ∷ []) ∷ []))
 halfspace-step d b g c h rest f l t =
     in-record (halfspaceBytes h ++ rest) Record.Halfspace (omega arith) (omega arith) refl plain (file d b (g ++ c ∷ [])) refl
     ∙ ap (halfspaceIn (file d b (g ++ c ∷ []))) (halfspace-back h [] f)
     ∙ halfspace-taken d b g c h f l t
 
--- n records more than the list is long
+-- the number n plus one step for each element
 abbrev steps : {A : Type 0} → List A → ℕ → ℕ
 steps [] n = n
 steps (x ∷ xs) n = suc (steps xs n)
 
-halfspaces-in : (n d b : ℕ) (g : Region) (c hs : Convex) (tail : List ℕ) → AllFine hs → length c + length hs ≤ 100 → total g + length c + length hs ≤ 512
+halfspaces-in : (n d b : ℕ) (g : Region) (c hs : Convex) (tail : List ℕ) → GoodConvex hs → length c + length hs ≤ 100 → total g + length c + length hs ≤ 512
     → recordsIn plain (steps hs n) (file d b (g ++ c ∷ [])) (halfspacesBytes hs ++ tail) ≡ recordsIn plain n (file d b (g ++ (c ++ hs) ∷ [])) tail
 unfolding halfspacesBytes recordsIn
 halfspaces-in n d b g c [] tail f l t = ap (λ x. recordsIn plain n (file d b (g ++ x ∷ [])) tail) (sym (append-nil c))
@@ -147,14 +147,14 @@ halfspaces-in n d b g c (h ∷ hs) tail f l t =
 
 -- ---- convexes
 
--- every convex has 1 to 100 halfspaces, all of them fine
-abbrev pub AllFull : Region → Type 0
-AllFull [] = Unit {0}
-AllFull (c ∷ cs) = AllFine c × (1 ≤ length c) × (length c ≤ 100) × AllFull cs
+-- every convex has 1 to 100 halfspaces, all of them good
+abbrev pub GoodConvexes : Region → Type 0
+GoodConvexes [] = Unit {0}
+GoodConvexes (c ∷ cs) = GoodConvex c × (1 ≤ length c) × (length c ≤ 100) × GoodConvexes cs
 
--- the region so far takes a convex
+-- a new convex may begin
 abbrev closed : Region → Bool
-closed g = cond (begun g) (filled g) true
+closed g = cond (begun g) (lastFilled g) true
 
 convex-taken : (d b : ℕ) (g : Region) → closed g ≡ true → length g < 64 → convexIn (file d b g) ≡ gives (file d b (withConvex g))
 convex-taken d b g c l =
@@ -166,17 +166,17 @@ convex-step : (d b : ℕ) (g : Region) (rest : List ℕ) → closed g ≡ true �
 convex-step d b g rest c l =
     in-record (convexBytes ++ rest) Record.Convex (omega arith) (omega arith) refl plain (file d b g) refl ∙ convex-taken d b g c l
 
-filled-of : (g : Region) (c : Convex) → 1 ≤ length c → filled (g ++ c ∷ []) ≡ true
+filled-of : (g : Region) (c : Convex) → 1 ≤ length c → lastFilled (g ++ c ∷ []) ≡ true
 filled-of g c h = ap (λ x. ltb 0 (length x)) (last-of g c) ∙ lt-ltb 0 (length c) h
 
 closed-of : (g : Region) (c : Convex) → 1 ≤ length c → closed (g ++ c ∷ []) ≡ true
-closed-of g c h = ap (λ t. cond t (filled (g ++ c ∷ [])) true) (begun-of g c) ∙ filled-of g c h
+closed-of g c h = ap (λ t. cond t (lastFilled (g ++ c ∷ [])) true) (begun-of g c) ∙ filled-of g c h
 
 abbrev allSteps : Region → ℕ → ℕ
 allSteps [] n = n
 allSteps (c ∷ cs) n = suc (steps c (allSteps cs n))
 
-convexes-in : (n d b : ℕ) (g cs : Region) (tail : List ℕ) → closed g ≡ true → AllFull cs → length g + length cs ≤ 64 → total g + total cs ≤ 512
+convexes-in : (n d b : ℕ) (g cs : Region) (tail : List ℕ) → closed g ≡ true → GoodConvexes cs → length g + length cs ≤ 64 → total g + total cs ≤ 512
     → recordsIn plain (allSteps cs n) (file d b g) (convexesBytes cs ++ tail) ≡ recordsIn plain n (file d b (g ++ cs)) tail
 unfolding convexesBytes recordsIn total
 convexes-in n d b g [] tail k f l t = ap (λ x. recordsIn plain n (file d b x) tail) (sym (append-nil g))
@@ -196,7 +196,7 @@ unfolding payloadBytes
 payload-length [] = refl
 payload-length (h ∷ c) = omega (arith, payload-length c)
 
-payload-back : (c : Convex) → AllFine c → halfspacesOf (length c) (payloadBytes c) ≡ c
+payload-back : (c : Convex) → GoodConvex c → halfspacesOf (length c) (payloadBytes c) ≡ c
 unfolding payloadBytes halfspacesOf
 payload-back [] f = refl
 payload-back (h ∷ c) f = ap₂ (λ x y. x ∷ y) (halfspace-back h (payloadBytes c) (f .0)) (payload-back c (f .1))
@@ -206,7 +206,7 @@ group-known n low high =
     let q : (4 + 16 * n - 4) / 16 ≡ n = omega arith in
     ap (λ m. firstOf 5 (4 + 16 * n) (Record.Group m ∷ [])) q ∙ rw (le-leb 1 n low, le-leb n 100 high, eq-eqb (4 + 16 * n) (4 + 16 * n) refl)
 
-halfspaces-taken : (d b : ℕ) (g : Region) (c hs : Convex) → AllFine hs → length c + length hs ≤ 100 → total g + length c + length hs ≤ 512
+halfspaces-taken : (d b : ℕ) (g : Region) (c hs : Convex) → GoodConvex hs → length c + length hs ≤ 100 → total g + length c + length hs ≤ 512
     → halfspacesIn (file d b (g ++ c ∷ [])) hs ≡ gives (file d b (g ++ (c ++ hs) ∷ []))
 unfolding halfspacesIn
 halfspaces-taken d b g c [] f l t = ap (λ x. gives (file d b (g ++ x ∷ []))) (sym (append-nil c))
@@ -235,7 +235,7 @@ module _ (c : Convex) (rest : List ℕ) (low : 1 ≤ length c) (high : length c 
   group-after : after (groupBytes c ++ rest) ≡ rest
   group-after = drop-at (groupBytes c) rest (lengthOf (groupBytes c ++ rest)) (omega (arith, group-size, payload-length c))
 
-  group-step : (d b : ℕ) (g : Region) → AllFine c → closed g ≡ true → length g < 64 → total g + length c ≤ 512
+  group-step : (d b : ℕ) (g : Region) → GoodConvex c → closed g ≡ true → length g < 64 → total g + length c ≤ 512
       → recordIn grouped (file d b g) (groupBytes c ++ rest) ≡ gives (file d b (g ++ c ∷ []))
   group-step d b g f k l t =
       let x = file d b g in
@@ -247,7 +247,7 @@ module _ (c : Convex) (rest : List ℕ) (low : 1 ≤ length c) (high : length c 
       ∙ ap (λ u. check Crowd u (halfspacesIn (file d b (withConvex g)) c)) (le-leb (total (withConvex g) + length c) 512 (omega (arith, total-of g [])))
       ∙ halfspaces-taken d b g [] c f (omega arith) (omega arith)
 
-groups-in : (n d b : ℕ) (g cs : Region) (tail : List ℕ) → closed g ≡ true → AllFull cs → length g + length cs ≤ 64 → total g + total cs ≤ 512
+groups-in : (n d b : ℕ) (g cs : Region) (tail : List ℕ) → closed g ≡ true → GoodConvexes cs → length g + length cs ≤ 64 → total g + total cs ≤ 512
     → recordsIn grouped (steps cs n) (file d b g) (groupsBytes cs ++ tail) ≡ recordsIn grouped n (file d b (g ++ cs)) tail
 unfolding groupsBytes recordsIn total
 groups-in n d b g [] tail k f l t = ap (λ x. recordsIn grouped n (file d b x) tail) (sym (append-nil g))
@@ -267,13 +267,13 @@ abbrev stepsIn : Style → Region → ℕ → ℕ
 stepsIn Style.Plain g n = allSteps g n
 stepsIn Style.Grouped g n = steps g n
 
-region-in : (s : Style) (n d b : ℕ) (g : Region) (tail : List ℕ) → AllFull g → length g ≤ 64 → total g ≤ 512
+region-in : (s : Style) (n d b : ℕ) (g : Region) (tail : List ℕ) → GoodConvexes g → length g ≤ 64 → total g ≤ 512
     → recordsIn (Styles.only s) (stepsIn s g n) (file d b []) (regionBytes s g ++ tail) ≡ recordsIn (Styles.only s) n (file d b g) tail
 unfolding total
 region-in Style.Plain n d b g tail f l t = convexes-in n d b [] g tail refl f (omega arith) (omega arith)
 region-in Style.Grouped n d b g tail f l t = groups-in n d b [] g tail refl f (omega arith) (omega arith)
 
-style-back : (s : Style) (g : Region) (tail : List ℕ) → AllFull g → 1 ≤ length g → styleAt (recordAt (regionBytes s g ++ tail)) ≡ s
+style-back : (s : Style) (g : Region) (tail : List ℕ) → GoodConvexes g → 1 ≤ length g → styleAt (recordAt (regionBytes s g ++ tail)) ≡ s
 unfolding convexesBytes groupsBytes
 style-back s [] tail f l = absurd (omega arith)
 style-back Style.Plain (c ∷ cs) tail f l =
@@ -283,7 +283,7 @@ style-back Style.Grouped (c ∷ cs) tail f l =
 
 -- ---- the end
 
-end-step : (s : Style) (d b n : ℕ) (g : Region) → begun g ≡ true → filled g ≡ true
+end-step : (s : Style) (d b n : ℕ) (g : Region) → begun g ≡ true → lastFilled g ≡ true
     → recordsIn (Styles.only s) (suc n) (file d b g) endBytes ≡ gives (file d b g)
 unfolding recordsIn recordIn
 end-step s d b n g k f = ap (λ a. then a (λ y. gives y)) (ap (λ t. check Order t (gives (file d b g))) (and-both k (and-both f refl)))
@@ -334,43 +334,43 @@ all-steps (c ∷ cs) n = omega (arith, steps-add c (allSteps cs n), all-steps cs
 
 -- ---- the whole file
 
-last-full : (g : Region) → AllFull g → 1 ≤ length g → filled g ≡ true
+last-filled : (g : Region) → GoodConvexes g → 1 ≤ length g → lastFilled g ≡ true
 unfolding lastConvex
-last-full [] f h = absurd (omega arith)
-last-full (c ∷ []) f h = lt-ltb 0 (length c) (f .1)
-last-full (c ∷ d ∷ cs) f h = last-full (d ∷ cs) (f .3) (omega arith)
+last-filled [] f h = absurd (omega arith)
+last-filled (c ∷ []) f h = lt-ltb 0 (length c) (f .1)
+last-filled (c ∷ d ∷ cs) f h = last-filled (d ∷ cs) (f .3) (omega arith)
 
-pub record Limited (g : Region) : Type 0 where
-  pub full : AllFull g
+pub record WithinLimits (g : Region) : Type 0 where
+  pub good : GoodConvexes g
   pub some : 1 ≤ length g
   pub convexes : length g ≤ 64
   pub halfspaces : total g ≤ 512
 
 -- a file is short enough, and has more bytes than records
-room-for : (s : Style) (d b : ℕ) (g : Region) → Limited g → (length (fileIn s d b g) ≤ 10508) × (n : ℕ) × (length (fileIn s d b g) ≡ stepsIn s g (suc n))
-room-for Style.Plain d b g w =
+file-fits : (s : Style) (d b : ℕ) (g : Region) → WithinLimits g → (length (fileIn s d b g) ≤ 10508) × (n : ℕ) × (length (fileIn s d b g) ≡ stepsIn s g (suc n))
+file-fits Style.Plain d b g w =
     let n : ℕ = length (fileIn Style.Plain d b g) - (length g + total g) - 1 in
     let l = file-length d b g in
     (omega (arith, w), n, omega (arith, all-steps g (suc n)))
-room-for Style.Grouped d b g w =
+file-fits Style.Grouped d b g w =
     let n : ℕ = length (fileIn Style.Grouped d b g) - length g - 1 in
     let l = grouped-length d b g in
     (omega (arith, w), n, omega (arith, steps-add g (suc n)))
 
-pub read-back : (s : Style) (d b : ℕ) (g : Region) → isDepth d ≡ true → isBudget b ≡ true → Limited g → AcceptedIn s (fileIn s d b g) (file d b g)
+pub read-back : (s : Style) (d b : ℕ) (g : Region) → isDepth d ≡ true → isBudget b ≡ true → WithinLimits g → AcceptedIn s (fileIn s d b g) (file d b g)
 unfolding fileIn
 read-back s d b g t u w =
     let f = fileIn s d b g in
     let rest = regionBytes s g ++ endBytes in
     let k = Styles.only s in
-    let r = room-for s d b g w in
-    let style = style-back s g endBytes (w .full) (w .some) in (
+    let r = file-fits s d b g w in
+    let style = style-back s g endBytes (w .good) (w .some) in (
       style,
       in-style f
           ∙ ap (λ t. readIn (Styles.only t) f) style
           ∙ ap (λ x. check Long x (then (header f) (λ z. recordsIn k (length f) z (after f)))) (le-leb (length f) 10508 (r .0))
           ∙ ap (λ a. then a (λ z. recordsIn k (length f) z (after f))) (header-step d b rest t u)
           ∙ ap (λ n. recordsIn k n (file d b []) rest) (r .2)
-          ∙ region-in s (suc (r .1)) d b g endBytes (w .full) (w .convexes) (w .halfspaces)
-          ∙ end-step s d b (r .1) g (lt-ltb 0 (length g) (w .some)) (last-full g (w .full) (w .some)),
+          ∙ region-in s (suc (r .1)) d b g endBytes (w .good) (w .convexes) (w .halfspaces)
+          ∙ end-step s d b (r .1) g (lt-ltb 0 (length g) (w .some)) (last-filled g (w .good) (w .some)),
     )

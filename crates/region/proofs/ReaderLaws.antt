@@ -1,6 +1,6 @@
--- What an accepted file fulfils. The header's checks passed, and no later record changes the header; what a convex more and a halfspace more
--- keep, the whole file keeps. And the bound on the number of records plays no part: a record has four bytes or more, and where no byte is left
--- the file is torn anyway. Assumes nothing.
+-- What holds of an accepted file. The header's checks passed, and no later record changes the header. What a new convex and a new halfspace keep, the whole
+-- file keeps. The bound on the number of records plays no part: a record has four bytes or more, and where no byte is left the file is torn anyway.
+-- Assumes nothing.
 use Prim.Native.Nat.{ℕ, zero, suc, _+_, _≤_}
 use native.Mathlib.Omega.{arith}
 use mathlib.Core.Path.{_≡_, refl, sym, subst}
@@ -16,7 +16,7 @@ use Rattle.vector.specs.Numbers.{isDepth}
 use Rattle.region.specs.declared.Halfspace.{Halfspace}
 use Rattle.region.specs.Regions.{Convex, Region}
 use Rattle.region.specs.Budgets.{isBudget}
-use Rattle.region.specs.Building.{mostInAll, total, withConvex, begun, filled, fewConvexes, add}
+use Rattle.region.specs.Building.{mostInAll, total, withConvex, begun, lastFilled, fewConvexes, add}
 use Rattle.region.specs.Bytes.{word}
 use Rattle.region.specs.declared.Record.{Record}
 use Rattle.region.specs.Records.{kind, size, allowed, is, firstOf, known, Styles, fits, stylesAfter}
@@ -87,27 +87,27 @@ header-says f x e =
 -- ---- the end
 
 abbrev pub Closed : Region → Type 0
-Closed g = (begun g ≡ true) × (filled g ≡ true)
+Closed g = (begun g ≡ true) × (lastFilled g ≡ true)
 
 pub end-says : (x y : File) (following : List ℕ) → endIn x following ≡ gives y → Closed (x .region) × (length following ≡ 0) × (x ≡ y)
 end-says x y following e =
     let g = x .region in
     let none = eqb (length following) 0 in
-    let all = begun g && (filled g && none) in
+    let all = begun g && (lastFilled g && none) in
     let t = check-passed Order all (gives x) y e in
-    let u = and-right (begun g) (filled g && none) t in
-    ((and-left (begun g) _ t, and-left (filled g) none u), eqb-true (length following) 0 (and-right (filled g) none u), same-value x y (check-gives Order all (gives x) y e))
+    let u = and-right (begun g) (lastFilled g && none) t in
+    ((and-left (begun g) _ t, and-left (lastFilled g) none u), eqb-true (length following) 0 (and-right (lastFilled g) none u), same-value x y (check-gives Order all (gives x) y e))
 
 -- ---- a convex
 
 pub convex-says : (x y : File) → convexIn x ≡ gives y
-    → (cond (begun (x .region)) (filled (x .region)) true ≡ true) × (fewConvexes (withConvex (x .region)) ≡ true) × (withRegion x (withConvex (x .region)) ≡ y)
+    → (cond (begun (x .region)) (lastFilled (x .region)) true ≡ true) × (fewConvexes (withConvex (x .region)) ≡ true) × (withRegion x (withConvex (x .region)) ≡ y)
 convex-says x y e =
     let g = x .region in
     let more = withRegion x (withConvex g) in
     let few = fewConvexes (withConvex g) in
-    let a = check-gives Order (cond (begun g) (filled g) true) (check Crowd few (gives more)) y e in
-    (check-passed Order (cond (begun g) (filled g) true) _ y e, check-passed Crowd few (gives more) y a, same-value more y (check-gives Crowd few (gives more) y a))
+    let a = check-gives Order (cond (begun g) (lastFilled g) true) (check Crowd few (gives more)) y e in
+    (check-passed Order (cond (begun g) (lastFilled g) true) _ y e, check-passed Crowd few (gives more) y a, same-value more y (check-gives Crowd few (gives more) y a))
 
 -- ---- a group: a convex, then its halfspaces
 
@@ -177,10 +177,10 @@ accepted-headed f x e =
     let w = then-gives (header f) (λ z. recordsIn Styles.either (length f) z (after f)) x (check-gives Long (leb (length f) 10508) _ x e) in
     header-read f (w .0) (w .1) .0
 
--- ---- what one convex more and one halfspace more keep
+-- ---- what a new convex and a new halfspace keep
 
 module _ (P : File → Type 0)
-    (convex : (x : File) → (cond (begun (x .region)) (filled (x .region)) true ≡ true) × (fewConvexes (withConvex (x .region)) ≡ true) → P x → P (withRegion x (withConvex (x .region))))
+    (convex : (x : File) → (cond (begun (x .region)) (lastFilled (x .region)) true ≡ true) × (fewConvexes (withConvex (x .region)) ≡ true) → P x → P (withRegion x (withConvex (x .region))))
     (halfspace : (x : File) (g : Region) (h : Halfspace) → add (x .region) h ≡ gives g → P x → P (withRegion x g)) where
   convex-keeps : (x y : File) → convexIn x ≡ gives y → P x → P y
   convex-keeps x y e k = let w = convex-says x y e in subst P (w .2) (convex x (w .0, w .1) k)
@@ -213,7 +213,7 @@ module _ (P : File → Type 0)
   pub record-keeps : (k : Styles) (x y : File) (rest : List ℕ) → recordIn k x rest ≡ gives y → P x → P y
   record-keeps k x y rest e = let w = record-taken k x y rest e in part-keeps x y (w .0) (payload rest) (after rest) (w .3)
 
-  -- what is so of the header's file is so at the end
+  -- what holds after the header holds at the end
   pub header-kept : (f : List ℕ) (x : File) → Accepted f x → ((z : File) → header f ≡ gives z → P z) → P x
   header-kept = accepted-leads (λ k rest y. P y) P
       (λ k rest y z t b e. convex-keeps y z e) (λ k rest y z t b e. halfspace-keeps y z (halfspaceOf (payload rest)) e)

@@ -1,5 +1,5 @@
 -- A region grows at its end: what a new convex and a new halfspace do to the counts and to the rows. A reader that writes its rows one by one,
--- and keeps three counts, goes by these laws. Assumes nothing.
+-- and keeps three counts, uses these laws. Assumes nothing.
 use Prim.Native.Nat.{ℕ, suc, _+_, _-_, _*_, _<_}
 use native.Mathlib.Omega.{arith}
 use native.Mathlib.Nat.{add-zero}

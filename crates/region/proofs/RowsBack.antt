@@ -11,24 +11,24 @@ use borrow.Author.Tests.{ltb-true, lt-ltb, le-leb, eq-eqb, ne-eqb}
 use Rattle.answer.specs.Answer.{gives, then}
 use Rattle.region.specs.declared.Halfspace.{Halfspace}
 use Rattle.region.specs.Regions.{Region}
-use Rattle.region.specs.Building.{lastConvex, total, withConvex, withHalfspace, begun, filled, fewConvexes, add}
+use Rattle.region.specs.Building.{lastConvex, total, withConvex, withHalfspace, begun, lastFilled, fewConvexes, add}
 use Rattle.region.specs.Rows.{row, rowsFrom, rows, rowIn, rowsIn, regionOf}
 use Rattle.region.specs.Reader.{File, Accepted}
 use Rattle.region.proofs.RegionLaws.{convex-length, convex-last, rows-length}
 use Rattle.region.proofs.AddLaws.{added}
 use Rattle.region.proofs.ReaderLaws.{accepted-keeps, accepted-ends}
-use Rattle.region.proofs.ReadBack.{Limited}
-use Rattle.region.proofs.WriteBack.{Open, row-grown, open-of, region-back}
+use Rattle.region.proofs.ReadBack.{WithinLimits}
+use Rattle.region.proofs.WriteBack.{UpToLimits, row-grown, up-to-limits, region-back}
 
 -- the rows of g lead from no region to g, whatever rows follow
 pub record Leads (g : Region) : Type 0 where
-  pub within : Open g
+  pub within : UpToLimits g
   pub led : (m n : ℕ) (tail : List ℤ) → m ≡ total g + n → rowsIn m [] (rows g ++ tail) ≡ rowsIn n g tail
 
 leads-none : Leads []
 unfolding total rows rowsFrom
 leads-none = record {
-  within = record { full = tt; convexes = omega arith; halfspaces = omega arith };
+  within = record { good = tt; convexes = omega arith; halfspaces = omega arith };
   led = λ m n tail e. let q : m ≡ n = omega arith in ap (λ k. rowsIn k [] tail) q;
 }
 
@@ -38,7 +38,7 @@ leads-more g r k h l e =
     let w = row-grown g r (pos k) h (l .within) e in
     let t : total r ≡ total g + 1 = omega (arith, rows-length g, rows-length r, ap length (w .listed), length-append (rows g) (row k h)) in
     record {
-      within = open-of (w .limited);
+      within = up-to-limits (w .limited);
       led = λ m n tail q.
           ap (λ s. rowsIn m [] (s ++ tail)) (w .listed)
           ∙ ap (rowsIn m []) (append-assoc (rows g) (row k h) tail)
@@ -56,25 +56,25 @@ goes-on : (g : Region) (h : Halfspace) → 0 < length g → length g ≤ 64 → 
 unfolding rowIn
 goes-on g h b few = rw (ne-eqb (length g - 1) (length g) (λ e. omega arith), lt-ltb 0 (length g) b, eq-eqb (length g - 1 + 1) (length g) (omega arith), le-leb (length g) 64 few)
 
--- ---- the region read so far: its rows lead to it, or it has a last convex more, with no halfspace yet
+-- ---- the region read so far: its rows lead to it, or they lead to all but its last convex, which has no halfspace yet
 
 data Listed : Region → Type 0 where
-  full : (g : Region) → Leads g → Listed g
+  listed : (g : Region) → Leads g → Listed g
   fresh : (g : Region) → Leads g → fewConvexes (withConvex g) ≡ true → Listed (withConvex g)
 
 listed-none : Listed []
-listed-none = full [] leads-none
+listed-none = listed [] leads-none
 
-not-filled : (g : Region) → filled (withConvex g) ≡ true → ⊥
+not-filled : (g : Region) → lastFilled (withConvex g) ≡ true → ⊥
 not-filled g e = omega (arith, ltb-true 0 (length (lastConvex (withConvex g))) e, ap length (convex-last g))
 
-listed-convex : (g : Region) → Listed g → cond (begun g) (filled g) true ≡ true → fewConvexes (withConvex g) ≡ true → Listed (withConvex g)
-listed-convex g (full _ l) c few = fresh g l few
+listed-convex : (g : Region) → Listed g → cond (begun g) (lastFilled g) true ≡ true → fewConvexes (withConvex g) ≡ true → Listed (withConvex g)
+listed-convex g (listed _ l) c few = fresh g l few
 listed-convex _ (fresh g l few) c _ = absurd (not-filled g (rw (lt-ltb 0 (length (withConvex g)) (omega (arith, convex-length g))) at c))
 
 listed-halfspace : (g r : Region) (h : Halfspace) → Listed g → 0 < length g → add g h ≡ gives r → Listed r
-listed-halfspace g r h (full _ l) b e = full r (leads-more g r (length g - 1) h l (goes-on g h b (l .within .convexes) ∙ e))
-listed-halfspace _ r h (fresh g l few) b e = full r (leads-more g r (length g) h l (opens g h few ∙ e))
+listed-halfspace g r h (listed _ l) b e = listed r (leads-more g r (length g - 1) h l (goes-on g h b (l .within .convexes) ∙ e))
+listed-halfspace _ r h (fresh g l few) b e = listed r (leads-more g r (length g) h l (opens g h few ∙ e))
 
 listed-more : (g r : Region) (h : Halfspace) → Listed g → add g h ≡ gives r → Listed r
 unfolding withHalfspace
@@ -89,9 +89,9 @@ last-total [] = omega arith
 last-total (c ∷ []) = omega arith
 last-total (c ∷ d ∷ cs) = omega (arith, last-total (d ∷ cs))
 
-region-of-rows : (g : Region) → Listed g → filled g ≡ true → regionOf (rows g) ≡ gives g
+region-of-rows : (g : Region) → Listed g → lastFilled g ≡ true → regionOf (rows g) ≡ gives g
 unfolding regionOf rowsIn
-region-of-rows g (full _ l) f =
+region-of-rows g (listed _ l) f =
     let n = rows-length g in
     let p : 0 < length (rows g) = omega (arith, last-total g, ltb-true 0 (length (lastConvex g)) f) in
     rw (lt-ltb 0 (length (rows g)) p, eq-eqb (length (rows g) % 5) 0 (omega arith))
@@ -104,5 +104,5 @@ accepted-rows f x a =
     (λ y t l. listed-convex (y .region) l (t .0) (t .1)) (λ y g h e l. listed-more (y .region) g h l e) (λ y h. subst Listed (sym (h .region)) listed-none) f x a in
     region-of-rows (x .region) listed (accepted-ends f x a .1)
 
-pub accepted-limited : (f : List ℕ) (x : File) → Accepted f x → Limited (x .region)
-accepted-limited f x a = region-back (rows (x .region)) (x .region) (accepted-rows f x a) .0
+pub accepted-within-limits : (f : List ℕ) (x : File) → Accepted f x → WithinLimits (x .region)
+accepted-within-limits f x a = region-back (rows (x .region)) (x .region) (accepted-rows f x a) .0

@@ -41,7 +41,7 @@ module _ (n : ℕ) (x : File) (rest : List ℕ) where
   abbrev own : Answer Record → Styles
   own a = Styles.only (styleAt a)
 
-  -- a record goes on alike in a file of either style and in one of its own
+  -- the records from this one on give the same in a file of either style and in one of its own style only
   abbrev GoesOn : ℕ → Answer Record → Type 0
   GoesOn m a = then (then a (taken Styles.either)) (on m Styles.either) ≡ then (then a (taken (own a))) (on m (own a))
 

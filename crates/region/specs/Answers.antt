@@ -3,9 +3,9 @@
 -- `..Answer`, the values it gives; `..After`, the lent list afterwards, of the list before. A refusal leaves the list as it was.
 --   readInto readAnswer readAfter      the reader: count, depth and budget as written; the rows at the list's beginning
 --   fileInto fileAnswer fileAfter      a call that writes a file, by the file or its refusal: the file's length; the file at the list's beginning
---   writeAnswer writeAfter             the plain writer; the grouped one and the conversions go by `fileAnswer` and `fileAfter` of what they write
+--   writeAnswer writeAfter             the plain writer; the grouped one and the conversions have `fileAnswer` and `fileAfter` of what they write
 --   pointTest f p                      whether the region of the file f holds the point p
---   headerGiven r, heldGiven r         what the reader and the point test answered
+--   headerGiven r, heldGiven r         the answers of the reader and of the point test
 use Prim.Native.Nat.{ℕ}
 use mathlib.Core.Bool.{Bool}
 use mathlib.Core.List.{List}

@@ -1,12 +1,12 @@
 -- A region as it is read from a file or taken from rows: it grows at its end. Document 01, 'Regions', the stated limits, and 'What is sent back', 7 to 9.
 --   mostConvexes, mostInConvex, mostInAll   the limits: convexes, halfspaces in a convex, halfspaces in all
 --   lastConvex g, total g     the convex that halfspaces go to, and how many halfspaces there are in all
---   withConvex g              one convex more, with no halfspace yet
---   withHalfspace g h         one halfspace more, in the last convex
---   begun g, filled g         a convex has begun; the last convex has a halfspace
+--   withConvex g              g with a new convex at its end, which has no halfspace yet
+--   withHalfspace g h         g with the halfspace h at the end of its last convex
+--   begun g, lastFilled g     a convex has begun; the last convex has a halfspace
 --   fewConvexes g             at most 64 convexes
---   belowLimits g             one more makes at most 100 halfspaces in the last convex and at most 512 in all
---   add g h                   the region with the halfspace more: refusals 7, 8, 9
+--   belowLimits g             fewer than 100 halfspaces in the last convex and fewer than 512 in all, so a halfspace may be added
+--   add g h                   withHalfspace g h, or the first refusal: 7, 8, 9
 use Prim.Native.Nat.{ℕ, _+_}
 use mathlib.Core.Bool.{Bool, _&&_}
 use mathlib.Core.List.{[], _∷_, _++_}
@@ -48,8 +48,8 @@ withHalfspace (c ∷ d ∷ cs) h = c ∷ withHalfspace (d ∷ cs) h
 abbrev pub begun : Region → Bool
 begun g = ltb 0 (length g)
 
-abbrev pub filled : Region → Bool
-filled g = ltb 0 (length (lastConvex g))
+abbrev pub lastFilled : Region → Bool
+lastFilled g = ltb 0 (length (lastConvex g))
 
 abbrev pub fewConvexes : Region → Bool
 fewConvexes g = leb (length g) mostConvexes

@@ -1,9 +1,9 @@
--- Region files converted from one style to the other. Document 02, F-7. Proved in proofs/ConvertLaws and proofs/CallsBack; laws of the rules stand there too.
+-- Region files converted from one style to the other. Document 02, F-7. The statements are proved in proofs/ConvertLaws and proofs/CallsBack.
 --   convert s f              the file f in the style s: itself where it is in that style, else written anew, with its depth and budget as written; or
 --                            its refusal
 --   toGrouped f, toPlain f   in the grouped style, and in the plain one
 --   AsItIs                   an accepted file in the wanted style converts to itself
---   ConvertThenBack          what a conversion wrote to a lent list, handed to the conversion back, which is lent a list that is long enough
+--   ConvertThenBack          what a conversion wrote to a lent list, converted back to a list that is long enough, is the first file
 use Prim.Native.Nat.{ℕ, _≤_}
 use mathlib.Core.Path.{_≡_}
 use mathlib.Core.Bool.{true, cond}

@@ -19,7 +19,7 @@ use Rattle.answer.specs.Answer.{Answer, refused, gives, check, then, with-value
 use Rattle.region.specs.declared.Halfspace.{Halfspace}
 use Rattle.region.specs.Regions.{Convex, Region}
 use Rattle.region.specs.Budgets.{isBudget}
-use Rattle.region.specs.Building.{mostInAll, total, withConvex, begun, filled, fewConvexes, add}
+use Rattle.region.specs.Building.{mostInAll, total, withConvex, begun, lastFilled, fewConvexes, add}
 use Rattle.region.specs.Bytes.{word, signed}
 use Rattle.region.specs.declared.Record.{Record}
 use Rattle.region.specs.declared.Style.{Style}
@@ -75,7 +75,7 @@ withRegion x g = record { depth = x .depth; budget = x .budget; region = g }
 -- kind 2: a convex begins, after none or one with halfspaces
 abbrev pub convexIn : File → Answer File
 convexIn x =
-    check Order (cond (begun (x .region)) (filled (x .region)) true)
+    check Order (cond (begun (x .region)) (lastFilled (x .region)) true)
     (check Crowd (fewConvexes (withConvex (x .region))) (gives (withRegion x (withConvex (x .region)))))
 
 -- kind 3: a halfspace, in a convex
@@ -85,7 +85,7 @@ halfspaceOf s = record { n = vec (signed s 0) (signed s 4) (signed s 8); d = sig
 abbrev pub halfspaceIn : File → Halfspace → Answer File
 halfspaceIn x h = check Order (begun (x .region)) (with-value (withRegion x) (add (x .region) h))
 
--- kind 5: a convex begins, all its halfspaces have room, and each is taken as one of kind 3 is
+-- kind 5: a convex begins, all its halfspaces are within the limit, and each is taken as one of kind 3
 unfoldable pub halfspacesOf : ℕ → List ℕ → Convex
 halfspacesOf zero s = []
 halfspacesOf (suc n) s = halfspaceOf s ∷ halfspacesOf n (drop 16 s)
@@ -99,7 +99,7 @@ groupIn x c = then (convexIn x) (λ y. check Crowd (leb (total (y .region) + len
 
 -- kind 4: the end, after a convex with halfspaces, and no byte follows
 abbrev pub endIn : File → List ℕ → Answer File
-endIn x following = check Order (begun (x .region) && (filled (x .region) && eqb (length following) 0)) (gives x)
+endIn x following = check Order (begun (x .region) && (lastFilled (x .region) && eqb (length following) 0)) (gives x)
 
 -- a record with its payload, and what follows it
 abbrev pub partIn : File → Record → List ℕ → List ℕ → Answer File
@@ -109,7 +109,7 @@ partIn x Record.Halfspace s following = halfspaceIn x (halfspaceOf s)
 partIn x Record.End s following = endIn x following
 partIn x (Record.Group n) s following = groupIn x (halfspacesOf n s)
 
--- where the records may have the styles k
+-- a record of a file whose records may have the styles k
 unfoldable pub recordIn : Styles → File → List ℕ → Answer File
 recordIn k x rest = then (recordAt rest) (λ r. check Mixed (fits k r) (partIn x r (payload rest) (after rest)))
 

@@ -1,5 +1,5 @@
--- Region file and rows, both ways, in either style. Document 01, 'Regions'; document 02, F-7. Of what writer and reader answer and leave in lent lists, where the
--- second call is lent a list that is long enough; proved in proofs/CallsBack. Of the rules: `write-back` proofs/WriteBack, `file-back` proofs/FileBack.
+-- Region file and rows, both ways, in either style. Document 01, 'Regions'; document 02, F-7. The statements are about what writer and reader answer and leave
+-- in lent lists, where the second list is long enough: proofs/CallsBack. For the rules alone: `write-back` proofs/WriteBack, `file-back` proofs/FileBack.
 --   WriteThenRead   the bytes that the writer wrote, handed to the reader
 --   ReadThenWrite   the rows that the reader wrote, handed to the writer
 use Prim.Native.Nat.{ℕ, _*_, _/_, _≤_}

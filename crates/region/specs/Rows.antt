@@ -34,11 +34,11 @@ rows g = rowsFrom 0 g
 
 -- ---- from rows to their region
 
--- the row's number is the next convex's: 0 first, then one more than the last
+-- the row's number is that of a new convex: 0 first, then one more than the last
 abbrev pub begins : Region → ℤ → Bool
 begins g c = eqZ c (pos (length g))
 
--- the row's number is the last convex's
+-- the row's number is that of the last convex
 abbrev pub goesOn : Region → ℤ → Bool
 goesOn g c = begun g && eqZ (c +ℤ pos 1) (pos (length g))
 
@@ -53,7 +53,7 @@ rowIn g c h = check Order (begins g c || goesOn g c) (check Crowd (fewConvexes (
 abbrev pub halfspaceAt : List ℤ → Halfspace
 halfspaceAt rs = record { n = vec (getD rs 1 (pos 0)) (getD rs 2 (pos 0)) (getD rs 3 (pos 0)); d = getD rs 4 (pos 0) }
 
--- n rows more
+-- the region g with the next n rows, which rs begins with
 unfoldable pub rowsIn : ℕ → Region → List ℤ → Answer Region
 rowsIn zero g rs = gives g
 rowsIn (suc n) g rs = then (rowIn g (getD rs 0 (pos 0)) (halfspaceAt rs)) (λ next. rowsIn n next (drop 5 rs))

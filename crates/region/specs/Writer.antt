@@ -17,7 +17,7 @@ use Rattle.region.specs.Bytes.{wordBytes, signedBytes}
 use Rattle.region.specs.Records.{kind, size}
 use Rattle.region.specs.Rows.{regionOf}
 
--- length and kind, then the payload
+-- the beginning of a record: its length and its kind
 abbrev pub begin : Record → List ℕ
 begin r = wordBytes (size r) ++ wordBytes (kind r)
 

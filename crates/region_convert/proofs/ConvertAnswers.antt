@@ -23,7 +23,7 @@ use Rattle.region.specs.Answers.{headerOf}
 use Rattle.region.proofs.FileAnswers.{Answered, no-file}
 use Rattle.region.proofs.ReaderLaws.{Begins, accepted-headed}
 use Rattle.region.proofs.RegionLaws.{rows-length}
-use Rattle.region.proofs.RowsBack.{accepted-limited}
+use Rattle.region.proofs.RowsBack.{accepted-within-limits}
 use Rattle.region.proofs.StyleLaws.{same-style}
 use Rattle.region.proofs.ConvertLaws.{as-it-is, refusal-stays, written-anew}
 
@@ -53,7 +53,7 @@ module _ (f : List ℕ) (d : Header) (e : gives d ≡ with-value headerOf (read 
     pub enough : length zeros ≡ 2560 → 5 * d .count ≤ length decoded
     enough l =
         let x = accepted .0 in
-        let most : 5 * d .count ≤ 2560 = omega (arith, accepted-limited f x (accepted .1) .halfspaces, ap (λ z. z .count) (accepted .2)) in
+        let most : 5 * d .count ≤ 2560 = omega (arith, accepted-within-limits f x (accepted .1) .halfspaces, ap (λ z. z .count) (accepted .2)) in
         omega (arith, ap length (w x (accepted .1)), put-length 0 (rows (x .region)) zeros (omega (arith, count)))
 
     pub anew : (s : Style) → sameStyle s (styleOf f) ≡ false → writeIn s (d .depth) (d .budget) (take (5 * d .count) decoded) ≡ convert s f

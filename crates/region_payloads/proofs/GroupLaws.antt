@@ -1,5 +1,5 @@
--- A group, halfspace by halfspace: counts and rows stand for what has been taken of it, and the halfspaces left give what all of them do (`Passing`).
--- Before the first of them a convex has begun, and all have room. Assumes nothing.
+-- A group, halfspace by halfspace: size and rows stand for what has been taken of it, and the halfspaces left give what all of them do (`Passing`).
+-- Before the first of them a convex has begun, and all are within the limit. Assumes nothing.
 use Prim.Native.Nat.{ℕ, suc, _+_, _-_, _*_, _≤_, _<_}
 use native.Mathlib.Omega.{arith}
 use mathlib.Core.Path.{_≡_, refl, sym, ap, _∙_}
@@ -16,22 +16,22 @@ use Rattle.region.specs.Regions.{Convex}
 use Rattle.region.specs.Building.{mostInAll, total}
 use Rattle.region.specs.Reader.{File, convexIn, halfspaceOf, halfspaceIn, halfspacesOf, halfspacesIn, groupIn}
 use Rattle.region_rows.specs.declared.counts.RegionSize.{RegionSize}
-use Rattle.region_rows.specs.RegionSizes.{countsOf}
-use Rattle.region_payloads.specs.Payloads.{countsAfter, Stands, SizeAfterBy}
+use Rattle.region_rows.specs.RegionSizes.{regionSize}
+use Rattle.region_payloads.specs.Payloads.{regionSizeAfter, StandsFor, SizeAfterBy}
 use Rattle.region_payloads.proofs.OutcomeLaws.{counted-refused, counted-gives, counted-as, counted-gave, counted-refuses, convex-counted}
 
 -- ---- i of n halfspaces are taken
 
 pub record Passing (p : List ℕ) (n : ℕ) (rs₀ : List ℤ) (k₀ : RegionSize) (rs : List ℤ) (k : RegionSize) (i : ℕ) : Type 0 where
   pub within : i ≤ n
-  pub room : length rs ≡ length rs₀
-  pub reached : (x : File) (before : List ℤ) → Stands before (x .region) k₀ rs₀
-      → (y : File) × Stands before (y .region) k rs × (halfspacesIn x (halfspacesOf n p) ≡ halfspacesIn y (halfspacesOf (n - i) (drop (16 * i) p)))
+  pub same-length : length rs ≡ length rs₀
+  pub reached : (x : File) (before : List ℤ) → StandsFor before (x .region) k₀ rs₀
+      → (y : File) × StandsFor before (y .region) k rs × (halfspacesIn x (halfspacesOf n p) ≡ halfspacesIn y (halfspacesOf (n - i) (drop (16 * i) p)))
 
 pub passing-none : (p : List ℕ) (n : ℕ) (rs : List ℤ) (k : RegionSize) → Passing p n rs k rs k 0
 passing-none p n rs k = record {
   within = omega arith;
-  room = refl;
+  same-length = refl;
   reached = λ x before st. let e : n ≡ n - 0 = omega arith in (x, st, ap (λ m. halfspacesIn x (halfspacesOf m p)) e);
 }
 
@@ -68,7 +68,7 @@ module _ (p : List ℕ) (n : ℕ) (rs₀ : List ℤ) (k₀ : RegionSize) (rs : L
       pub passing-more : (m : RegionSize) → c ≡ gives m → length rs′ ≡ length rs → Passing p n rs₀ k₀ rs′ m (i + 1)
       passing-more m q same = record {
         within = omega arith;
-        room = same ∙ d .room;
+        same-length = same ∙ d .same-length;
         reached = λ x before st.
             let w = d .reached x before st in
             let v = counted-gave m q (t (w .0) before (w .1)) in
@@ -87,9 +87,9 @@ module _ (p : List ℕ) (n : ℕ) (rs₀ : List ℤ) (k₀ : RegionSize) (rs : L
       let m : n - i ≡ 0 = omega arith in
       counted-gives (w .0) k (w .2 ∙ ap (λ m. halfspacesIn (w .0) (halfspacesOf m (drop (16 * i) p))) m) (w .1)
 
--- ---- the group: c is what is counted with the convex that begins
+-- ---- the group: c is the size with the convex that begins
 
-module _ (k₀ : RegionSize) (hs : Convex) (rs : List ℤ) (c : Answer RegionSize) (o : (x : File) → k₀ ≡ countsOf (x .region) → c ≡ countsAfter (convexIn x)) where
+module _ (k₀ : RegionSize) (hs : Convex) (rs : List ℤ) (c : Answer RegionSize) (o : (x : File) → k₀ ≡ regionSize (x .region) → c ≡ regionSizeAfter (convexIn x)) where
   abbrev fit : File → Bool
   fit y = leb (total (y .region) + length hs) mostInAll
 
@@ -100,18 +100,18 @@ module _ (k₀ : RegionSize) (hs : Convex) (rs : List ℤ) (c : Answer RegionSiz
   group-refused m e x before st = counted-refused m (by-convex x (refused m) (counted-refuses m e (convex-counted x st (o x (st .counts)))))
 
   module _ (k : RegionSize) (e : c ≡ gives k) where
-    begun : (x : File) (before : List ℤ) → Stands before (x .region) k₀ rs → (y : File) × (convexIn x ≡ gives y) × Stands before (y .region) k rs
+    begun : (x : File) (before : List ℤ) → StandsFor before (x .region) k₀ rs → (y : File) × (convexIn x ≡ gives y) × StandsFor before (y .region) k rs
     begun x before st = counted-gave k e (convex-counted x st (o x (st .counts)))
 
-    by-room : (x y : File) (t : Bool) → convexIn x ≡ gives y → fit y ≡ t → groupIn x hs ≡ check Crowd t (halfspacesIn y hs)
-    by-room x y t q f = by-convex x (gives y) q ∙ ap (λ t. check Crowd t (halfspacesIn y hs)) f
+    by-limit : (x y : File) (t : Bool) → convexIn x ≡ gives y → fit y ≡ t → groupIn x hs ≡ check Crowd t (halfspacesIn y hs)
+    by-limit x y t q f = by-convex x (gives y) q ∙ ap (λ t. check Crowd t (halfspacesIn y hs)) f
 
     pub group-crowd : 512 < k .all + length hs → SizeAfterBy (λ x. groupIn x hs) k₀ rs (refused Crowd) rs
     group-crowd l x before st =
         let w = begun x before st in
         let y = w .0 in
         let many = lt-leb (total (y .region) + length hs) mostInAll (omega (arith, ap (λ k. k .all) (w .2 .counts))) in
-        counted-refused Crowd (by-room x y _ (w .1) many)
+        counted-refused Crowd (by-limit x y _ (w .1) many)
 
     pub group-all : k .all + length hs ≤ 512 → (b : Answer RegionSize) (rs′ : List ℤ) → SizeAfterBy (λ y. halfspacesIn y hs) k rs b rs′
         → SizeAfterBy (λ x. groupIn x hs) k₀ rs b rs′
@@ -119,4 +119,4 @@ module _ (k₀ : RegionSize) (hs : Convex) (rs : List ℤ) (c : Answer RegionSiz
         let w = begun x before st in
         let y = w .0 in
         let few = le-leb (total (y .region) + length hs) mostInAll (omega (arith, ap (λ k. k .all) (w .2 .counts))) in
-        counted-as (sym (by-room x y _ (w .1) few)) (t y before (w .2))
+        counted-as (sym (by-limit x y _ (w .1) few)) (t y before (w .2))

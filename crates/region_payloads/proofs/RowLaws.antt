@@ -1,5 +1,5 @@
--- Rows in an array: a row that is stored after the rows so far makes the rows with one more, and a row's numbers fit 32 bits, since the halfspace
--- passed its checks. Assumes nothing.
+-- Rows in an array: a row that is stored after the rows of a region gives the rows of the region with its halfspace. A row's numbers fit 32 bits, since the
+-- halfspace passed its checks. Assumes nothing.
 use Prim.Native.Nat.{_+_, _-_, _*_, _<_}
 use native.Mathlib.Omega.{arith}
 use mathlib.Core.Path.{_≡_, sym, ap, _∙_}

@@ -1,5 +1,5 @@
 // The payload readers of the records after the first: a header again, a convex, a halfspace, a group of halfspaces and the end, each checked for 4 and 7
-// to 9, with the rows in an array. The rules stand in region/specs/Reader and Building, counts and state between records in specs/Payloads.
+// to 9, with the rows in an array. The rules stand in region/specs/Reader and Building, size and state between records in specs/Payloads.
 use answer::CROWD;
 use answer::ORDER;
 use limits::HALFSPACES;
@@ -16,27 +16,27 @@ ghost use Rattle.answer.specs.Answer.{Order};
 ghost use Rattle.answer.specs.Lent.{put};
 ghost use Rattle.region.specs.Rows.{row};
 ghost use Rattle.region.specs.Reader.{File, convexIn, halfspaceOf, halfspaceIn, halfspacesOf, halfspacesIn, groupIn, endIn};
-ghost use Rattle.region.proofs.AddLaws.{Fine};
-ghost use Rattle.region_rows.specs.RegionSizes.{countsOf, countsGiven};
+ghost use Rattle.region.proofs.AddLaws.{GoodHalfspace};
+ghost use Rattle.region_rows.specs.RegionSizes.{regionSize, regionSizeGiven};
 ghost use Rattle.region_payloads.specs.declared.Outcome.{Outcome};
-ghost use Rattle.region_payloads.specs.Payloads.{outcomeGiven, outcomeOf, countsAfter, SizeAfterBy, RecordAfterBy, groupOf};
+ghost use Rattle.region_payloads.specs.Payloads.{outcomeGiven, outcomeOf, regionSizeAfter, SizeAfterBy, RecordAfterBy, groupOf};
 
-// The place of the next record, and the counts of the region so far.
+// The position of the next record, and the size of the region so far.
 pub struct State {
     pub at: usize,
     pub counts: RegionSize,
 }
 
-// After a record: more of them follow, the end has come and there are so many rows, or a check has failed.
+// After a record: records follow, or the end was read and this is the count of the rows, or a check failed.
 pub enum Outcome {
     More(State),
     Done(u32),
     Refused(u32),
 }
 
-// The state at the next record with these counts, or the refusal.
+// The state at the next record with this size, or the refusal.
 fn counted(next: usize, c: RegionSizeOf) -> Outcome
-    ensures { λ r. ⌜ r ≡ outcomeGiven next (countsGiven c) ⌝ }
+    ensures { λ r. ⌜ r ≡ outcomeGiven next (regionSizeGiven c) ⌝ }
 {
     match c {
         RegionSizeOf::Gives(k) => Outcome::More(State {
@@ -66,7 +66,7 @@ pub fn header_again(payload: &[u8]) -> Outcome
 
 // A convex begins, after none or one with halfspaces.
 fn convex_in(k: RegionSize) -> RegionSizeOf
-    ensures { λ r. ⌜ ((x : File) → k ≡ countsOf (x .region) → countsGiven r ≡ countsAfter (convexIn x)) ⌝ }
+    ensures { λ r. ⌜ ((x : File) → k ≡ regionSize (x .region) → regionSizeGiven r ≡ regionSizeAfter (convexIn x)) ⌝ }
 {
     if !may_begin(k) {
         return RegionSizeOf::Refused(ORDER);
@@ -77,7 +77,7 @@ fn convex_in(k: RegionSize) -> RegionSizeOf
 // The payload of kind 2, which is empty: a convex begins.
 pub fn convex_payload(payload: &[u8], s: State, next: usize) -> Outcome
     requires { ⌜ length (now payload) ≡ 0 ⌝ }
-    ensures { λ r. ⌜ ((x : File) → s .counts ≡ countsOf (x .region) → r ≡ outcomeOf false next (convexIn x)) ⌝ }
+    ensures { λ r. ⌜ ((x : File) → s .counts ≡ regionSize (x .region) → r ≡ outcomeOf false next (convexIn x)) ⌝ }
 {
     let k = s.counts;
     counted(next, convex_in(k))
@@ -85,7 +85,7 @@ pub fn convex_payload(payload: &[u8], s: State, next: usize) -> Outcome
 
 // The row of a halfspace in the last convex, written after the rows so far.
 fn write_row(k: RegionSize, h: Halfspace, rows: &mut [i32])
-    requires { ⌜ Fine h ⌝ }
+    requires { ⌜ GoodHalfspace h ⌝ }
     requires { ⌜ (0 < k .convexes) × (5 * k .all + 5 ≤ length (now rows)) ⌝ }
     ensures { λ _. ⌜ now (rows .exit) ≡ put (5 * k .all) (row (k .convexes - 1) h) (now (rows .entry)) ⌝ }
 {
@@ -102,7 +102,7 @@ fn write_row(k: RegionSize, h: Halfspace, rows: &mut [i32])
 // A halfspace, in a convex. Its row is written.
 fn halfspace_in(h: Halfspace, k: RegionSize, rows: &mut [i32]) -> RegionSizeOf
     requires { ⌜ length (now rows) ≡ 2560 ⌝ }
-    ensures { λ r. ⌜ SizeAfterBy (λ x. halfspaceIn x h) k (now (rows .entry)) (countsGiven r) (now (rows .exit)) ⌝ }
+    ensures { λ r. ⌜ SizeAfterBy (λ x. halfspaceIn x h) k (now (rows .entry)) (regionSizeGiven r) (now (rows .exit)) ⌝ }
 {
     if k.convexes == 0 {
         return RegionSizeOf::Refused(ORDER);
@@ -131,7 +131,7 @@ pub fn halfspace_payload(payload: &[u8], s: State, next: usize, rows: &mut [i32]
 // n halfspaces, one after the other, each as one of kind 3.
 fn halfspaces_in(payload: &[u8], n: usize, k: RegionSize, rows: &mut [i32]) -> RegionSizeOf
     requires { ⌜ (16 * n ≤ length (now payload)) × (length (now rows) ≡ 2560) ⌝ }
-    ensures { λ r. ⌜ SizeAfterBy (λ x. halfspacesIn x (halfspacesOf n (now (payload .entry)))) k (now (rows .entry)) (countsGiven r)
+    ensures { λ r. ⌜ SizeAfterBy (λ x. halfspacesIn x (halfspacesOf n (now (payload .entry)))) k (now (rows .entry)) (regionSizeGiven r)
         (now (rows .exit)) ⌝ }
 {
     let mut with = k;
@@ -153,7 +153,7 @@ fn halfspaces_in(payload: &[u8], n: usize, k: RegionSize, rows: &mut [i32]) -> R
     RegionSizeOf::Gives(with)
 }
 
-// The payload of kind 5: a convex begins, all its halfspaces have room, and each is taken.
+// The payload of kind 5: a convex begins, all its halfspaces are within the limit, and each is taken.
 pub fn group_payload(payload: &[u8], s: State, next: usize, rows: &mut [i32]) -> Outcome
     requires { ⌜ length (now rows) ≡ 2560 ⌝ }
     ensures { λ r. ⌜ RecordAfterBy (λ x. groupIn x (groupOf (now (payload .entry)))) (s .counts) next (now (rows .entry)) r (now (rows .exit)) ⌝ }
@@ -185,11 +185,11 @@ fn may_end(k: RegionSize, following: usize) -> bool
     following == 0
 }
 
-// The payload of kind 4, which is empty: the end, which so many bytes follow.
+// The payload of kind 4, which is empty: the end. `following` bytes follow it.
 pub fn end_payload(payload: &[u8], s: State, following: usize) -> Outcome
     requires { ⌜ length (now payload) ≡ 0 ⌝ }
     ensures { λ r. ⌜ ((x : File) (next : ℕ) (left : List ℕ)
-        → s .counts ≡ countsOf (x .region) → length left ≡ following → r ≡ outcomeOf true next (endIn x left)) ⌝ }
+        → s .counts ≡ regionSize (x .region) → length left ≡ following → r ≡ outcomeOf true next (endIn x left)) ⌝ }
 {
     let k = s.counts;
     if may_end(k, following) {

@@ -44,7 +44,7 @@ module _ (f : List ℕ) (p : Vec3) where
     held v zeros decoded w t q =
         let x = accepted .0 in
         let g = x .region in
-        let full = accepted-filled f x (accepted .1) in
+        let filled = accepted-filled f x (accepted .1) in
         let same : t ≡ holds g p =
-        q ∙ (λ j. rowsHold p (sym (accepted .2) j .count) (w x (accepted .1) j)) ∙ rows-hold p g (drop (0 + length (rows g)) zeros) (full .0) (full .1) in
+        q ∙ (λ j. rowsHold p (sym (accepted .2) j .count) (w x (accepted .1) j)) ∙ rows-hold p g (drop (0 + length (rows g)) zeros) (filled .0) (filled .1) in
         ap gives same ∙ checked true v

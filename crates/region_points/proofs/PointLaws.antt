@@ -96,7 +96,7 @@ module _ (p : Vec3) where
       ∙ convex-scan 0 c (total cs) true false (rowsFrom 1 cs ++ tail)
       ∙ convexes-scan 0 cs (holdsConvex c p) false tail (f .1)
 
--- ---- one row more
+-- ---- the next row
 
 eqZ-yes : (a : ℤ) → eqZ a a ≡ true
 eqZ-yes (pos n) = eq-eqb n n refl

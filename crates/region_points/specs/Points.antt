@@ -1,7 +1,8 @@
 -- A point against rows, one after the other, as the point test scans them. Document 01, 'Regions': a convex holds a point when all its halfspaces do, a
 -- region when at least one of its convexes does. That the scan of a region's rows is the region's own answer: proofs/PointLaws.
---   scanned s number h    one row more, of the convex `number`; h says whether its halfspace holds the point
---   scan p n s rs         n rows more of rs, after the state s: the convex of the last row, whether it holds p so far, whether an earlier one does
+--   scanned s number h    the state after a row of the convex `number`; h: its halfspace holds the point
+--   scan p n s rs         the scan of the next n rows, which rs begins with, from the state s: the convex of the last row, whether it holds p so far,
+--                         whether an earlier one does
 --   rowsHold p n rs       n rows from the beginning
 use Prim.Native.Nat.{ℕ, zero, suc}
 use mathlib.Core.Bool.{Bool, true, false, cond, _&&_, _||_}

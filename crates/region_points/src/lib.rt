@@ -66,7 +66,7 @@ fn state(number: i64, all: bool, any: bool) -> Scan
     }
 }
 
-// One row more, of convex `number`; `here` says whether its halfspace holds the point.
+// The state after a row of the convex `number`; `here`: its halfspace holds the point.
 fn next(s: Scan, number: i64, here: bool) -> Scan
     requires { ⌜ Upto (2 ^ 31) (s .number) × Upto (2 ^ 31) number ⌝ }
     ensures { λ r. ⌜ (r ≡ scanned s number here) × Upto (2 ^ 31) (r .number) ⌝ }

@@ -1,5 +1,5 @@
--- The file as a whole: its length, its header, its records. And the reader's answer: what the file says where the lent list has room for the rows,
--- which then stand at the list's beginning. Assumes nothing.
+-- The file as a whole: its length, its header, its records. And the reader's answer: where the lent list is long enough for the rows, it is what the file says,
+-- and the rows stand at the list's beginning. Assumes nothing.
 use Prim.Native.Nat.{ℕ, _+_, _*_, _≤_, _<_}
 use native.Mathlib.Omega.{arith}
 use mathlib.Core.Path.{_≡_, sym, ap, _∙_}
@@ -24,7 +24,7 @@ use Rattle.region.specs.Answers.{headerOf, rowsInto, readInto, readAnswer, read
 use Rattle.region.proofs.RegionLaws.{rows-length}
 use Rattle.region.proofs.ReaderLaws.{Begins, header-read, header-says}
 use Rattle.region.proofs.StyleLaws.{in-style}
-use Rattle.region.proofs.RowsBack.{accepted-limited}
+use Rattle.region.proofs.RowsBack.{accepted-within-limits}
 use Rattle.region_reader.specs.Reading.{headedFile, recordsAfter, RowsGiven}
 use Rattle.region_records.proofs.FrameLaws.{header-length, header-whole}
 
@@ -83,7 +83,7 @@ module _ (f : List ℕ) where
 -- ---- an accepted file has at most 512 halfspaces
 
 pub accepted-total : (f : List ℕ) (x : File) → Accepted f x → total (x .region) ≤ 512
-accepted-total f x e = accepted-limited f x e .halfspaces
+accepted-total f x e = accepted-within-limits f x e .halfspaces
 
 -- ---- the reader's answer
 

@@ -21,11 +21,11 @@ use Rattle.region.specs.Reader.{File, lengthOf, kindOf, after, recordIn, record
 use Rattle.region.specs.Answers.{headerOf}
 use Rattle.region.proofs.ReaderLaws.{record-keeps, record-whole, one-more}
 use Rattle.region_rows.specs.declared.counts.RegionSize.{RegionSize}
-use Rattle.region_rows.specs.RegionSizes.{countsOf}
+use Rattle.region_rows.specs.RegionSizes.{regionSize}
 use Rattle.region_payloads.specs.declared.State.{State}
 use Rattle.region_payloads.specs.declared.Outcome.{Outcome}
-use Rattle.region_payloads.specs.Payloads.{stateOf, outcomeOf, Stands, RecordAfter}
-use Rattle.region_reader.specs.Reading.{Recorded, headedFile, recordsAfter, RowsGiven}
+use Rattle.region_payloads.specs.Payloads.{stateOf, outcomeOf, StandsFor, RecordAfter}
+use Rattle.region_reader.specs.Reading.{RecordStep, headedFile, recordsAfter, RowsGiven}
 use Rattle.region_records.proofs.FrameLaws.{whole-says, after-at}
 
 -- ---- any bound on the records that is not below the bytes left
@@ -90,17 +90,17 @@ outcome-refused false next (gives y) n e = let z : _≡_ {A = ℕ} 0 1 = cc in a
 
 -- ---- the records after the header h
 
--- `file` is what has been read up to the state's place
+-- `file` is what has been read up to the state's position
 pub record Reading (t : Style) (f : List ℕ) (h : Header) (before rs : List ℤ) (s : State) : Type 0 where
   pub file : File
   pub depth : file .depth ≡ h .depth
   pub budget : file .budget ≡ h .budget
   pub within : s .at ≤ length f
-  pub room : length rs ≡ length before
-  pub stands : Stands before (file .region) (s .counts) rs
+  pub same-length : length rs ≡ length before
+  pub stands : StandsFor before (file .region) (s .counts) rs
   pub same : recordsIn (Styles.only t) (length (drop (s .at) f)) file (drop (s .at) f) ≡ recordsAfter t h f
 
-pub reading-none : (t : Style) (f : List ℕ) (h : Header) (before : List ℤ) → 8 ≤ length f → (k : RegionSize) → k ≡ countsOf []
+pub reading-none : (t : Style) (f : List ℕ) (h : Header) (before : List ℤ) → 8 ≤ length f → (k : RegionSize) → k ≡ regionSize []
     → Reading t f h before before (record { at = 8; counts = k })
 unfolding rows rowsFrom
 reading-none t f h before l k e = record {
@@ -108,13 +108,13 @@ reading-none t f h before l k e = record {
   depth = refl;
   budget = refl;
   within = l;
-  room = refl;
+  same-length = refl;
   stands = record { counts = e; rows = refl };
   same = enough t (headedFile h) (drop 8 f) (length (drop 8 f)) (length f) (omega arith) (omega (arith, length-drop 8 f));
 }
 
 module _ (t : Style) (f : List ℕ) (h : Header) (before rs : List ℤ) (s : State) (d : Reading t f h before rs s) (o : Outcome) (rs′ : List ℤ)
-    (r : Recorded t f s rs o rs′) where
+    (r : RecordStep t f s rs o rs′) where
   abbrev rest : List ℕ
   rest = drop (s .at) f
 
@@ -152,7 +152,7 @@ module _ (t : Style) (f : List ℕ) (h : Header) (before rs : List ℤ) (s : Sta
           depth = kept y (found .gave) .0;
           budget = kept y (found .gave) .1;
           within = reading-further .1;
-          room = l ∙ d .room;
+          same-length = l ∙ d .same-length;
           stands = record { counts = ap (λ u. u .counts) (found .state); rows = taken .rows y (found .gave) };
           same =
               ap (λ u. recordsIn (Styles.only t) (length u) y u) (sym p)

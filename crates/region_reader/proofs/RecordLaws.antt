@@ -1,4 +1,4 @@
--- The record after the header tells the style of a file, and the payload of a group has its halfspaces, 16 bytes each. Assumes nothing.
+-- The record after the header gives the style of a file, and the payload of a group has 16 bytes for each of its halfspaces. Assumes nothing.
 use Prim.Native.Nat.{ℕ, _-_, _/_}
 use native.Mathlib.Omega.{arith}
 use mathlib.Core.Path.{_≡_, sym, ap, _∙_}

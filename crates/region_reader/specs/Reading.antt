@@ -1,7 +1,8 @@
--- What a pass over the records gives, in the terms of region/specs/Reader. `Stands` and `RecordAfter` stand in region_payloads/specs/Payloads.
---   Recorded ..            a record of a file of the style t is taken, whatever region state and array stand for
+-- What a pass over the records gives, in the terms of region/specs/Reader (document 01, 'Regions'; document 02, F-7). `StandsFor` and `RecordAfter` stand in
+-- region_payloads/specs/Payloads.
+--   RecordStep ..          outcome and array after the next record of a file of the style t, for every region that state and array stand for
 --   recordsAfter t h f     the records of the file f, of the style t, after its header h
---   RowsGiven a before rs  the array after a pass with the answer a: the rows of the file that a gives, at the beginning of what the array was before
+--   RowsGiven a before rs  the array after a pass with the answer a: `before` with the rows of the file that a gives at the beginning
 --   FilledRows g n rs      the array begins with the n rows of the region g, of 1 to 64 convexes, each with a halfspace
 use Prim.Native.Nat.{ℕ, _+_, _≤_, _<_}
 use mathlib.Core.Path.{_≡_}
@@ -21,10 +22,10 @@ use Rattle.region.specs.Reader.{File, lengthOf, kindOf, recordIn, recordsIn}
 use Rattle.region.proofs.FilledLaws.{Filled}
 use Rattle.region_payloads.specs.declared.State.{State}
 use Rattle.region_payloads.specs.declared.Outcome.{Outcome}
-use Rattle.region_payloads.specs.Payloads.{Stands, RecordAfter}
+use Rattle.region_payloads.specs.Payloads.{StandsFor, RecordAfter}
 
-abbrev pub Recorded : Style → List ℕ → State → List ℤ → Outcome → List ℤ → Type 0
-Recorded t f s rs o rs′ = (x : File) (before : List ℤ) → Stands before (x .region) (s .counts) rs
+abbrev pub RecordStep : Style → List ℕ → State → List ℤ → Outcome → List ℤ → Type 0
+RecordStep t f s rs o rs′ = (x : File) (before : List ℤ) → StandsFor before (x .region) (s .counts) rs
     → RecordAfter before (eqb (kindOf (drop (s .at) f)) 4) (s .at + lengthOf (drop (s .at) f)) (recordIn (Styles.only t) x (drop (s .at) f)) o rs′
 
 -- the header's 8 bytes are read: depth and budget, and no region yet

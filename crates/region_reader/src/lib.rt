@@ -26,7 +26,7 @@ ghost use Rattle.region.specs.Reader.{File, styleOf};
 ghost use Rattle.region.specs.Reader as rule;
 ghost use Rattle.region.specs.Answers.{headerOf, headerGiven, readAnswer, readAfter};
 ghost use Rattle.region.proofs.ReaderLaws.{Begins};
-ghost use Rattle.region_reader.specs.Reading.{Recorded, recordsAfter, RowsGiven, FilledRows};
+ghost use Rattle.region_reader.specs.Reading.{RecordStep, recordsAfter, RowsGiven, FilledRows};
 
 // Whether two styles are the same.
 pub fn same_style(s: Style, t: Style) -> bool
@@ -74,11 +74,11 @@ pub fn style_of(file: &[u8]) -> Style
     }
 }
 
-// The record at the state's place, checked for 2, 3 and 14: its payload is handed on, as that part of the file, to the payload reader of its kind.
+// The record at the state's position, checked for 2, 3 and 14: its payload is handed on, as that part of the file, to the payload reader of its kind.
 fn record_in(file: &[u8], style: Style, s: State, rows: &mut [i32]) -> Outcome
     requires { ⌜ s .at ≤ length (now file) ⌝ }
     requires { ⌜ length (now rows) ≡ 2560 ⌝ }
-    ensures { λ r. ⌜ Recorded style (now (file .entry)) s (now (rows .entry)) r (now (rows .exit)) ⌝ }
+    ensures { λ r. ⌜ RecordStep style (now (file .entry)) s (now (rows .entry)) r (now (rows .exit)) ⌝ }
 {
     let at = s.at;
     let frame = region_records::frame_at(file, at);
@@ -133,8 +133,8 @@ fn records_in(file: &[u8], style: Style, h: Header, rows: &mut [i32]) -> HeaderO
     }
 }
 
-// The one pass over a file that reader, point test and cover share: count, depth and budget, with the rows at the beginning of `rows`, where 512 rows
-// of five have room; or the refusal of the first failed check, and then nothing is said of `rows`.
+// The one pass over a file that reader, point test and cover share: count, depth and budget, with the rows at the beginning of `rows`, which is
+// long enough for 512 rows of five; or the refusal of the first failed check, and then nothing is promised about `rows`.
 pub fn decode(file: &[u8], rows: &mut [i32; 5 * HALFSPACES]) -> HeaderOf
     ensures { λ r. ⌜ headerGiven r ≡ with-value headerOf (rule.read (now (file .entry))) ⌝ }
     ensures { λ r. ⌜ ((x : File) → rule.read (now (file .entry)) ≡ gives x
@@ -173,7 +173,7 @@ fn copy(from: &[i32], n: usize, to: &mut [i32])
     }
 }
 
-// The same from an array of 512 rows.
+// As above, from an array of 512 rows.
 fn copy_rows(from: &[i32; 5 * HALFSPACES], n: usize, to: &mut [i32])
     requires { ⌜ (n ≤ 2560) × (n ≤ length (now to)) ⌝ }
     ensures { λ _. ⌜ now (to .exit) ≡ put 0 (take n (now (from .entry))) (now (to .entry)) ⌝ }

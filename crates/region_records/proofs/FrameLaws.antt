@@ -1,4 +1,4 @@
--- A record's length and kind, where they stand in the file: the checks 2 and 3, and what a record makes once they have passed.
+-- A record's length and kind, where they stand in the file: the checks 2 and 3, and what a record gives once they have passed.
 -- Reading byte k of what is left is reading byte `at + k` of the file. Assumes nothing.
 use Prim.Native.Nat.{ℕ, _+_, _*_, _-_, _/_, _≤_, _<_}
 use native.Mathlib.Nat.{add-zero}
@@ -21,7 +21,7 @@ use Rattle.region.proofs.ReaderLaws.{Begins, begins, header-read}
 use Rattle.region_records.specs.declared.Frame.{Frame}
 use Rattle.region_records.specs.Frames.{frameBy, frameOf}
 
--- ---- the file from a place on
+-- ---- the file from a position on
 
 module _ (f : List ℕ) (at : ℕ) where
   word-at : (k : ℕ) → word (drop at f) k ≡ word f (at + k)
@@ -119,7 +119,7 @@ frame-is f at len kind el ek w a e =
     (λ i. frameBy (l i) ((e ∙ (λ j. recordOf (k j) (l j))) i))
     ∙ ap (λ w. frameBy (lengthOf rest) (check Torn w (recordOf (kindOf rest) (lengthOf rest)))) (sym w)
 
--- ---- what a frame says
+-- ---- what follows from a frame
 
 pub record Framed (rest : List ℕ) (len : ℕ) (r : Record) : Type 0 where
   pub len-is : len ≡ lengthOf rest

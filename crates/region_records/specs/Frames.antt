@@ -1,5 +1,5 @@
 -- The frame of a record: its length, and what it is. Document 01, 'Regions'.
---   recordGiven r          what was answered
+--   recordGiven r          the answer of a function that gives a record
 --   frameOf rest           the length of the record that `rest` begins with and what it is, or the refusal 2 or 3
 use Prim.Native.Nat.{ℕ}
 use mathlib.Core.List.{List}

@@ -1,4 +1,4 @@
-// What a region file is made of, put into a lent list: words, numbers with a sign, length and kind of a record, the numbers of a halfspace. The rules
+// The parts of a region file, put into a lent list: words, numbers with a sign, length and kind of a record, the numbers of a halfspace. The rules
 // stand in region/specs/Bytes, Records and Writer.
 use region::Halfspace;
 use region::Record;
@@ -13,7 +13,7 @@ ghost use Rattle.region.specs.Bytes.{wordBytes, bitsOf, signedBytes};
 ghost use Rattle.region.specs.Records.{size};
 ghost use Rattle.region.specs.Writer.{begin, numbersBytes};
 
-// 16 bits at place `at`.
+// 16 bits at position `at`.
 pub fn put_word(out: &mut [u8], at: usize, n: u32)
     requires { ⌜ (at + 2 ≤ length (now out)) × (n < 65536) ⌝ }
     ensures { λ r. ⌜ now (out .exit) ≡ put at (wordBytes n) (now (out .entry)) ⌝ }
@@ -22,18 +22,19 @@ pub fn put_word(out: &mut [u8], at: usize, n: u32)
     out[at + 1] = (n / 256) as u8;
 }
 
-// So many numbers have 32 bits.
-const WORDS: i64 = 4294967296;
-
 // The 32 bits of a number with a sign.
 fn bits_of(z: i64) -> u32
     requires { ⌜ Upto Kℕ z ⌝ }
     ensures { λ r. ⌜ r ≡ bitsOf z ⌝ }
 {
-    if z < 0 { (WORDS + z) as u32 } else { z as u32 }
+    if z < 0 {
+        (crate::TWO_TO_32 + z) as u32
+    } else {
+        z as u32
+    }
 }
 
-// Signed 32 bits at place `at`.
+// Signed 32 bits at position `at`.
 fn put_signed(out: &mut [u8], at: usize, z: i64)
     requires { ⌜ (at + 4 ≤ length (now out)) × Upto Kℕ z ⌝ }
     ensures { λ r. ⌜ now (out .exit) ≡ put at (signedBytes z) (now (out .entry)) ⌝ }
@@ -43,7 +44,7 @@ fn put_signed(out: &mut [u8], at: usize, z: i64)
     put_word(out, at + 2, b / 65536);
 }
 
-// Length and kind of a record at place `at`.
+// Length and kind of a record at position `at`.
 pub fn put_kind(out: &mut [u8], at: usize, r: Record)
     requires { ⌜ (at + 4 ≤ length (now out)) × (size r < 65536) ⌝ }
     ensures { λ _. ⌜ now (out .exit) ≡ put at (begin r) (now (out .entry)) ⌝ }
@@ -52,7 +53,7 @@ pub fn put_kind(out: &mut [u8], at: usize, r: Record)
     put_word(out, at + 2, crate::kind_of(r));
 }
 
-// The numbers of a halfspace at place `at`.
+// The numbers of a halfspace at position `at`.
 pub fn put_numbers(out: &mut [u8], at: usize, h: Halfspace)
     requires { ⌜ at + 16 ≤ length (now out) ⌝ }
     requires { ⌜ Small (h .n) ⌝ }

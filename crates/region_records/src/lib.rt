@@ -46,17 +46,18 @@ fn word(s: &[u8], k: usize) -> u32
     s[k] as u32 + 256 * (s[k + 1] as u32)
 }
 
-// So many numbers have 32 bits, and half of them stand for negative ones.
-const WORDS: i64 = 4294967296;
+// 2^32: the number of values that 32 bits have.
+pub const TWO_TO_32: i64 = 4294967296;
 
-const HALF_OF_WORDS: u32 = 2147483648;
+// 2^31: from here on 32 bits stand for a number below 0.
+const TWO_TO_31: u32 = 2147483648;
 
 // 32 bits read as a number with a sign.
 fn signed_of(n: u32) -> i64
     ensures { λ r. ⌜ r ≡ bytes.signedOf n ⌝ }
 {
     let z = n as i64;
-    if n < HALF_OF_WORDS { z } else { z - WORDS }
+    if n < TWO_TO_31 { z } else { z - TWO_TO_32 }
 }
 
 // The signed 32 bits that begin at byte k of s.

@@ -1,4 +1,4 @@
--- The pass that checks rows: the region of the rows so far has the counts that are stored, and the rows that are left lead from it to what all rows
+-- The pass that checks rows: the region of the rows so far has the size that is stored, and the rows that are left lead from it to what all rows
 -- lead to. Assumes nothing.
 use Prim.Native.Nat.{ℕ, suc, _+_, _-_, _*_, _/_, _%_, _≤_, _<_}
 use native.Mathlib.Nat.{add-zero}
@@ -14,19 +14,19 @@ use Rattle.answer.proofs.AnswerLaws.{value-gives, value-refused}
 use Rattle.region.specs.Regions.{Region}
 use Rattle.region.specs.Rows.{rowIn, halfspaceAt, rowsIn, regionOf}
 use Rattle.region_rows.specs.declared.counts.RegionSize.{RegionSize}
-use Rattle.region_rows.specs.RegionSizes.{countsOf}
+use Rattle.region_rows.specs.RegionSizes.{regionSize}
 use Rattle.region_rows.proofs.NumberLaws.{taken, taken-few}
 
--- the rows of rs before element i make a region with the counts k
+-- the rows of rs before element i make a region of the size k
 pub record Checking (rs : List ℤ) (k : RegionSize) (i : ℕ) : Type 0 where
   pub region : Region
   pub left : ℕ
   pub place : i + 5 * left ≡ length rs
-  pub counts : countsOf region ≡ k
+  pub counts : regionSize region ≡ k
   pub few : length region ≤ 64
   pub same : rowsIn (length rs / 5) [] rs ≡ rowsIn left region (drop i rs)
 
-pub start : (rs : List ℤ) → length rs % 5 ≡ 0 → (k : RegionSize) → k ≡ countsOf [] → Checking rs k 0
+pub start : (rs : List ℤ) → length rs % 5 ≡ 0 → (k : RegionSize) → k ≡ regionSize [] → Checking rs k 0
 start rs e k q = record { region = []; left = length rs / 5; place = omega arith; counts = sym q; few = omega arith; same = refl }
 
 -- the row from element i on, and the rows after it
@@ -41,11 +41,11 @@ module _ {rs : List ℤ} {k : RegionSize} {i : ℕ} (v : Checking rs k i) where
   pub few-counted : k .convexes ≤ 64
   few-counted = omega (arith, ap (λ k. k .convexes) (v .counts))
 
-  pub done : length rs ≤ i → gives k ≡ with-value countsOf (rowsIn (length rs / 5) [] rs)
+  pub done : length rs ≤ i → gives k ≡ with-value regionSize (rowsIn (length rs / 5) [] rs)
   unfolding rowsIn
   done l =
       let z : v .left ≡ 0 = omega (arith, v .place) in
-      ap gives (sym (v .counts)) ∙ sym (ap (with-value countsOf) (v .same ∙ ap (λ n. rowsIn n (v .region) (drop i rs)) z))
+      ap gives (sym (v .counts)) ∙ sym (ap (with-value regionSize) (v .same ∙ ap (λ n. rowsIn n (v .region) (drop i rs)) z))
 
   module _ (l : i < length rs) where
     pub whole-row : i + 5 ≤ length rs
@@ -56,18 +56,18 @@ module _ {rs : List ℤ} {k : RegionSize} {i : ℕ} (v : Checking rs k i) where
         let z : v .left ≡ suc (v .left - 1) = omega (arith, v .place) in
         v .same ∙ ap (λ n. rowsIn n (v .region) (drop i rs)) z ∙ next-row (v .left - 1) (v .region) rs i
 
-    pub row-refused : (m : ℕ) → ((g : Region) → countsOf g ≡ k → refused m ≡ with-value countsOf (rowIn g (getD rs i (pos 0)) (halfspaceAt (drop i rs))))
-        → refused m ≡ with-value countsOf (rowsIn (length rs / 5) [] rs)
+    pub row-refused : (m : ℕ) → ((g : Region) → regionSize g ≡ k → refused m ≡ with-value regionSize (rowIn g (getD rs i (pos 0)) (halfspaceAt (drop i rs))))
+        → refused m ≡ with-value regionSize (rowsIn (length rs / 5) [] rs)
     row-refused m f =
         let row = rowIn (v .region) (getD rs i (pos 0)) (halfspaceAt (drop i rs)) in
-        let e : row ≡ refused m = value-refused countsOf row m (sym (f (v .region) (v .counts))) in
-        sym (ap (with-value countsOf) (split-row ∙ ap (λ a. then a (λ r. rowsIn (v .left - 1) r (drop (i + 5) rs))) e))
+        let e : row ≡ refused m = value-refused regionSize row m (sym (f (v .region) (v .counts))) in
+        sym (ap (with-value regionSize) (split-row ∙ ap (λ a. then a (λ r. rowsIn (v .left - 1) r (drop (i + 5) rs))) e))
 
-    pub row-passed : (next : RegionSize) → ((g : Region) → countsOf g ≡ k → gives next ≡ with-value countsOf (rowIn g (getD rs i (pos 0)) (halfspaceAt (drop i rs))))
+    pub row-passed : (next : RegionSize) → ((g : Region) → regionSize g ≡ k → gives next ≡ with-value regionSize (rowIn g (getD rs i (pos 0)) (halfspaceAt (drop i rs))))
         → Checking rs next (i + 5)
     row-passed next f =
         let row = rowIn (v .region) (getD rs i (pos 0)) (halfspaceAt (drop i rs)) in
-        let w = value-gives countsOf row next (sym (f (v .region) (v .counts))) in
+        let w = value-gives regionSize row next (sym (f (v .region) (v .counts))) in
         record {
           region = w .0;
           left = v .left - 1;
@@ -80,14 +80,14 @@ module _ {rs : List ℤ} {k : RegionSize} {i : ℕ} (v : Checking rs k i) where
 -- ---- all rows
 
 module _ (rs : List ℤ) where
-  pub no-rows : length rs ≡ 0 → refused Order ≡ with-value countsOf (regionOf rs)
+  pub no-rows : length rs ≡ 0 → refused Order ≡ with-value regionSize (regionOf rs)
   unfolding regionOf
   no-rows e = rw (le-ltb 0 (length rs) (omega arith))
 
-  pub no-fives : 0 < length rs → (length rs % 5 ≡ 0 → ⊥) → refused Order ≡ with-value countsOf (regionOf rs)
+  pub no-fives : 0 < length rs → (length rs % 5 ≡ 0 → ⊥) → refused Order ≡ with-value regionSize (regionOf rs)
   unfolding regionOf
   no-fives l e = rw (lt-ltb 0 (length rs) l, ne-eqb (length rs % 5) 0 e)
 
-  pub all-rows : 0 < length rs → length rs % 5 ≡ 0 → with-value countsOf (rowsIn (length rs / 5) [] rs) ≡ with-value countsOf (regionOf rs)
+  pub all-rows : 0 < length rs → length rs % 5 ≡ 0 → with-value regionSize (rowsIn (length rs / 5) [] rs) ≡ with-value regionSize (regionOf rs)
   unfolding regionOf
   all-rows l e = rw (lt-ltb 0 (length rs) l, eq-eqb (length rs % 5) 0 e)

@@ -1,5 +1,5 @@
--- The number of a row, and the convex that it belongs to, go by the counts of the region so far. A row that passes adds one halfspace, and one convex
--- where its number is the next. Assumes nothing.
+-- The checks of a row need only the size of the region so far. A row that passes adds one halfspace, and one convex where its number is the next.
+-- Assumes nothing.
 use Prim.Native.Nat.{ℕ, zero, suc, _+_, _-_, _≤_, _<_}
 use native.Mathlib.Omega.{arith}
 use mathlib.Core.Path.{_≡_, refl, sym, ap, _∙_}
@@ -19,7 +19,7 @@ use Rattle.region.specs.Rows.{begins, goesOn, opened, rowIn}
 use Rattle.region.proofs.AddLaws.{Added, added}
 use Rattle.region.proofs.RegionLaws.{convex-length, halfspace-length}
 use Rattle.region_rows.specs.declared.counts.RegionSize.{RegionSize}
-use Rattle.region_rows.specs.RegionSizes.{countsOf, oneConvexMore, oneHalfspaceMore}
+use Rattle.region_rows.specs.RegionSizes.{regionSize, addConvex, addHalfspace}
 use Rattle.region_rows.proofs.CountLaws.{convex-counts, halfspace-counts}
 use Rattle.region_rows.specs.Opening.{opensConvex}
 
@@ -33,7 +33,7 @@ number-before (pos m) n h = split (eqb m (n - 1))
 number-before (negsuc zero) n h = sym (ne-eqb 0 n (λ q. omega arith))
 number-before (negsuc (suc m)) n h = rw (lt-ltb 1 (suc (suc m)) (omega arith))
 
--- the number of a row after n convexes is the next one's or the last one's
+-- after n convexes a row's number is that of a new convex or of the last one
 abbrev pub belongsTo : ℕ → ℤ → Bool
 belongsTo n c = eqZ c (pos n) || (ltb 0 n && eqZ (c +ℤ pos 1) (pos n))
 
@@ -46,36 +46,36 @@ module _ (g : Region) (c : ℤ) where
   opened-begun e = opened-begun′ (begins g c) e
 
 module _ (h : Halfspace) where
-  crowded : (t : Bool) (g : Region) → 0 < length g → then (check Crowd t (gives (countsOf g))) (λ o. oneHalfspaceMore o h) ≡ with-value countsOf (check Crowd t (add g h))
+  crowded : (t : Bool) (g : Region) → 0 < length g → then (check Crowd t (gives (regionSize g))) (λ o. addHalfspace o h) ≡ with-value regionSize (check Crowd t (add g h))
   crowded true g b = halfspace-counts g h b
   crowded false g b = refl
 
   -- the convex is the next one, or the last one of at most 64
   in-convex : (t : Bool) (g : Region) → length g ≤ 64 → 0 < length (cond t (withConvex g) g)
-      → then (cond t (oneConvexMore (countsOf g)) (gives (countsOf g))) (λ o. oneHalfspaceMore o h)
-      ≡ with-value countsOf (check Crowd (fewConvexes (cond t (withConvex g) g)) (add (cond t (withConvex g) g) h))
-  in-convex true g l b = ap (λ a. then a (λ o. oneHalfspaceMore o h)) (convex-counts g) ∙ crowded (fewConvexes (withConvex g)) (withConvex g) b
-  in-convex false g l b = halfspace-counts g h b ∙ ap (λ t. with-value countsOf (check Crowd t (add g h))) (sym (le-leb (length g) 64 l))
+      → then (cond t (addConvex (regionSize g)) (gives (regionSize g))) (λ o. addHalfspace o h)
+      ≡ with-value regionSize (check Crowd (fewConvexes (cond t (withConvex g) g)) (add (cond t (withConvex g) g) h))
+  in-convex true g l b = ap (λ a. then a (λ o. addHalfspace o h)) (convex-counts g) ∙ crowded (fewConvexes (withConvex g)) (withConvex g) b
+  in-convex false g l b = halfspace-counts g h b ∙ ap (λ t. with-value regionSize (check Crowd t (add g h))) (sym (le-leb (length g) 64 l))
 
 module _ (k : RegionSize) (c : ℤ) (h : Halfspace) where
   abbrev row : Bool → Region → Answer Region
   row t g = check Order t (check Crowd (fewConvexes (opened g c)) (add (opened g c) h))
 
-  belongs : (t : Bool) → belongsTo (k .convexes) c ≡ t → (g : Region) → countsOf g ≡ k → begins g c || goesOn g c ≡ t
+  belongs : (t : Bool) → belongsTo (k .convexes) c ≡ t → (g : Region) → regionSize g ≡ k → begins g c || goesOn g c ≡ t
   belongs t b g e = ap (λ k. belongsTo (k .convexes) c) e ∙ b
 
-  pub no-number : belongsTo (k .convexes) c ≡ false → (g : Region) → countsOf g ≡ k → refused Order ≡ with-value countsOf (rowIn g c h)
+  pub no-number : belongsTo (k .convexes) c ≡ false → (g : Region) → regionSize g ≡ k → refused Order ≡ with-value regionSize (rowIn g c h)
   unfolding rowIn
-  no-number b g e = ap (λ t. with-value countsOf (row t g)) (sym (belongs false b g e))
+  no-number b g e = ap (λ t. with-value regionSize (row t g)) (sym (belongs false b g e))
 
-  pub row-added : belongsTo (k .convexes) c ≡ true → k .convexes ≤ 64 → (g : Region) → countsOf g ≡ k
-      → then (opensConvex k c) (λ o. oneHalfspaceMore o h) ≡ with-value countsOf (rowIn g c h)
+  pub row-added : belongsTo (k .convexes) c ≡ true → k .convexes ≤ 64 → (g : Region) → regionSize g ≡ k
+      → then (opensConvex k c) (λ o. addHalfspace o h) ≡ with-value regionSize (rowIn g c h)
   unfolding rowIn
   row-added b l g e =
       let belong = belongs true b g e in
-      ap (λ k. then (opensConvex k c) (λ o. oneHalfspaceMore o h)) (sym e)
+      ap (λ k. then (opensConvex k c) (λ o. addHalfspace o h)) (sym e)
       ∙ in-convex h (begins g c) g (omega (arith, ap (λ k. k .convexes) e)) (opened-begun g c belong)
-      ∙ ap (λ t. with-value countsOf (row t g)) (sym belong)
+      ∙ ap (λ t. with-value regionSize (row t g)) (sym belong)
 
 -- ---- a row that passed
 

@@ -1,5 +1,5 @@
-// Rows that are to be written, checked one after the other for 4, 7, 8 and 9, and counted. The rule stands in region/specs/Rows, the counts in
-// region_rows/specs/RegionSizes, the convex of a row in specs/Opening.
+// Rows that are to be written, checked one after the other for 4, 7, 8 and 9, and counted. The rule stands in region/specs/Rows, the size of a region in
+// specs/RegionSizes, the convex of a row in specs/Opening.
 use crate::counts::RegionSize;
 use crate::counts::RegionSizeOf;
 use answer::ORDER;
@@ -15,7 +15,7 @@ ghost use Rattle.answer.specs.Answer.{with-value};
 ghost use Rattle.vector.specs.Numbers.{eqZ};
 ghost use Rattle.region.specs.Regions.{Region};
 ghost use Rattle.region.specs.Rows.{rowIn, rowsIn, regionOf};
-ghost use Rattle.region_rows.specs.RegionSizes.{countsOf, countsGiven};
+ghost use Rattle.region_rows.specs.RegionSizes.{regionSize, regionSizeGiven};
 ghost use Rattle.region_rows.specs.Opening.{opensConvex};
 
 // Whether a row's number c is k.
@@ -25,7 +25,7 @@ pub fn is_number(c: i32, k: u16) -> bool
     c == k as i32
 }
 
-// Whether a row's number c is the next convex's or the last one's, where there are n convexes.
+// Whether a row's number c is that of a new convex or of the last one, where there are n convexes.
 fn belongs(c: i32, n: u16) -> bool
     ensures { λ t. ⌜ t ≡ (eqZ c (pos n) || (ltb 0 n && eqZ (c +ℤ pos 1) (pos n))) ⌝ }
 {
@@ -38,9 +38,9 @@ fn belongs(c: i32, n: u16) -> bool
     is_number(c, n - 1)
 }
 
-// The counts with the convex that the row with the number c belongs to, or the refusal 7.
+// The size with the convex that the row with the number c belongs to, or the refusal 7.
 fn opened(k: RegionSize, c: i32) -> RegionSizeOf
-    ensures { λ r. ⌜ countsGiven r ≡ opensConvex k c ⌝ }
+    ensures { λ r. ⌜ regionSizeGiven r ≡ opensConvex k c ⌝ }
 {
     if is_number(c, k.convexes) {
         return crate::counts::with_convex(k);
@@ -48,10 +48,10 @@ fn opened(k: RegionSize, c: i32) -> RegionSizeOf
     RegionSizeOf::Gives(k)
 }
 
-// The counts with a row more, or the first refusal: 4, 7, 8, 9.
+// The size with another row, or the first refusal: 4, 7, 8, 9.
 fn with_row(k: RegionSize, c: i32, h: Halfspace) -> RegionSizeOf
     requires { ⌜ k .convexes ≤ 64 ⌝ }
-    ensures { λ r. ⌜ ((g : Region) → countsOf g ≡ k → countsGiven r ≡ with-value countsOf (rowIn g c h)) ⌝ }
+    ensures { λ r. ⌜ ((g : Region) → regionSize g ≡ k → regionSizeGiven r ≡ with-value regionSize (rowIn g c h)) ⌝ }
 {
     if !belongs(c, k.convexes) {
         return RegionSizeOf::Refused(ORDER);
@@ -63,10 +63,10 @@ fn with_row(k: RegionSize, c: i32, h: Halfspace) -> RegionSizeOf
     }
 }
 
-// The counts of rows in whole fives, or the first refusal of a row.
+// The size of the region of rows in whole fives, or the first refusal of a row.
 fn count_rows(rows: &[i32]) -> RegionSizeOf
     requires { ⌜ length (now rows) % 5 ≡ 0 ⌝ }
-    ensures { λ r. ⌜ countsGiven r ≡ with-value countsOf (rowsIn (length (now (rows .entry)) / 5) [] (now (rows .entry))) ⌝ }
+    ensures { λ r. ⌜ regionSizeGiven r ≡ with-value regionSize (rowsIn (length (now (rows .entry)) / 5) [] (now (rows .entry))) ⌝ }
 {
     let mut at = crate::counts::none();
     let mut i = 0;
@@ -81,9 +81,9 @@ fn count_rows(rows: &[i32]) -> RegionSizeOf
     RegionSizeOf::Gives(at)
 }
 
-// The counts of the region of rows, or the first refusal: no rows and whole fives (4), then each row.
+// The size of the region of rows, or the first refusal: no rows and whole fives (4), then each row.
 pub fn checked(rows: &[i32]) -> RegionSizeOf
-    ensures { λ r. ⌜ countsGiven r ≡ with-value countsOf (regionOf (now (rows .entry))) ⌝ }
+    ensures { λ r. ⌜ regionSizeGiven r ≡ with-value regionSize (regionOf (now (rows .entry))) ⌝ }
 {
     if rows.len() == 0 {
         return RegionSizeOf::Refused(ORDER);

@@ -1,5 +1,5 @@
-// The counts of a region while it grows, in the reader and in the writer: one convex more and one halfspace more, within the stated limits. What is said
-// of the counts stands in specs/RegionSizes, the rules in region/specs/Building.
+// The size of a region while it grows, in the reader and in the writer: a convex or a halfspace is added, within the stated limits. The rules stand in
+// region/specs/Building, and by counts alone in specs/RegionSizes.
 use answer::CROWD;
 use answer::OFFSET;
 use answer::VECTOR;
@@ -10,7 +10,7 @@ ghost use mathlib.Core.Bool.{_&&_};
 ghost use mathlib.Core.List.{[]};
 ghost use lib.Dec.{ltb};
 ghost use Rattle.region.specs.Building.{isOffset};
-ghost use Rattle.region_rows.specs.RegionSizes.{countsOf, countsGiven, oneConvexMore, oneHalfspaceMore};
+ghost use Rattle.region_rows.specs.RegionSizes.{regionSize, regionSizeGiven, addConvex, addHalfspace};
 
 const CONVEXES: u16 = limits::CONVEXES as u16;
 
@@ -18,22 +18,22 @@ const IN_CONVEX: u16 = limits::IN_CONVEX as u16;
 
 const HALFSPACES: u16 = limits::HALFSPACES as u16;
 
-// The counts of a region: its convexes, the halfspaces in the last one, and those in all.
+// The size of a region: its convexes, the halfspaces in the last one, and those in all.
 pub struct RegionSize {
     pub convexes: u16,
     pub last: u16,
     pub all: u16,
 }
 
-// The counts, or the number of the first check that failed.
+// A size, or the number of the first check that failed.
 pub enum RegionSizeOf {
     Gives(RegionSize),
     Refused(u32),
 }
 
-// The counts of no convex.
+// The size of the region without convexes.
 pub fn none() -> RegionSize
-    ensures { λ r. ⌜ r ≡ countsOf [] ⌝ }
+    ensures { λ r. ⌜ r ≡ regionSize [] ⌝ }
 {
     RegionSize {
         convexes: 0,
@@ -42,9 +42,9 @@ pub fn none() -> RegionSize
     }
 }
 
-// One convex more, with no halfspace yet, or the refusal 7.
+// The size with a new convex, which has no halfspace yet, or the refusal 7.
 pub fn with_convex(k: RegionSize) -> RegionSizeOf
-    ensures { λ r. ⌜ countsGiven r ≡ oneConvexMore k ⌝ }
+    ensures { λ r. ⌜ regionSizeGiven r ≡ addConvex k ⌝ }
 {
     if CONVEXES <= k.convexes {
         return RegionSizeOf::Refused(CROWD);
@@ -56,7 +56,7 @@ pub fn with_convex(k: RegionSize) -> RegionSizeOf
     })
 }
 
-// 7: one halfspace more makes at most 100 in the last convex and at most 512 in all.
+// 7: with another halfspace there are at most 100 in the last convex and at most 512 in all.
 fn below_limits(k: RegionSize) -> bool
     ensures { λ t. ⌜ t ≡ (ltb (k .last) 100 && ltb (k .all) 512) ⌝ }
 {
@@ -73,9 +73,9 @@ fn is_offset(d: i64) -> bool
     -K <= d && d <= K
 }
 
-// One halfspace more in the last convex, or the first refusal: 7, 8, 9.
+// The size with another halfspace in the last convex, or the first refusal: 7, 8, 9.
 pub fn with_halfspace(k: RegionSize, h: Halfspace) -> RegionSizeOf
-    ensures { λ r. ⌜ countsGiven r ≡ oneHalfspaceMore k h ⌝ }
+    ensures { λ r. ⌜ regionSizeGiven r ≡ addHalfspace k h ⌝ }
 {
     if !below_limits(k) {
         return RegionSizeOf::Refused(CROWD);

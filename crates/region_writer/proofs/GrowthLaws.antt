@@ -1,5 +1,5 @@
--- The bytes of a region that grows at its end, in either style: a convex more is the record with which it begins; a halfspace more is its record, or its
--- numbers, and then the length of the last group grows with it. Assumes nothing.
+-- The bytes of a region that grows at its end, in either style: a new convex adds the record with which it begins; a new halfspace adds its record, or its
+-- numbers, and then the length of the last group grows too. Assumes nothing.
 use Prim.Native.Nat.{ℕ, _+_, _-_, _*_, _≤_, _<_}
 use native.Mathlib.Omega.{arith}
 use mathlib.Core.Path.{_≡_, refl, sym, ap, ap₂, _∙_}
@@ -17,7 +17,7 @@ use Rattle.region.proofs.RegionLaws.{convex-length, convex-last, halfspace-leng
 use Rattle.region.proofs.ReadBack.{with-last, payload-length, convexes-length, groups-length, file-length, grouped-length}
 use Rattle.region.proofs.FileBack.{convex-bytes, halfspace-bytes, group-bytes}
 use Rattle.region_writer.specs.declared.WriteCursor.{WriteCursor}
-use Rattle.region_writer.specs.Writing.{width, opening, withConvexAt, withHalfspaceAt, Stands}
+use Rattle.region_writer.specs.Writing.{width, opening, withConvexAt, withHalfspaceAt, RegionStands}
 
 -- ---- lengths
 
@@ -29,14 +29,14 @@ pub whole-length : (s : Style) (d b : ℕ) (g : Region) → length (fileIn s d b
 whole-length Style.Plain d b g = file-length d b g
 whole-length Style.Grouped d b g = grouped-length d b g
 
--- ---- a convex more
+-- ---- a new convex
 
 pub convex-more : (s : Style) (g : Region) → regionBytes s (withConvex g) ≡ regionBytes s g ++ begin (opening s)
 unfolding payloadBytes
 convex-more Style.Plain g = sym (append-nil (convexesBytes (withConvex g))) ∙ convex-bytes g []
 convex-more Style.Grouped g = sym (append-nil (groupsBytes (withConvex g))) ∙ group-bytes g [] []
 
--- ---- a halfspace more
+-- ---- a new halfspace
 
 payload-more : (c : Convex) (h : Halfspace) → payloadBytes (c ++ h ∷ []) ≡ payloadBytes c ++ numbersBytes h
 unfolding payloadBytes
@@ -100,9 +100,9 @@ module _ (g : Region) (h : Halfspace) (b : 0 < length g) where
 
 -- ---- what stands in a list
 
-module _ {s : Style} {g : Region} {before xs : List ℕ} {p : WriteCursor} (v : Stands s g before xs p) (room : 8 + length (regionBytes s g) ≤ length before) where
+module _ {s : Style} {g : Region} {before xs : List ℕ} {p : WriteCursor} (v : RegionStands s g before xs p) (room : 8 + length (regionBytes s g) ≤ length before) where
   pub stands-convex : {ys : List ℕ} → ys ≡ withConvexAt s p xs
-      → Stands s (withConvex g) before ys (record { at = p .at + 4; convexes = p .convexes + 1; last = 0 })
+      → RegionStands s (withConvex g) before ys (record { at = p .at + 4; convexes = p .convexes + 1; last = 0 })
   stands-convex e = record {
     at = omega (arith, v .at, ap length (convex-more s g), length-append (regionBytes s g) (begin (opening s)));
     convexes = omega (arith, v .convexes, convex-length g);
@@ -112,7 +112,7 @@ module _ {s : Style} {g : Region} {before xs : List ℕ} {p : WriteCursor} (v : 
         ∙ ap (λ b. put 8 b before) (sym (convex-more s g));
   }
 
-  -- what a halfspace more makes of the bytes
+  -- the bytes with a new halfspace
   bytes-more : (t : Style) → s ≡ t → (h : Halfspace) → 0 < length g → withHalfspaceAt t p h xs ≡ put 8 (regionBytes t (withHalfspace g h)) before
   bytes-more Style.Plain q h b =
       ap (put (p .at) (halfspaceBytes h)) (v .bytes ∙ ap (λ s. put 8 (regionBytes s g) before) q)
@@ -125,7 +125,7 @@ module _ {s : Style} {g : Region} {before xs : List ℕ} {p : WriteCursor} (v : 
       ∙ head-over g h b (p .at) (p .last) before (v .at ∙ ap (λ n. 8 + n) same) (v .last) (omega arith)
 
   pub stands-halfspace : (h : Halfspace) → 0 < length g → {ys : List ℕ} → ys ≡ withHalfspaceAt s p h xs
-      → Stands s (withHalfspace g h) before ys (record { at = p .at + width s; convexes = p .convexes; last = p .last + 1 })
+      → RegionStands s (withHalfspace g h) before ys (record { at = p .at + width s; convexes = p .convexes; last = p .last + 1 })
   stands-halfspace h b e = record {
     at = omega (arith, v .at, halfspace-longer g h b s);
     convexes = v .convexes ∙ sym (halfspace-length g h);

@@ -20,7 +20,7 @@ use Rattle.region.specs.Writer.{headerBytes, endBytes, regionBytes, fileIn, wri
 use Rattle.region.proofs.FileAnswers.{Answered, no-file, no-space, file-written}
 use Rattle.region.proofs.WriteBack.{region-back}
 use Rattle.region_rows.specs.declared.counts.RegionSize.{RegionSize}
-use Rattle.region_rows.specs.RegionSizes.{countsOf}
+use Rattle.region_rows.specs.RegionSizes.{regionSize}
 use Rattle.region_writer.specs.Writing.{width, FileFits}
 use Rattle.region_writer.proofs.GrowthLaws.{region-length, whole-length}
 
@@ -40,9 +40,9 @@ module _ (s : Style) (d b : ℕ) (rs : List ℤ) (before : List ℕ) where
     unfolding writeIn
     written = simp (depth, budget)
 
-    pub no-rows : (n : ℕ) → refused n ≡ with-value countsOf (regionOf rs) → Answered (writeIn s d b rs) before (refused n) before
+    pub no-rows : (n : ℕ) → refused n ≡ with-value regionSize (regionOf rs) → Answered (writeIn s d b rs) before (refused n) before
     no-rows n e =
-        no-file (writeIn s d b rs) before n (written ∙ ap (with-value (fileIn s d b)) (value-refused countsOf (regionOf rs) n (sym e)))
+        no-file (writeIn s d b rs) before n (written ∙ ap (with-value (fileIn s d b)) (value-refused regionSize (regionOf rs) n (sym e)))
 
     module _ (g : Region) (e : regionOf rs ≡ gives g) where
       file : writeIn s d b rs ≡ gives (fileIn s d b g)
@@ -66,9 +66,9 @@ pub record RowsWithin (rs : List ℤ) (k : RegionSize) : Type 0 where
   pub few : k .convexes ≤ 64
   pub limit : k .all ≤ 512
 
-pub passed : (rs : List ℤ) (k : RegionSize) → gives k ≡ with-value countsOf (regionOf rs) → RowsWithin rs k
+pub passed : (rs : List ℤ) (k : RegionSize) → gives k ≡ with-value regionSize (regionOf rs) → RowsWithin rs k
 passed rs k e =
-    let w = value-gives countsOf (regionOf rs) k (sym e) in
+    let w = value-gives regionSize (regionOf rs) k (sym e) in
     let m = region-back rs (w .0) (w .1) .0 in
     let c : k .convexes ≡ length (w .0) = ap (λ k. k .convexes) (sym (w .2)) in
     let a : k .all ≡ total (w .0) = ap (λ k. k .all) (sym (w .2)) in

@@ -1,4 +1,4 @@
--- The pass that writes rows: the region of the rows so far stands from element 8 on, and a row adds to its bytes what it adds to the region, so it has room
+-- The pass that writes rows: the region of the rows so far stands from element 8 on, and a row adds to its bytes what it adds to the region, so it fits
 -- where the whole file does. Assumes nothing.
 use Prim.Native.Nat.{ℕ, zero, suc, _+_, _-_, _*_, _/_, _%_, _≤_, _<_}
 use native.Mathlib.Omega.{arith}
@@ -30,14 +30,14 @@ use Rattle.region.proofs.RowsBack.{last-total}
 use Rattle.region_rows.proofs.NumberLaws.{RowAdded, taken}
 use Rattle.region_rows.proofs.CheckingPass.{next-row}
 use Rattle.region_writer.specs.declared.WriteCursor.{WriteCursor}
-use Rattle.region_writer.specs.Writing.{width, opening, withConvexAt, withHalfspaceAt, Stands, RowFits, FileFits, RowsStand}
+use Rattle.region_writer.specs.Writing.{width, opening, withConvexAt, withHalfspaceAt, RegionStands, RowFits, FileFits, RowsStand}
 use Rattle.region_writer.proofs.GrowthLaws.{region-length, convex-more, halfspace-longer, stands-convex, stands-halfspace}
 
--- ---- a halfspace more
+-- ---- a new halfspace
 
 -- the halfspace h makes the region r of g, which stands in xs
 pub record Follows (s : Style) (g r : Region) (before xs : List ℕ) (p : WriteCursor) (h : Halfspace) : Type 0 where
-  pub stands : Stands s g before xs p
+  pub stands : RegionStands s g before xs p
   pub begun : 0 < length g
   pub added : Added g r h
   pub room : 12 + length (regionBytes s r) ≤ length before
@@ -54,19 +54,19 @@ module _ {s : Style} {g r : Region} {before xs : List ℕ} {p : WriteCursor} {h 
   head-before Style.Grouped q = omega (arith, f .stands .at, f .stands .last, ap (λ s. length (regionBytes s g)) q, region-length Style.Grouped g, last-total g)
 
   pub halfspace-fits : (p .at + width s ≤ length xs) × (4 + 16 * p .last ≤ p .at) × (p .last < 100)
-  halfspace-fits = (omega (arith, f .stands .at, grown, same-length, f .room), head-before s refl, omega (arith, f .stands .last, f .added .room))
+  halfspace-fits = (omega (arith, f .stands .at, grown, same-length, f .room), head-before s refl, omega (arith, f .stands .last, f .added .in-convex))
 
   pub halfspace-small : Small (h .n) × Upto Kℕ (h .d)
-  halfspace-small = (vector-small (h .n) (f .added .fine .vector), between-upto (h .d) (f .added .fine .offset))
+  halfspace-small = (vector-small (h .n) (f .added .good .vector), between-upto (h .d) (f .added .good .offset))
 
   pub halfspace-stands : {q : WriteCursor} {ys : List ℕ} → q ≡ record { at = p .at + width s; convexes = p .convexes; last = p .last + 1 }
-      → ys ≡ withHalfspaceAt s p h xs → Stands s r before ys q
+      → ys ≡ withHalfspaceAt s p h xs → RegionStands s r before ys q
   halfspace-stands {ys = ys} e b =
       let q : WriteCursor = record { at = p .at + width s; convexes = p .convexes; last = p .last + 1 } in
       let w = stands-halfspace (f .stands) (omega (arith, grown, f .room)) h (f .begun) b in
-      subst (λ q. Stands s r before ys q) (sym e) (subst (λ r. Stands s r before ys q) (f .added .is) w)
+      subst (λ q. RegionStands s r before ys q) (sym e) (subst (λ r. RegionStands s r before ys q) (f .added .is) w)
 
--- ---- a row more
+-- ---- a new row
 
 module _ {s : Style} {xs : List ℕ} {p : WriteCursor} {c : ℤ} {h : Halfspace} (f : RowFits s xs p c h) where
   row : RowAdded (f .region) (f .next) c h
@@ -107,7 +107,7 @@ module _ {s : Style} {xs : List ℕ} {p : WriteCursor} {c : ℤ} {h : Halfspace}
     pub begins-row : {q : WriteCursor} {ys : List ℕ} → q ≡ record { at = p .at + 4; convexes = p .convexes + 1; last = 0 } → ys ≡ withConvexAt s p xs
         → Follows s (withConvex (f .region)) (f .next) (f .before) ys q h
     begins-row {ys = ys} o b = record {
-      stands = subst (λ q. Stands s (withConvex (f .region)) (f .before) ys q) (sym o) (stands-convex (f .stands) (omega (arith, longer, f .room)) b);
+      stands = subst (λ q. RegionStands s (withConvex (f .region)) (f .before) ys q) (sym o) (stands-convex (f .stands) (omega (arith, longer, f .room)) b);
       begun = begun;
       added = begins-added;
       room = f .room;
@@ -133,7 +133,7 @@ rows-longer s (suc n) g f rs e =
 
 -- ---- the pass
 
--- the rows of rs before element i are written into xs, which was before, and the next record goes to p. All rows make the region whole, which has room
+-- the rows of rs before element i are written into xs, which was `before`, and the next record goes to p. All rows make the region `whole`, whose file fits
 pub record Writing (s : Style) (rs : List ℤ) (before xs : List ℕ) (p : WriteCursor) (i : ℕ) : Type 0 where
   pub whole : Region
   pub is : regionOf rs ≡ gives whole
@@ -142,7 +142,7 @@ pub record Writing (s : Style) (rs : List ℤ) (before xs : List ℕ) (p : Write
   pub left : ℕ
   pub place : i + 5 * left ≡ length rs
   pub leads : rowsIn left region (drop i rs) ≡ gives whole
-  pub stands : Stands s region before xs p
+  pub stands : RegionStands s region before xs p
 
 all-rows : (rs : List ℤ) (g : Region) → regionOf rs ≡ gives g → (rowsIn (length rs / 5) [] rs ≡ gives g) × (length rs % 5 ≡ 0)
 unfolding regionOf
@@ -151,7 +151,7 @@ all-rows rs g e =
     let a = check-gives Order (ltb 0 (length rs)) (check Order (eqb (length rs % 5) 0) all) g e in
     (check-gives Order (eqb (length rs % 5) 0) all g a, eqb-true (length rs % 5) 0 (check-passed Order (eqb (length rs % 5) 0) all g a))
 
-none-stand : (s : Style) (before : List ℕ) → Stands s [] before before (record { at = 8; convexes = 0; last = 0 })
+none-stand : (s : Style) (before : List ℕ) → RegionStands s [] before before (record { at = 8; convexes = 0; last = 0 })
 unfolding convexesBytes groupsBytes lastConvex
 none-stand Style.Plain before = record { at = refl; convexes = refl; last = refl; bytes = sym (take-append-drop 8 before) }
 none-stand Style.Grouped before = record { at = refl; convexes = refl; last = refl; bytes = sym (take-append-drop 8 before) }
@@ -211,7 +211,7 @@ module _ {s : Style} {rs : List ℤ} {before xs : List ℕ} {p : WriteCursor} {i
       room = omega (arith, v .room, rows-longer s (v .left - 1) (next .0) (v .whole) (drop (i + 5) rs) (next .2));
     }
 
-    pub more : {q : WriteCursor} {ys : List ℕ} → ((f : RowFits s xs p c h) → Stands s (f .next) (f .before) ys q) → Writing s rs before ys q (i + 5)
+    pub more : {q : WriteCursor} {ys : List ℕ} → ((f : RowFits s xs p c h) → RegionStands s (f .next) (f .before) ys q) → Writing s rs before ys q (i + 5)
     unfolding row-fits
     more w = record {
       whole = v .whole;

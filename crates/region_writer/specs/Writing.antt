@@ -1,12 +1,12 @@
--- A region in either style, written record by record, and when a list has room for its file.
+-- A region in either style, written record by record, and when a list is long enough for its file. Document 01, 'Regions'; document 02, F-7.
 --   width s                    the bytes that a halfspace takes in the style s
 --   opening s                  the record with which a convex begins; a group has no halfspace yet
---   withConvexAt s p xs        the list with a convex more at the place p
---   withHalfspaceAt s p h xs   the list with the halfspace h more at the place p; a group's length grows with it
---   Stands s g before xs p     the region g stands in xs, which was before, from element 8 on, and p is the place after it
---   RowFits s xs p c h         some region stands in xs; the row with the number c and the halfspace h may follow it, and has room
+--   withConvexAt s p xs        the list with the beginning of a convex at the cursor p
+--   withHalfspaceAt s p h xs   the list with the halfspace h at the cursor p; a group's length grows with it
+--   RegionStands s g before xs p   xs is `before` with the region g from element 8 on, and p is the cursor after it
+--   RowFits s xs p c h         some region stands in xs; the row with the number c and the halfspace h may follow it, and fits
 --   FileFits s rs n            the rows rs are a region, and its file has at most n bytes
---   RowsStand ..               the region of the rows rs stands in xs, which was before, from element 8 to element n
+--   RowsStand ..               xs is `before` with the region of the rows rs from element 8 up to element n
 use Prim.Native.Nat.{ℕ, _+_, _-_, _*_, _≤_}
 use mathlib.Core.Path.{_≡_}
 use mathlib.Core.List.{List}
@@ -38,7 +38,7 @@ abbrev pub withHalfspaceAt : Style → WriteCursor → Halfspace → List ℕ �
 withHalfspaceAt Style.Plain p h xs = put (p .at) (halfspaceBytes h) xs
 withHalfspaceAt Style.Grouped p h xs = put (p .at) (numbersBytes h) (put (p .at - (4 + 16 * p .last)) (begin (Record.Group (p .last + 1))) xs)
 
-pub record Stands (s : Style) (g : Region) (before xs : List ℕ) (p : WriteCursor) : Type 0 where
+pub record RegionStands (s : Style) (g : Region) (before xs : List ℕ) (p : WriteCursor) : Type 0 where
   pub at : p .at ≡ 8 + length (regionBytes s g)
   pub convexes : p .convexes ≡ length g
   pub last : p .last ≡ length (lastConvex g)
@@ -47,7 +47,7 @@ pub record Stands (s : Style) (g : Region) (before xs : List ℕ) (p : WriteCurs
 pub record RowFits (s : Style) (xs : List ℕ) (p : WriteCursor) (c : ℤ) (h : Halfspace) : Type 0 where
   pub region : Region
   pub before : List ℕ
-  pub stands : Stands s region before xs p
+  pub stands : RegionStands s region before xs p
   pub next : Region
   pub is : rowIn region c h ≡ gives next
   pub room : 12 + length (regionBytes s next) ≤ length before

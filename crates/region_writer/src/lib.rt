@@ -23,7 +23,7 @@ ghost use Rattle.region.specs.Rows.{regionOf};
 ghost use Rattle.region.specs.Writer.{fileIn, writeIn};
 ghost use Rattle.region.specs.Answers.{fileAnswer, fileAfter};
 ghost use Rattle.region_writer.specs.Writing as writing;
-ghost use Rattle.region_writer.specs.Writing.{withConvexAt, withHalfspaceAt, Stands, RowFits, FileFits, RowsStand};
+ghost use Rattle.region_writer.specs.Writing.{withConvexAt, withHalfspaceAt, RegionStands, RowFits, FileFits, RowsStand};
 
 // Where the next record goes, how many convexes are written, and how many halfspaces of the last one.
 pub struct WriteCursor {
@@ -52,7 +52,7 @@ fn opening(style: Style) -> Record
     }
 }
 
-// A convex more. The place after it.
+// Begins a convex. The cursor after it.
 fn put_convex(style: Style, out: &mut [u8], p: WriteCursor) -> WriteCursor
     requires { ⌜ (p .at + 4 ≤ length (now out)) × (p .convexes ≤ 64) ⌝ }
     ensures { λ r. ⌜ r ≡ record { at = p .at + 4; convexes = p .convexes + 1; last = 0 } ⌝ }
@@ -66,7 +66,7 @@ fn put_convex(style: Style, out: &mut [u8], p: WriteCursor) -> WriteCursor
     }
 }
 
-// A halfspace more, in the last convex: its own record, or its numbers behind those of the group, whose length is brought up to date. The place after it.
+// Adds a halfspace to the last convex: its own record, or its numbers behind those of the group, whose length is brought up to date. The cursor after it.
 fn put_halfspace(style: Style, out: &mut [u8], p: WriteCursor, h: Halfspace) -> WriteCursor
     requires { ⌜ (p .at + writing.width style ≤ length (now out)) × (4 + 16 * p .last ≤ p .at) × (p .last < 100) ⌝ }
     requires { ⌜ Small (h .n) ⌝ }
@@ -99,10 +99,10 @@ fn put_halfspace(style: Style, out: &mut [u8], p: WriteCursor, h: Halfspace) -> 
     }
 }
 
-// What a row with the number c adds: a convex begins where c is the next number. The place after it.
+// Adds a row with the number c: a convex begins where c is the next number. The cursor after it.
 fn put_row(style: Style, out: &mut [u8], p: WriteCursor, c: i32, h: Halfspace) -> WriteCursor
     requires { ⌜ RowFits style (now out) p c h ⌝ }
-    ensures { λ r. ⌜ ((f : RowFits style (now (out .entry)) p c h) → Stands style (f .next) (f .before) (now (out .exit)) r) ⌝ }
+    ensures { λ r. ⌜ ((f : RowFits style (now (out .entry)) p c h) → RegionStands style (f .next) (f .before) (now (out .exit)) r) ⌝ }
 {
     if region_rows::checks::is_number(c, p.convexes) {
         let opened = put_convex(style, out, p);
@@ -111,7 +111,7 @@ fn put_row(style: Style, out: &mut [u8], p: WriteCursor, c: i32, h: Halfspace) -
     put_halfspace(style, out, p, h)
 }
 
-// The records of all rows, from element 8 on. The place after them.
+// The records of all rows, from element 8 on. The position after them.
 fn put_rows(style: Style, rows: &[i32], out: &mut [u8]) -> usize
     requires { ⌜ FileFits style (now rows) (length (now out)) ⌝ }
     ensures { λ r. ⌜ RowsStand style (now (rows .entry)) (now (out .entry)) (now (out .exit)) r ⌝ }

@@ -1,4 +1,4 @@
--- What the check of a depth says. Assumes nothing.
+-- A depth that passes its check is 1 to 12, and one that fails and is not 0 is above 12. Assumes nothing.
 use Prim.Native.Nat.{ℕ, _≤_, _<_}
 use mathlib.Core.Path.{_≡_}
 use mathlib.Core.Bool.{true, false}

@@ -14,7 +14,7 @@ unfolding greatest
 greatest-passes f zero e = e
 greatest-passes f (suc n) e = split (f (suc n)) (λ t. rw (t, greatest) t) (λ t. rw (t, greatest) (greatest-passes f n e))
 
--- the greatest is at most n, and passes if it is not 0
+-- the greatest is at most n
 pub greatest-most : (f : ℕ → Bool) (n : ℕ) → greatest f n ≤ n
 unfolding greatest
 greatest-most f zero = omega arith
@@ -30,6 +30,7 @@ greatest-above f (suc n) k h e = split (f (suc n)) (λ t. rw (t, greatest) h)
     let s : k ≡ suc n = omega (arith, leb-false k n l) in
     absurd (true≢false (sym (subst (λ x. f x ≡ true) s e) ∙ t)))))
 
+-- the greatest passes if it is not 0
 pub greatest-found : (f : ℕ → Bool) (n : ℕ) → 0 < greatest f n → f (greatest f n) ≡ true
 unfolding greatest
 greatest-found f zero h = absurd (omega arith)

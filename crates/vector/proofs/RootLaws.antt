@@ -1,6 +1,6 @@
 -- The square root is the greatest whole number whose square is at most s, and the only number r with r² ≤ s < (r + 1)².
 -- Of a fourth of s the root q has q² ≤ s / 4 < (q + 1)², so (2 q)² ≤ s < (2 q + 2)²: the root of s is 2 q or 2 q + 1. Assumes nothing.
---   IsRoot s r     r is that number: r² ≤ s < (r + 1)². That `root s` is, and that no other number is: proofs/RootLaws
+--   IsRoot s r     r² ≤ s < (r + 1)²: true of `root s` (`root-is`) and of no other number (`root-unique`)
 use Prim.Native.Nat.{ℕ, zero, suc, _+_, _-_, _*_, _/_, _^_, _<_, _≤_}
 use mathlib.Core.Path.{_≡_, refl, sym, ap, _∙_}
 use mathlib.Core.Bool.{Bool, true, false, cond, _&&_}

@@ -84,8 +84,8 @@ sq (negsuc n) = refl
 pub dot-self : (v : Vec3) → dot v v ≡ pos (natAbs (v .x) * natAbs (v .x) + natAbs (v .y) * natAbs (v .y) + natAbs (v .z) * natAbs (v .z))
 dot-self v = λ i. sq (v .x) i +ℤ sq (v .y) i +ℤ sq (v .z) i
 
-pub dot-self-positive : (v : Vec3) → T (nonNeg (dot v v))
-dot-self-positive v = subst (λ z. T (nonNeg z)) (sym (dot-self v)) tt
+pub dot-self-nonnegative : (v : Vec3) → T (nonNeg (dot v v))
+dot-self-nonnegative v = subst (λ z. T (nonNeg z)) (sym (dot-self v)) tt
 
 root-at-most : (v : Vec3) → AtMost (root (natAbs (dot v v))) v
 root-at-most v =

@@ -1,6 +1,6 @@
--- How large the components of a vector get, for sums and products that fit. No rule names it. Assumes nothing.
+-- How large the components of a vector get: code needs it for sums and products that fit, the rules do not name it. Assumes nothing.
 --   AtMost n v                each component is at most n in size
---   Small v                   each is within ±K, as of every corner and normal of the mesh (the laws: proofs/SizeLaws)
+--   Small v                   each is within ±K, as in every corner and normal of the mesh (the laws: proofs/SizeLaws)
 use Prim.Native.Nat.{ℕ}
 use Rattle.algebra.proofs.Sizes.{Upto}
 use Rattle.vector.specs.declared.Vec3.{Vec3}

@@ -1,4 +1,4 @@
--- What the vector rule says of the components and of the square length, and vectors as the algebra has them. Assumes nothing.
+-- A vector by the rule has components within ±K and a length within K ± 2. And vectors as the algebra has them. Assumes nothing.
 use mathlib.Core.Path.{_≡_, refl}
 use mathlib.Core.Bool.{Bool, true, _&&_}
 use lib.IntN.{pos, negℤ, _+ℤ_, _-ℤ_, _*ℤ_}
@@ -18,7 +18,7 @@ abbrev pub v3 : Vec3 → V3
 v3 a = record { x = a .x; y = a .y; z = a .z }
 
 -- (K − 2)² ≤ p·p ≤ (K + 2)²
-pub record Long (p : Vec3) : Type 0 where
+pub record UnitLength (p : Vec3) : Type 0 where
   pub low : (pos 1048574 *ℤ pos 1048574) ≤ℤ dot p p
   pub high : dot p p ≤ℤ (pos 1048578 *ℤ pos 1048578)
 
@@ -42,9 +42,9 @@ module _ (p : Vec3) (e : isVector p ≡ true) where
   unfolding isVector
   vector-small = small-tested p (and-left (inX && inY && inZ) (atLeast && atMost) e)
 
-  pub vector-long : Long p
+  pub vector-unit-length : UnitLength p
   unfolding isVector
-  vector-long =
+  vector-unit-length =
       let l = and-right (inX && inY && inZ) (atLeast && atMost) e in
       record { low = le-yes (and-left atLeast atMost l); high = le-yes (and-right atLeast atMost l) }
 

@@ -1,4 +1,4 @@
--- What the calls answer that take a pointing from another form: a mount's report, a catalogue line. Document 02, F-1 and F-3.
+-- The answer of a call that makes a pointing from another form: a mount's report, a catalogue line. Document 02, F-1 and F-3.
 --   vectorGiven r   the vector, or the refusal
 use Rattle.answer.specs.Answer.{Answer, refused, gives}
 use Rattle.vector.specs.declared.Vec3.{Vec3}

@@ -1,4 +1,4 @@
--- Vectors in lists of numbers, three numbers each.
+-- Vectors in lists of numbers, three numbers each. Document 01, 'Pointings and the mesh', has the vectors; the lists are of the code.
 --   vecIn xs k       the vector whose numbers begin at number k
 use Prim.Native.Nat.{ℕ, _+_}
 use mathlib.Core.List.{List}

@@ -1,4 +1,4 @@
-// Sums, products and the vector rule in code, and vectors in lists of numbers. The rules stand in vector/specs, the numbers of a list in specs/Stored.
+// Sums, products and the vector rule in code, and vectors in lists of numbers. The rules stand in vector/specs, vectors in lists in specs/Stored.
 use limits::K;
 use vector::Vec3;
 ghost use mathlib.Core.Path.{_≡_};
@@ -78,7 +78,7 @@ pub fn square_length(s: Vec3) -> u64
 pub fn is_vector(p: Vec3) -> bool
     ensures { λ t. ⌜ t ≡ rule.isVector p ⌝ }
 {
-    is_small(p) && is_long(p)
+    is_small(p) && has_unit_length(p)
 }
 
 // Whether each component of p is within ±K.
@@ -101,7 +101,7 @@ const SHORTEST_SQUARE: u64 = ((K - 2) * (K - 2)) as u64;
 const LONGEST_SQUARE: u64 = ((K + 2) * (K + 2)) as u64;
 
 // Whether the length of p is within K ± 2.
-fn is_long(p: Vec3) -> bool
+fn has_unit_length(p: Vec3) -> bool
     requires { ⌜ AtMost (2 ^ 22) p ⌝ }
     ensures { λ t. ⌜ t ≡ between ((K -ℤ pos 2) *ℤ (K -ℤ pos 2)) ((K +ℤ pos 2) *ℤ (K +ℤ pos 2)) (rule.dot p p) ⌝ }
 {

@@ -1,16 +1,15 @@
 // The integer square root in code: a guess, tested; two steps from it, each tested; bisection for the rest. The rule is `root` of vector/specs/Numbers.
+use limits::UNSIGNED_K as K;
 ghost use mathlib.Core.Path.{_≡_};
 ghost use mathlib.Core.Bool.{_&&_};
 ghost use Prim.Native.Nat.{_+_, _-_, _*_, _/_, _^_, _≤_, _<_};
 ghost use lib.Dec.{leb, ltb};
 ghost use Rattle.vector.specs.Numbers.{root};
 
-const K: u64 = 1048576;
-
 // About the length of the sum of two near vectors.
 const TWO_K: u64 = 2 * K;
 
-// The same of three.
+// About the length of the sum of three.
 const THREE_K: u64 = 3 * K;
 
 // The squares of both, and a number between them.
@@ -25,7 +24,7 @@ const FOUR_K: u64 = 2 * TWO_K;
 
 const UP_TO_FOUR_K: u64 = FOUR_K - 1;
 
-// The same for a step from 3K.
+// As above, for a step from 3K.
 const SIX_K: u64 = 2 * THREE_K;
 
 const UP_TO_SIX_K: u64 = SIX_K - 1;
@@ -85,7 +84,7 @@ pub fn near_two(s: u64) -> u64
     TWO_K - (e + f * f + UP_TO_FOUR_K) / FOUR_K
 }
 
-// The same for s a little below (3K)².
+// As above, for s a little below (3K)².
 fn near_three(s: u64) -> u64
     ensures { λ r. ⌜ (2 ^ 19 ≤ r) × (r ≤ 2 ^ 22) ⌝ }
 {

@@ -49,6 +49,7 @@ pub fn largest(c: Vec3) -> u64
     larger(larger(size(c.x), size(c.y)), size(c.z))
 }
 
+// The larger of two numbers.
 fn larger(a: u64, b: u64) -> u64
     ensures { λ r. ⌜ r ≡ max a b ⌝ }
 {

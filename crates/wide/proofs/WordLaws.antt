@@ -19,8 +19,8 @@ four : (u v : ℕ) → u * v ≡ u / 2 ^ 32 * (v / 2 ^ 32) * 2 ^ 64 + u / 2 ^ 32
 four u v = (λ i. halves u i * halves v i) ∙ columns (2 ^ 32) (u / 2 ^ 32) (u % 2 ^ 32) (v / 2 ^ 32) (v % 2 ^ 32)
 
 -- the columns added up
-asm : (q0 r0 q r q1 r1 p00 p10 p01 p11 : ℕ) → p00 ≡ q0 * 2 ^ 32 + r0 → p10 + q0 ≡ q * 2 ^ 32 + r → r + p01 ≡ q1 * 2 ^ 32 + r1 → (p11 + q + q1) * 2 ^ 64 + (r1 * 2 ^ 32 + r0) ≡ p11 * 2 ^ 64 + p10 * 2 ^ 32 + p01 * 2 ^ 32 + p00
-asm q0 r0 q r q1 r1 p00 p10 p01 p11 e f g = omega arith
+columns-sum : (q0 r0 q r q1 r1 p00 p10 p01 p11 : ℕ) → p00 ≡ q0 * 2 ^ 32 + r0 → p10 + q0 ≡ q * 2 ^ 32 + r → r + p01 ≡ q1 * 2 ^ 32 + r1 → (p11 + q + q1) * 2 ^ 64 + (r1 * 2 ^ 32 + r0) ≡ p11 * 2 ^ 64 + p10 * 2 ^ 32 + p01 * 2 ^ 32 + p00
+columns-sum q0 r0 q r q1 r1 p00 p10 p01 p11 e f g = omega arith
 
 abbrev mid : (p00 p10 : ℕ) → ℕ
 mid p00 p10 = p10 + p00 / 2 ^ 32
@@ -30,7 +30,7 @@ next p00 p10 p01 = mid p00 p10 % 2 ^ 32 + p01
 
 -- the two words of the product, as the program adds them up
 assembled : (p00 p10 p01 p11 : ℕ) → (p11 + mid p00 p10 / 2 ^ 32 + next p00 p10 p01 / 2 ^ 32) * 2 ^ 64 + (next p00 p10 p01 % 2 ^ 32 * 2 ^ 32 + p00 % 2 ^ 32) ≡ p11 * 2 ^ 64 + p10 * 2 ^ 32 + p01 * 2 ^ 32 + p00
-assembled p00 p10 p01 p11 = asm (p00 / 2 ^ 32) (p00 % 2 ^ 32) (mid p00 p10 / 2 ^ 32) (mid p00 p10 % 2 ^ 32) (next p00 p10 p01 / 2 ^ 32) (next p00 p10 p01 % 2 ^ 32) p00 p10 p01 p11 (halves p00) (halves (mid p00 p10)) (halves (next p00 p10 p01))
+assembled p00 p10 p01 p11 = columns-sum (p00 / 2 ^ 32) (p00 % 2 ^ 32) (mid p00 p10 / 2 ^ 32) (mid p00 p10 % 2 ^ 32) (next p00 p10 p01 / 2 ^ 32) (next p00 p10 p01 % 2 ^ 32) p00 p10 p01 p11 (halves p00) (halves (mid p00 p10)) (halves (next p00 p10 p01))
 
 pub whole : (u v p00 p10 p01 p11 : ℕ) → p00 ≡ u % 2 ^ 32 * (v % 2 ^ 32) → p10 ≡ u / 2 ^ 32 * (v % 2 ^ 32) → p01 ≡ u % 2 ^ 32 * (v / 2 ^ 32) → p11 ≡ u / 2 ^ 32 * (v / 2 ^ 32) → (p11 + mid p00 p10 / 2 ^ 32 + next p00 p10 p01 / 2 ^ 32) * 2 ^ 64 + (next p00 p10 p01 % 2 ^ 32 * 2 ^ 32 + p00 % 2 ^ 32) ≡ u * v
 whole u v p00 p10 p01 p11 a b c d = assembled p00 p10 p01 p11 ∙ (λ i. d i * 2 ^ 64 + b i * 2 ^ 32 + c i * 2 ^ 32 + a i) ∙ sym (four u v)
@@ -44,7 +44,7 @@ by false a b c d e f g = e ∙ sym (le-ltb c d (g (ltb-false a b e)))
 pub same-test : (a b c d : ℕ) → (a < b → c < d) → (b ≤ a → d ≤ c) → ltb a b ≡ ltb c d
 same-test a b c d f g = by (ltb a b) a b c d refl f g
 
--- the upper words tell, where the lower fit
+-- the upper words decide, where the lower fit
 pub upper : (ah al bh bl : ℕ) → al < 2 ^ 64 → ah < bh → ah * 2 ^ 64 + al < bh * 2 ^ 64 + bl
 upper ah al bh bl f h = omega arith
 

@@ -9,10 +9,10 @@ pub struct Wide {
     pub lo: u64,
 }
 
-// So many values has half a word: what a word is divided by into its halves.
+// 2^32: a word divided by it gives its upper half, and the remainder is the lower.
 const HALF: u64 = 1 << 32;
 
-// A product of two halves of a word. A function of its own, so that its caller's needs are linear.
+// A product of two halves of a word. Its own function keeps the proof of `product` linear.
 fn mul32(a: u64, b: u64) -> u64
     requires { ⌜ (a < 2 ^ 32) × (b < 2 ^ 32) ⌝ }
     ensures { λ r. ⌜ (r ≡ a * b) × (r ≤ (2 ^ 32 - 1) * (2 ^ 32 - 1)) ⌝ }
@@ -39,13 +39,13 @@ pub fn product(u: u64, v: u64) -> Wide
     Wide { hi: hi, lo: lo }
 }
 
-// A sum that fits two words. Where the lower words pass one word, one is carried.
+// A sum, where it fits two words. Where the lower words exceed one word, 1 is carried.
 pub fn sum(a: Wide, b: Wide) -> Wide
     requires { ⌜ valueOf a + valueOf b < 2 ^ 128 ⌝ }
     ensures { λ r. ⌜ valueOf r ≡ valueOf a + valueOf b ⌝ }
 {
-    let room = u64::MAX - b.lo;
-    if a.lo <= room {
+    let left = u64::MAX - b.lo;
+    if a.lo <= left {
         return Wide {
             hi: a.hi + b.hi,
             lo: a.lo + b.lo,
@@ -53,11 +53,11 @@ pub fn sum(a: Wide, b: Wide) -> Wide
     }
     Wide {
         hi: a.hi + b.hi + 1,
-        lo: a.lo - room - 1,
+        lo: a.lo - left - 1,
     }
 }
 
-// A product with a word that fits two words.
+// A product of a two-word number with a word, where it fits two words.
 pub fn times(a: Wide, n: u64) -> Wide
     requires { ⌜ valueOf a * n < 2 ^ 128 ⌝ }
     ensures { λ r. ⌜ valueOf r ≡ valueOf a * n ⌝ }

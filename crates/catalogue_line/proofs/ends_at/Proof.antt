@@ -1,4 +1,4 @@
--- Where the byte is a line feed, the place is in the line; it is the last where the line ends after it. Assumes nothing.
+-- Where the byte is a line feed, its position is in the line; it is the last byte where the line ends after it. Assumes nothing.
 use Prim.Native.Nat.{ℕ, _<_}
 use native.Mathlib.Omega.{arith}
 use mathlib.Core.Path.{_≡_, sym, _∙_}

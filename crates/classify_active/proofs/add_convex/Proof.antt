@@ -13,7 +13,7 @@ start-before-shared-slice-known2 c = c .before .before .before
 abbrev active-in-convex-before-o : tie.After-o → tie.After-active-in-convex
 active-in-convex-before-o c = c .before .before .before
 
--- the next place for an end
+-- the position of the next end
 place : tie.Need-slice-write-stops
 place c =
     let o = active-in-convex-before-o (c .before .before) in

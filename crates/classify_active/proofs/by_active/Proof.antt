@@ -1,4 +1,4 @@
--- `classify_active::by_active` has looked at the count, the volume and the anchor. Assumes nothing.
+-- `classify_active::by_active` tests the count, the volume and the anchor. Assumes nothing.
 use native.Mathlib.Omega.{arith}
 use mathlib.Core.Path.{sym, ap, subst, _∙_}
 use mathlib.Core.Bool.{false≢true}

@@ -12,7 +12,7 @@ use mir.Val.{toZ, ofZ}
 use Rattle.algebra.proofs.Sized.{squares-by-size, held, upto-held, upto-mono, fits-tested}
 use Rattle.algebra.proofs.Tests.{and-then, and-no-left, le-yes, yes-lt, no-lt, no-le}
 use Rattle.vector.specs.Vectors.{dot}
-use Rattle.vector.proofs.SizeLaws.{dot-self-positive}
+use Rattle.vector.proofs.SizeLaws.{dot-self-nonnegative}
 use Rattle.classify_prepared.specs.Measures.{squareOf}
 use Rattle.classify.proofs.RaysFirst.{passes}
 use Rattle.classify_rays.proofs.RayLaws.{ray-most, filter-right}
@@ -40,7 +40,7 @@ squares c =
     let n = ap natAbs (product d) in
     let g = c .size .ensures ∙ ap natAbs (held (s .pre .1 .0) tt .eq) in
     (λ i. leb (g i * g i * squareOf (s .args .y)) (n i * n i))
-    ∙ squares-by-size (s .args .g) (dot r r) (dot (s .args .f) r) (dot-self-positive r)
+    ∙ squares-by-size (s .args .g) (dot r r) (dot (s .args .f) r) (dot-self-nonnegative r)
     ∙ and-then _ (yes-lt (no-le {a = dot (s .args .f) r} {b = pos 0} (tested d (c .before .if1 .left))))
 
 size-most : (c : tie.After-size) → c .size .result ≤ 2 ^ 21

@@ -1,4 +1,5 @@
--- `classify_region::classify_convexes`. Assumes nothing.
+-- `classify_region::classify_convexes` is the region's class: the class so far and that of what is left to be scanned together give it (ScanLaws).
+-- Assumes nothing.
 use Prim.Native.Nat.{ℕ, _+_, _-_, _*_, _^_, _≤_, _<_}
 use native.Mathlib.Omega.{arith}
 use mathlib.Core.Path.{_≡_, refl, sym, ap, subst, _∙_}
@@ -13,7 +14,7 @@ use Rattle.region.specs.Regions.{Region}
 use Rattle.classify_halfspace.specs.Halfspaces.{preparedClass}
 use Rattle.classify_prepared.specs.Measures.{SoundHalfspace}
 use Rattle.classify_prepared.specs.PreparedLists.{preparedIn, Prepared, meet, join}
-use Rattle.classify_region.proofs.ScanLaws.{AtConvex, AtHalfspace, start, opened, ended, full, stands, exhausted, left-out, Stands}
+use Rattle.classify_region.proofs.ScanLaws.{AtConvex, AtHalfspace, start, opened, ended, full, halfspace-step, exhausted, left-out, HalfspaceStep}
 use Rattle.classify_region.proofs.classify_convexes.Statement.{statement}
 use Rattle.classify_region.proofs.classify_convexes.Tie as tie
 
@@ -54,31 +55,31 @@ at-convexes-before-left-halfspaces c = in-convexes-before-left-halfspaces c .bef
 abbrev start-before-left-halfspaces : tie.Left-halfspaces Inv-halfspaces μ-halfspaces Inv-convexes μ-convexes → tie.Start Inv-halfspaces μ-halfspaces Inv-convexes μ-convexes
 start-before-left-halfspaces c = start-before-in-convexes (in-convexes-before-left-halfspaces c)
 
--- a halfspace more is taken
+-- the next halfspace is taken
 module _ (t : Trixel) (xs : List ℤ) (es : List ℕ) (n k end i : ℕ) (settled class : Class) where
   abbrev Each : ℕ → Class → Type 0
   Each i class = (g : Region) → Prepared g xs es n → AtHalfspace t xs es n g k end i settled class
 
   taken : Each i class → i < end → {q : PreparedHalfspace} {b r : Class} → q ≡ preparedIn xs (7 * i) → b ≡ preparedClass q t → r ≡ meet class b → Each (i + 1) r
   taken inv h e f m g p =
-      let s = stands t xs es n g k end i settled class (inv g p) h in
+      let s = halfspace-step t xs es n g k end i settled class (inv g p) h in
       subst (AtHalfspace t xs es n g k end (i + 1) settled) (sym m) (s .taken _ (f ∙ ap (λ q. preparedClass q t) e))
 
--- the place of the next end
+-- the next end is in its list
 opening : (c : tie.In-convexes Inv-halfspaces μ-halfspaces Inv-convexes μ-convexes) → c .before .convexes .k < length (c .before .before .before .args .ends .now)
 opening c =
     let l = c .before in
     let r = l .before .before .pre .1 in
     opened _ _ _ _ (r .0) _ _ _ (l .convexes .inv (r .0) (r .1)) (omega arith) .0
 
--- a convex more is still counted
+-- the count of convexes fits
 counted : (c : tie.In-convexes Inv-halfspaces μ-halfspaces Inv-convexes μ-convexes) → c .before .convexes .k + 1 < 2 ^ 64
 counted c = omega (arith, opening c, c .before .before .before .good .1 .1 .1 .1 .1 .0)
 
--- the halfspace at the next place
+-- the next halfspace is in its list
 module _ (c : tie.In-halfspaces Inv-halfspaces μ-halfspaces Inv-convexes μ-convexes) where
-  next-half :
-      Stands (start-before-in-halfspaces c .args .t)
+  next-halfspace :
+      HalfspaceStep (start-before-in-halfspaces c .args .t)
       (start-before-in-halfspaces c .args .prepared .now)
       (start-before-in-halfspaces c .args .ends .now)
       (start-before-in-halfspaces c .args .n)
@@ -88,12 +89,12 @@ module _ (c : tie.In-halfspaces Inv-halfspaces μ-halfspaces Inv-convexes μ-con
       (c .before .halfspaces .i)
       (at-convexes-before-in-halfspaces c .convexes .settled)
       (c .before .halfspaces .class)
-  next-half =
+  next-halfspace =
       let r = start-before-in-halfspaces c .pre .1 in
-      stands _ _ _ _ (r .0) _ _ _ _ _ (c .before .halfspaces .inv .2 (r .0) (r .1)) (omega arith)
+      halfspace-step _ _ _ _ (r .0) _ _ _ _ _ (c .before .halfspaces .inv .2 (r .0) (r .1)) (omega arith)
 
   below : 7 * c .before .halfspaces .i + 1 < 2 ^ 64
-  below = let h = next-half .room in omega arith
+  below = let h = next-halfspace .in-list in omega arith
 
 -- where the scan of a convex has ended, at its own end or at a halfspace that leaves the trixel outside
 module _ (c : tie.Left-halfspaces Inv-halfspaces μ-halfspaces Inv-convexes μ-convexes) where
@@ -124,9 +125,9 @@ classify-convexes-spec =
     let r = l .before .before .pre .1 in
     let o = opened _ _ _ _ (r .0) _ _ _ (l .convexes .inv (r .0) (r .1)) (omega arith) .1 _ refl in
     (o .0, omega (arith, o .1 .after .count), λ g p. opened _ _ _ _ g _ _ _ (l .convexes .inv g p) (omega arith) .1 _ refl .1))
-    (λ c. let h = next-half c .room in omega arith)
-    (λ c κs. next-half c .room)
-    (λ c κs. let p = start-before-in-halfspaces (c .before) .pre .0 in (p .0, (p .1, (p .2, subst SoundHalfspace (sym (c .prepared-at .ensures)) (next-half (c .before) .sound)))))
+    (λ c. let h = next-halfspace c .in-list in omega arith)
+    (λ c κs. next-halfspace c .in-list)
+    (λ c κs. let p = start-before-in-halfspaces (c .before) .pre .0 in (p .0, (p .1, (p .2, subst SoundHalfspace (sym (c .prepared-at .ensures)) (next-halfspace (c .before) .sound)))))
     (λ c κs. tt)
     (λ c κs. tt)
     (λ c. let h = below (in-halfspaces-before-meet (c .before .before)) in omega arith)

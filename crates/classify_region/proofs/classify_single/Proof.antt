@@ -12,7 +12,7 @@ use Rattle.classify_rays.specs.Rays.{raysPassed}
 use Rattle.classify_prepared.proofs.PreparedLaws.{sound-small, sound-offset, sound-high}
 use Rattle.classify_rays.proofs.RayLaws.{own-rays, rays-passed}
 use Rattle.classify_halfspace.proofs.ClassLaws.{not-oriented, when-all, when-some, when-none}
-use Rattle.classify_region.proofs.ScanLaws.{only-half, only-class}
+use Rattle.classify_region.proofs.ScanLaws.{only-halfspace, only-class}
 use Rattle.classify_region.proofs.classify_single.Statement.{statement}
 use Rattle.classify_region.proofs.classify_single.Tie as tie
 
@@ -40,7 +40,7 @@ count-passed-before-middle-of c = c .before .before .before
 
 -- the halfspace is sound
 sound : (c : tie.After-prepared-at) → SoundHalfspace (c .prepared-at .result)
-sound c = let s = c .before .before in let r = s .pre .1 .0 in subst SoundHalfspace (sym (c .prepared-at .ensures)) (only-half (s .args .t) _ _ _ (r .0) (r .1) (s .pre .1 .1) .sound)
+sound c = let s = c .before .before in let r = s .pre .1 .0 in subst SoundHalfspace (sym (c .prepared-at .ensures)) (only-halfspace (s .args .t) _ _ _ (r .0) (r .1) (s .pre .1 .1) .sound)
 
 oriented : (c : tie.Else1) → positive (volume (start-before-prepared-at (c .before .before) .args .t)) ≡ true
 oriented c = sym (start-before-prepared-at (c .before .before) .pre .0 .0 .oriented) ∙ not-false _ (c .if1 .left)
@@ -96,7 +96,7 @@ pub classify-single-spec : {M : Type 1} → statement M
 classify-single-spec =
     tie.close
     (tie.spec
-    (λ c κs. let s = c .before in let r = s .pre .1 .0 in only-half (s .args .t) _ _ _ (r .0) (r .1) (s .pre .1 .1) .room)
+    (λ c κs. let s = c .before in let r = s .pre .1 .0 in only-halfspace (s .args .t) _ _ _ (r .0) (r .1) (s .pre .1 .1) .in-list)
     (λ c κs. let h = c .before .before in (h .before .before .pre .0 .1, sound h))
     returns
     (λ c κs. let h = prepared-at-before-f (c .before) in (sound-small (sound h), (upto-held (sound-high (sound h)) tt, own-rays (h .before .before .pre .0 .0))))

@@ -1,4 +1,4 @@
--- The loop's invariant: the digits after place `at` stand in the list, and `rest` is what is left of the identifier (`Written`). Assumes nothing.
+-- The loop's invariant: the digits after position `at` stand in the list, and `rest` is what is left of the identifier (`Written`). Assumes nothing.
 use native.Mathlib.Omega.{arith}
 use mathlib.Core.Path.{_∙_}
 use lib.ListN.{length-set}

@@ -10,7 +10,7 @@ returns c =
     let z = c .before in
     let y = z .before in
     let x = y .before in
-    c .joined .ensures
+    c .three-of .ensures
     ∙ (λ i. threeOf (x .of-single .ensures i) (y .of-single2 .ensures i) (z .of-single3 .ensures i))
     ∙ sym (ap reports.pointing (x .before .before .report .given .1))
 
@@ -19,7 +19,7 @@ returns-2 c =
     let z = c .before in
     let y = z .before in
     let x = y .before in
-    c .joined2 .ensures
+    c .three-of2 .ensures
     ∙ (λ i. threeOf (x .of-double .ensures i) (y .of-double2 .ensures i) (z .of-double3 .ensures i))
     ∙ sym (ap reports.pointing (x .before .before .report2 .given .1))
 

@@ -1,4 +1,4 @@
--- `mount::with_sign`: a number of at most K, negated where it is to be. Assumes nothing.
+-- `mount::with_sign` is n, or −n where the float is negative: n is at most K, so both fit. Assumes nothing.
 use native.Mathlib.Omega.{arith}
 use mathlib.Core.Path.{sym, ap, _∙_}
 use lib.IntN.{pos, negℤ, +ℤ-idl}

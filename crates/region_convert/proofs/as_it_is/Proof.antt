@@ -1,4 +1,4 @@
--- Where the list has room the file is copied to its beginning. Assumes nothing.
+-- Where the list is long enough the file is copied to its beginning. Assumes nothing.
 use mathlib.Core.Path.{refl, _∙_}
 use denote.Ref.{now}
 use Rattle.answer.specs.Answer.{gives}

@@ -1,4 +1,4 @@
--- `region_payloads::convex_payload` gives the counts with the convex at the next record. Assumes nothing.
+-- `region_payloads::convex_payload` gives the size with the convex, at the next record. Assumes nothing.
 use mathlib.Core.Path.{ap, _∙_}
 use Rattle.region.specs.Reader.{convexIn}
 use Rattle.region_payloads.specs.Payloads.{outcomeGiven}

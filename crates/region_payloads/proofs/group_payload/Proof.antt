@@ -6,7 +6,7 @@ use lib.ListN.{length}
 use denote.Ref.{now}
 use Rattle.answer.specs.Answer.{refused, Crowd}
 use Rattle.region.proofs.FileBack.{halfspaces-count}
-use Rattle.region_rows.specs.RegionSizes.{countsGiven}
+use Rattle.region_rows.specs.RegionSizes.{regionSizeGiven}
 use Rattle.region_payloads.specs.Payloads.{groupOf}
 use Rattle.region_payloads.proofs.OutcomeLaws.{counted-taken}
 use Rattle.region_payloads.proofs.GroupLaws.{group-refused, group-crowd, group-all}
@@ -27,7 +27,7 @@ crowd c =
     let a = o .before .before .before .args in
     let n = halfspaces-count (length (now (a .payload)) / 16) (now (a .payload)) in
     counted-taken (refused Crowd) refl
-    (group-crowd (a .s .counts) (groupOf (now (a .payload))) (now (a .rows)) _ (o .convex-in .ensures) _ (ap countsGiven (g .c .given .1)) (omega arith))
+    (group-crowd (a .s .counts) (groupOf (now (a .payload))) (now (a .rows)) _ (o .convex-in .ensures) _ (ap regionSizeGiven (g .c .given .1)) (omega arith))
 
 taken : tie.Need-returns-2
 taken c =
@@ -38,7 +38,7 @@ taken c =
     let a = o .before .before .before .args in
     let n = halfspaces-count (length (now (a .payload)) / 16) (now (a .payload)) in
     counted-taken _ (c .counted .ensures)
-    (group-all (a .s .counts) (groupOf (now (a .payload))) (now (a .rows)) _ (o .convex-in .ensures) _ (ap countsGiven (g .c .given .1)) (omega arith) _ _
+    (group-all (a .s .counts) (groupOf (now (a .payload))) (now (a .rows)) _ (o .convex-in .ensures) _ (ap regionSizeGiven (g .c .given .1)) (omega arith) _ _
     (h .halfspaces-in .ensures))
 
 none : tie.Need-returns-3
@@ -46,7 +46,7 @@ none c =
     let o = c .before .before .before in
     let a = o .before .before .before .args in
     counted-taken (refused (c .before .c2 .given .0 .0)) refl
-    (group-refused (a .s .counts) (groupOf (now (a .payload))) (now (a .rows)) _ (o .convex-in .ensures) _ (ap countsGiven (c .before .c2 .given .1)))
+    (group-refused (a .s .counts) (groupOf (now (a .payload))) (now (a .rows)) _ (o .convex-in .ensures) _ (ap regionSizeGiven (c .before .c2 .given .1)))
 
 pub group-payload-spec : {M : Type 1} → statement M
 group-payload-spec =

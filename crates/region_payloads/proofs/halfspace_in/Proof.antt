@@ -3,7 +3,7 @@ use Prim.Native.Nat.{_<_}
 use native.Mathlib.Omega.{arith}
 use mathlib.Core.Path.{_≡_, sym, ap, _∙_}
 use Rattle.answer.specs.Answer.{gives}
-use Rattle.region_rows.specs.RegionSizes.{countsGiven, oneHalfspaceMore}
+use Rattle.region_rows.specs.RegionSizes.{regionSizeGiven, addHalfspace}
 use Rattle.region_rows.proofs.CountLaws.{halfspace-passed}
 use Rattle.region_payloads.proofs.OutcomeLaws.{halfspace-order, halfspace-refused, halfspace-more}
 use Rattle.region_payloads.proofs.halfspace_in.Statement.{statement}
@@ -11,8 +11,8 @@ use Rattle.region_payloads.proofs.halfspace_in.Tie as tie
 
 -- the halfspace is counted
 more : (c : tie.After-known-told) → let w = c .before .before .before in
-    gives (c .before .c .given .0 .0) ≡ oneHalfspaceMore (w .before .before .before .args .k) (w .before .before .before .args .h)
-more c = sym (ap countsGiven (c .before .c .given .1)) ∙ c .before .before .before .with-halfspace .ensures
+    gives (c .before .c .given .0 .0) ≡ addHalfspace (w .before .before .before .args .k) (w .before .before .before .args .h)
+more c = sym (ap regionSizeGiven (c .before .c .given .1)) ∙ c .before .before .before .with-halfspace .ensures
 
 begun : (c : tie.Else1) → 0 < c .before .before .args .k .convexes
 begun c = omega arith
@@ -35,4 +35,4 @@ halfspace-in-spec =
     halfspace-more _ _ x before _ st (begun (t .before .before .before .before)) _ (more t) _ (c .before .write-row .ensures))
     (λ c x before st.
     let w = c .before .before .before in
-    halfspace-refused _ _ x before _ st (begun (w .before)) _ (sym (ap countsGiven (c .before .c2 .given .1)) ∙ w .with-halfspace .ensures)))
+    halfspace-refused _ _ x before _ st (begun (w .before)) _ (sym (ap regionSizeGiven (c .before .c2 .given .1)) ∙ w .with-halfspace .ensures)))

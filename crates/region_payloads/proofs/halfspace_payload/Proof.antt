@@ -1,4 +1,4 @@
--- `region_payloads::halfspace_payload` gives the counts with the halfspace of the payload at the next record. Assumes nothing.
+-- `region_payloads::halfspace_payload` gives the size with the halfspace of the payload, at the next record. Assumes nothing.
 use mathlib.Core.Path.{ap}
 use Rattle.region.specs.Reader.{halfspaceIn}
 use Rattle.region_payloads.proofs.OutcomeLaws.{counted-as, counted-taken}

@@ -1,11 +1,11 @@
--- The loop's invariant: the counts and the rows stand for the halfspaces taken so far, and those left give what all do (`Passing`). The measure is the
+-- The loop's invariant: the size and the rows stand for the halfspaces taken so far, and those left give what all do (`Passing`). The measure is the
 -- halfspaces left. Assumes nothing.
 use Prim.Native.Nat.{_-_, _*_, _≤_}
 use native.Mathlib.Omega.{arith}
 use mathlib.Core.Path.{_≡_, ap, _∙_}
 use lib.ListN.{length, length-take, length-drop}
 use denote.Ref.{now}
-use Rattle.region_rows.specs.RegionSizes.{countsGiven}
+use Rattle.region_rows.specs.RegionSizes.{regionSizeGiven}
 use Rattle.region_payloads.proofs.GroupLaws.{Passing, passing-none, passing-more, passing-refused, passing-end}
 use Rattle.region_payloads.proofs.halfspaces_in.Statement.{statement}
 use Rattle.region_payloads.proofs.halfspaces_in.Tie as tie
@@ -33,7 +33,7 @@ more c =
       l .loop .inv .1,
       passing-more (now (a .payload)) (a .n) (now (a .rows)) (a .k) (l .loop .rows) (l .loop .with) (l .loop .i) (l .loop .inv .2)
           (h .halfspace-of .result) (h .halfspace-of .ensures) (h .before .before .loop-test .taken) _ _ (r .halfspace-in .ensures)
-          (c .before .c .given .0 .0) (ap countsGiven (c .before .c .given .1)) (r .halfspace-in .kept .1 .1 .0),
+          (c .before .c .given .0 .0) (ap regionSizeGiven (c .before .c .given .1)) (r .halfspace-in .kept .1 .1 .0),
     )
 
 refused : tie.Need-returns Inv-loop μ-loop
@@ -44,7 +44,7 @@ refused c =
     let a = l .before .before .args in
     passing-refused (now (a .payload)) (a .n) (now (a .rows)) (a .k) (l .loop .rows) (l .loop .with) (l .loop .i) (l .loop .inv .2)
     (h .halfspace-of .result) (h .halfspace-of .ensures) (h .before .before .loop-test .taken) _ _ (r .halfspace-in .ensures)
-    (c .before .c2 .given .0 .0) (ap countsGiven (c .before .c2 .given .1))
+    (c .before .c2 .given .0 .0) (ap regionSizeGiven (c .before .c2 .given .1))
 
 ended : tie.Need-returns-2 Inv-loop μ-loop
 ended c =
@@ -64,13 +64,13 @@ halfspaces-in-spec =
     (λ c. omega arith)
     (λ c. omega arith)
     (λ c κs. simp (length-take, length-drop) (omega arith))
-    (λ c κs. let l = at-loop-before-halfspace-of (c .before) .loop in l .inv .2 .room ∙ l .inv .1)
+    (λ c κs. let l = at-loop-before-halfspace-of (c .before) .loop in l .inv .2 .same-length ∙ l .inv .1)
     (λ c. c .match .keys1)
     (λ c. omega arith)
     (λ c. omega arith)
     more
     (λ c. c .match .keys2)
-    (λ c. let r = halfspace-in-before-c2 (c .before) in r .halfspace-in .kept .1 .1 .0 ∙ at-loop-before-halfspace-of (r .before .before) .loop .inv .2 .room)
+    (λ c. let r = halfspace-in-before-c2 (c .before) in r .halfspace-in .kept .1 .1 .0 ∙ at-loop-before-halfspace-of (r .before .before) .loop .inv .2 .same-length)
     refused
-    (λ c. c .before .loop .inv .2 .room)
+    (λ c. c .before .loop .inv .2 .same-length)
     ended)

@@ -1,4 +1,4 @@
--- `region_payloads::may_begin` asks for a halfspace in the last convex only where one has begun. Assumes nothing.
+-- `region_payloads::may_begin` tests the last convex for a halfspace only where one has begun. Assumes nothing.
 use native.Mathlib.Omega.{arith}
 use borrow.Author.Tests.{lt-ltb, le-ltb}
 use Rattle.region_payloads.proofs.may_begin.Statement.{statement}

@@ -1,4 +1,4 @@
--- `region_points::next` is one row more of the scan: two numbers are equal where their bits are. Assumes nothing.
+-- `region_points::next` is the state after the next row: two numbers are equal where their bits are. Assumes nothing.
 use Prim.Native.Nat.{_^_}
 use mathlib.Core.Path.{_≡_, sym, ap, subst, _∙_}
 use lib.IntN.{ℤ}

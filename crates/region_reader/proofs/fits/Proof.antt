@@ -1,4 +1,4 @@
--- `region_reader::fits` is by the record: those of a style are asked whether it is the file's. Assumes nothing.
+-- `region_reader::fits` is by the record: one that belongs to a style is compared with the file's style. Assumes nothing.
 use mathlib.Core.Path.{sym, ap, _∙_}
 use Rattle.region.specs.Records.{Styles, fits}
 use Rattle.region_reader.proofs.fits.Statement.{statement}

@@ -1,4 +1,4 @@
--- `region_reader::read` decodes the file, and only then, where the lent list has room, copies the rows to its beginning. Assumes nothing.
+-- `region_reader::read` decodes the file, and only then, where the lent list is long enough, copies the rows to its beginning. Assumes nothing.
 use native.Mathlib.Omega.{arith}
 use mathlib.Core.Path.{_≡_, sym, ap, _∙_}
 use denote.Ref.{now}

@@ -70,13 +70,13 @@ records-in-spec =
     let s = c .before .before in
     let a = s .args in
     (s .pre .1, reading-none (a .style) (now (a .file)) (a .h) (now (a .rows)) (s .pre .0) _ (c .none .ensures)))
-    (λ c κs. let l = c .before .loop in (l .inv .1 .within, l .inv .1 .room ∙ l .inv .0))
+    (λ c κs. let l = c .before .loop in (l .inv .1 .within, l .inv .1 .same-length ∙ l .inv .0))
     (λ c. c .match .keys1)
     less
     more
     (λ c. c .match .keys2)
-    (λ c. let r = record-in-before-o2 (c .before) in r .record-in .kept .1 .1 .1 .0 ∙ r .before .before .loop .inv .1 .room)
+    (λ c. let r = record-in-before-o2 (c .before) in r .record-in .kept .1 .1 .1 .0 ∙ r .before .before .loop .inv .1 .same-length)
     done
     (λ c. c .match .keys3)
-    (λ c. let r = record-in-before-o3 (c .before) in r .record-in .kept .1 .1 .1 .0 ∙ r .before .before .loop .inv .1 .room)
+    (λ c. let r = record-in-before-o3 (c .before) in r .record-in .kept .1 .1 .1 .0 ∙ r .before .before .loop .inv .1 .same-length)
     refused)

@@ -1,4 +1,4 @@
--- `region_reader::style_of` goes by the record after the header's 8 bytes. Assumes nothing.
+-- `region_reader::style_of` reads the record after the header's 8 bytes. Assumes nothing.
 use native.Mathlib.Omega.{arith}
 use mathlib.Core.Path.{sym, _∙_}
 use mathlib.Core.Bool.{true, false}

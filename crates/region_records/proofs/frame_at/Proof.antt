@@ -1,4 +1,4 @@
--- `region_records::frame_at` checks 2, then 3, of the record that begins at its place. Assumes nothing.
+-- `region_records::frame_at` checks 2, then 3, of the record that begins at `at`. Assumes nothing.
 use native.Mathlib.Omega.{arith}
 use mathlib.Core.Path.{_≡_, sym, ap, _∙_}
 use mathlib.Core.Bool.{true}

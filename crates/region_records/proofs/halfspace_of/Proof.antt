@@ -1,4 +1,4 @@
--- `region_records::halfspace_of` reads the four numbers from their places. Assumes nothing.
+-- `region_records::halfspace_of` reads the four numbers, each at its position. Assumes nothing.
 use native.Mathlib.Omega.{arith}
 use mathlib.Core.Path.{_∙_}
 use mir.Facts.{toZ-ofZ}

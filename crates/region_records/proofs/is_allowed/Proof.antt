@@ -1,4 +1,4 @@
--- `region_records::is_allowed` asks of a group only, by its two tests. Assumes nothing.
+-- `region_records::is_allowed` tests only a group, by its two tests. Assumes nothing.
 use mathlib.Core.Path.{sym, ap, _∙_}
 use borrow.Author.Tests.{le-leb, lt-leb}
 use Rattle.algebra.proofs.Tests.{and-then, and-else}

@@ -1,4 +1,4 @@
--- Where the number is the next one a convex is put before the halfspace, and else the halfspace alone (WritingPass). Assumes nothing.
+-- Where the number is the next one, a convex begins before the halfspace; otherwise the halfspace alone is added (WritingPass). Assumes nothing.
 use mathlib.Core.Path.{_≡_, sym, ap, _∙_}
 use mathlib.Core.Bool.{Bool, true, false}
 use lib.IntN.{pos}

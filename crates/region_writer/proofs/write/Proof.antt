@@ -1,5 +1,5 @@
--- The code makes the rule's checks in their order, and each refusal returns before the file is written. The length of the file goes by the counts
--- of the rows, so its room is known before (WriterLaws). Assumes nothing.
+-- The code makes the rule's checks in their order, and each refusal returns before the file is written. The length of the file follows from the
+-- size of the region, so whether it fits is known before (WriterLaws). Assumes nothing.
 use native.Mathlib.Omega.{arith}
 use mathlib.Core.Path.{_≡_, sym, ap, _∙_}
 use mathlib.Core.Bool.{true}
@@ -7,7 +7,7 @@ use borrow.Author.Tests.{leb-true, not-true, not-false}
 use Rattle.vector.specs.Numbers.{isDepth}
 use Rattle.vector.proofs.DepthLaws.{depth-range}
 use Rattle.region.specs.Budgets.{isBudget}
-use Rattle.region_rows.specs.RegionSizes.{countsGiven}
+use Rattle.region_rows.specs.RegionSizes.{regionSizeGiven}
 use Rattle.region_writer.proofs.WriterLaws.{no-depth, no-budget, no-rows, no-room, has-file, RowsWithin, passed, counted-length, has-room}
 use Rattle.region_writer.proofs.write.Statement.{statement}
 use Rattle.region_writer.proofs.write.Tie as tie
@@ -27,13 +27,13 @@ budget c = sym (c .before .is-budget .ensures) ∙ not-false _ (c .if2 .left)
 
 -- the rows passed, and these are their counts
 counts : (c : tie.After-c) → RowsWithin (start-before-checked (c .before .before) .args .rows .now) (c .c .given .0 .0)
-counts c = let k = c .before .before in passed _ (c .c .given .0 .0) (sym (ap countsGiven (c .c .given .1)) ∙ k .checked .ensures)
+counts c = let k = c .before .before in passed _ (c .c .given .0 .0) (sym (ap regionSizeGiven (c .c .given .1)) ∙ k .checked .ensures)
 
 refused : tie.Need-returns-4
 refused c =
     let n = c .before in
     let k = n .before .before in
-    no-rows _ _ _ _ _ (depth (k .before .before .before)) (budget (k .before)) _ (sym (ap countsGiven (n .n .given .1)) ∙ k .checked .ensures)
+    no-rows _ _ _ _ _ (depth (k .before .before .before)) (budget (k .before)) _ (sym (ap regionSizeGiven (n .n .given .1)) ∙ k .checked .ensures)
 
 no-space : tie.Need-returns-3
 no-space c =

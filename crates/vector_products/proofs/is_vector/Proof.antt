@@ -14,5 +14,5 @@ is-vector-spec =
     (tie.spec
     (λ c κs. tt)
     (λ c κs. at-most-mono (lit≤ tt) (small-tested (c .before .before .args .p) (sym (c .before .is-small .ensures) ∙ c .if1 .taken)))
-    (λ c. c .is-long .ensures ∙ and-then _ (sym (c .before .before .is-small .ensures) ∙ c .before .if1 .taken))
+    (λ c. c .has-unit-length .ensures ∙ and-then _ (sym (c .before .before .is-small .ensures) ∙ c .before .if1 .taken))
     (λ c. c .before .is-small .ensures ∙ and-else _ (sym (c .before .is-small .ensures) ∙ c .if1 .left)))

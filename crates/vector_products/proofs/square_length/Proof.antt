@@ -3,7 +3,7 @@ use Prim.Native.Nat.{_≤_, _*_, _^_}
 use mathlib.Core.Path.{sym, ap, subst}
 use lib.IntN.{natAbs}
 use Rattle.algebra.proofs.Sized.{held, is-mul, is-add, fits-mul, fits-add, fits-cast}
-use Rattle.vector.proofs.SizeLaws.{dot-upto, dot-self-positive}
+use Rattle.vector.proofs.SizeLaws.{dot-upto, dot-self-nonnegative}
 use Rattle.vector_products.proofs.square_length.Statement.{statement}
 use Rattle.vector_products.proofs.square_length.Tie as tie
 
@@ -22,7 +22,7 @@ square-length-spec =
     (λ c. let p = start-before-known2 (c .before .before .before) .pre in fits-add (is-add (is-mul (held (p .x) tt) (held (p .x) tt) tt) (is-mul (held (p .y) tt) (held (p .y) tt) tt) tt) (is-mul (held (p .z) tt) (held (p .z) tt) tt) tt)
     (λ c.
     let p = start-before-known2 (c .before .before .before) .pre in
-    fits-cast (is-add (is-add (is-mul (held (p .x) tt) (held (p .x) tt) tt) (is-mul (held (p .y) tt) (held (p .y) tt) tt) tt) (is-mul (held (p .z) tt) (held (p .z) tt) tt) tt) (dot-self-positive (start-before-known2 (c .before .before .before) .args .s)) tt)
+    fits-cast (is-add (is-add (is-mul (held (p .x) tt) (held (p .x) tt) tt) (is-mul (held (p .y) tt) (held (p .y) tt) tt) tt) (is-mul (held (p .z) tt) (held (p .z) tt) tt) tt) (dot-self-nonnegative (start-before-known2 (c .before .before .before) .args .s)) tt)
     (λ c.
     let p = start-before-known2 (c .before .before .before) .pre in
     let e = ap natAbs (is-add (is-add (is-mul (held (p .x) tt) (held (p .x) tt) tt) (is-mul (held (p .y) tt) (held (p .y) tt) tt) tt) (is-mul (held (p .z) tt) (held (p .z) tt) tt) tt .eq) in

@@ -1,4 +1,4 @@
--- `wide::less` goes by the upper words, and where they are equal by the lower ones. Assumes nothing.
+-- `wide::less` compares the upper words, and where they are equal the lower ones. Assumes nothing.
 use borrow.Author.Needs.{needs}
 use native.Mathlib.Nat.{le-of-lt}
 use native.Mathlib.Omega.{arith}

@@ -1,4 +1,4 @@
--- `wide::sum` adds the words, and carries one where the lower ones pass a word. Assumes nothing.
+-- `wide::sum` adds the words, and carries 1 where the lower ones exceed a word. Assumes nothing.
 use native.Mathlib.Omega.{arith}
 use borrow.Author.Needs.{needs}
 use Rattle.wide.proofs.WordLaws.{sum-fits, carry-fits}

@@ -1,4 +1,4 @@
--- `classify_prepared::lists::prepare_rows` goes on row by row as the rule does. Assumes nothing.
+-- `classify_prepared::lists::prepare_rows` stores row after row as the rule does. Assumes nothing.
 use Prim.Native.Nat.{_-_}
 use native.Mathlib.Omega.{arith}
 use Rattle.classify_prepared.proofs.PreparingLaws.{Preparing, prepare-start, prepare-more, prepare-end}

@@ -1,4 +1,4 @@
--- The two stores put the two bytes at their place. Assumes nothing.
+-- The two stores put the two bytes one after the other. Assumes nothing.
 use native.Mathlib.Omega.{arith}
 use lib.ListN.{length-set}
 use mathlib.Core.List.{[], _∷_}

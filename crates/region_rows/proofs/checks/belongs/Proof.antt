@@ -1,4 +1,4 @@
--- The code tests the next convex's number and then the last one's, which is one less. Assumes nothing.
+-- The code tests the number of a new convex and then that of the last one, which is one less. Assumes nothing.
 use Prim.Native.Nat.{_-_}
 use native.Mathlib.Omega.{arith}
 use mathlib.Core.Path.{_≡_, sym, ap, _∙_}

@@ -1,4 +1,4 @@
--- `region_rows::counts::none` is the counts of the region without convexes. Assumes nothing.
+-- `region_rows::counts::none` is the size of the region without convexes. Assumes nothing.
 use mathlib.Core.Path.{refl}
 use Rattle.region.specs.Building.{lastConvex, total}
 use Rattle.region_rows.proofs.counts.none.Statement.{statement}

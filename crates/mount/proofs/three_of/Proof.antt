@@ -1,9 +1,9 @@
--- `mount::joined` is the vector of three components, or the first refusal among them. Assumes nothing.
+-- `mount::three_of` is the vector of three components, or the first refusal among them. Assumes nothing.
 use Rattle.algebra.proofs.Sized.{stored-same}
 use Rattle.answer.specs.Answer.{gives}
 use Rattle.vector.specs.Vectors.{vec}
-use Rattle.mount.proofs.joined.Statement.{statement}
-use Rattle.mount.proofs.joined.Tie as tie
+use Rattle.mount.proofs.three_of.Statement.{statement}
+use Rattle.mount.proofs.three_of.Tie as tie
 
 returns : tie.Need-returns
 returns c =
@@ -24,8 +24,8 @@ returns-3 c = rw (c .before .before .before .before .x .given .1, c .before .y2 
 returns-4 : tie.Need-returns-4
 returns-4 c = rw (c .before .x2 .given .1)
 
-pub joined-spec : {M : Type 1} → statement M
-joined-spec =
+pub three-of-spec : {M : Type 1} → statement M
+three-of-spec =
     tie.close
     (tie.spec
     (λ c. c .match .keys1)
