@@ -27,12 +27,12 @@ unfoldable pub valueFrom : ℕ → List ℕ → ℕ
 valueFrom n [] = n
 valueFrom n (b ∷ w) = valueFrom (n * 10 + (b - 48)) w
 
-abbrev pub only : Bool → ℕ → N.Natural
-only true n = NV.Is n
-only false n = NV.Not
+abbrev pub provided : Bool → ℕ → N.Natural
+provided true n = NV.Is n
+provided false n = NV.Not
 
 abbrev pub naturalFrom : ℕ → ℕ → List ℕ → N.Natural
-naturalFrom m n w = only (digits w && leb (valueFrom n w) m) (valueFrom n w)
+naturalFrom m n w = provided (digits w && leb (valueFrom n w) m) (valueFrom n w)
 
 abbrev pub naturalIn : ℕ → List ℕ → N.Natural
 naturalIn m [] = NV.Not

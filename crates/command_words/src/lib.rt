@@ -4,7 +4,7 @@ use limits::MAX_FILE_BYTES;
 ghost use mathlib.Core.Path.{_≡_};
 ghost use mathlib.Core.List.{[], _∷_};
 ghost use Rattle.command_words.specs.Numbers.{UpTo, naturalFrom, naturalIn, wholeIn, plain, negated};
-ghost use Rattle.command_words.specs.Files.{FileDigits, hexValue, letterValue, bytesIn, lengthOf, filePlace, Pushed, Stored};
+ghost use Rattle.command_words.specs.Files.{FileDigits, hexValue, letterValue, bytesIn, lengthOf, filePlace, BytePushed, ByteStored};
 ghost use Prim.Native.Nat.{_+_, _-_, _^_, _≤_};
 ghost use lib.ListN.{length};
 
@@ -76,7 +76,7 @@ pub fn empty_line() -> StoredLine {
 // One byte more of a line. Of a file no more digits are stored than tell that it is too long for a region file, so a line with a file may have
 // any length. A line that is too long otherwise counts as more bytes than `line` can hold.
 pub fn append_byte(line: &mut [u8], stored: StoredLine, b: u8) -> StoredLine
-    ensures { λ r. ⌜ Stored (filePlace b (stored .file)) (stored .bytes) b (now (line .entry)) (now (line .exit)) (r .bytes) ⌝ }
+    ensures { λ r. ⌜ ByteStored (filePlace b (stored .file)) (stored .bytes) b (now (line .entry)) (now (line .exit)) (r .bytes) ⌝ }
 {
     let n = stored.bytes;
     if b == BLANK {
@@ -125,7 +125,7 @@ fn takes_owner_and_file(name: &[u8]) -> bool {
 
 // One byte more of a line of which n are stored, with a file from `file` on.
 fn store(line: &mut [u8], n: usize, file: usize, b: u8) -> usize
-    ensures { λ r. ⌜ Stored file n b (now (line .entry)) (now (line .exit)) r ⌝ }
+    ensures { λ r. ⌜ ByteStored file n b (now (line .entry)) (now (line .exit)) r ⌝ }
 {
     if line.len() < n {
         return n;
@@ -144,7 +144,7 @@ fn store(line: &mut [u8], n: usize, file: usize, b: u8) -> usize
 fn store_past(line: &mut [u8], n: usize, file: usize, b: u8) -> usize
     requires { ⌜ file + FileDigits ≤ n ⌝ }
     requires { ⌜ n ≤ length (now line) ⌝ }
-    ensures { λ r. ⌜ Stored file n b (now (line .entry)) (now (line .exit)) r ⌝ }
+    ensures { λ r. ⌜ ByteStored file n b (now (line .entry)) (now (line .exit)) r ⌝ }
 {
     if 15 < digit(b) {
         line[file] = b;
@@ -158,7 +158,7 @@ fn store_past(line: &mut [u8], n: usize, file: usize, b: u8) -> usize
 
 // One byte more, as it comes.
 fn push(line: &mut [u8], n: usize, b: u8) -> usize
-    ensures { λ r. ⌜ Pushed n b (now (line .entry)) (now (line .exit)) r ⌝ }
+    ensures { λ r. ⌜ BytePushed n b (now (line .entry)) (now (line .exit)) r ⌝ }
 {
     if n < line.len() {
         line[n] = b;

@@ -23,7 +23,7 @@ use mathlib.Core.List.{List, [], _++_, foldl}
 use lib.Dec.{ltb}
 use lib.ListN.{length, getD, take, drop}
 use Rattle.ranges_stored.specs.declared.MinHint.{MinHint}
-use Rattle.ranges_lists.specs.declared.Pushed.{Pushed}
+use Rattle.ranges_lists.specs.declared.PushResult.{PushResult}
 use Rattle.ranges_stored.specs.declared.Pending.{Pending}
 use Rattle.ranges.specs.Ranges.{Range, rangesIn}
 use Rattle.ranges.specs.Lists.{gaps}
@@ -56,7 +56,7 @@ tallyIn xs = record {
 abbrev pub noTally : ℕ → Tally
 noTally b = record { outer = 0; hint = noHint; inner = nothingYet; seen = 0; budget = b; full = 0; partial = 0 }
 
-abbrev pub withOuter : Pushed → Tally → Tally
+abbrev pub withOuter : PushResult → Tally → Tally
 withOuter m s = record { outer = m .n; hint = m .hint; inner = s .inner; seen = s .seen; budget = s .budget; full = s .full; partial = s .partial }
 
 abbrev pub withInner : Pending → Tally → Tally
@@ -156,7 +156,7 @@ pub record InnerPushed (b : ℕ) (r : Range) (p : Pending) (out : List ℕ) (q :
   pub few : q .n ≤ b
   pub hinted : Hinted (q .hint) (differencesIn (2 * b) 0 (q .n) out′)
 
-pub record Inside (r : Range) (s : Tally) (out : List ℕ) (s′ : Tally) (out′ : List ℕ) : Type 0 where
+pub record InnerAdded (r : Range) (s : Tally) (out : List ℕ) (s′ : Tally) (out′ : List ℕ) : Type 0 where
   pub beside : Pending
   pub pushed : InnerPushed (s .budget) r (s .inner) out beside out′
   pub noted : s′ ≡ withInner beside s

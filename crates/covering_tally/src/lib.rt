@@ -1,6 +1,6 @@
 // What a cutting has found so far, with its budget, as thirteen numbers, and the two lists in the lent list. specs/Tally says what they are.
 use covering::Counts;
-use ranges_lists::Pushed;
+use ranges_lists::PushResult;
 use ranges_stored::MinHint;
 use ranges_stored::Pending;
 ghost use mathlib.Core.Path.{_≡_};
@@ -9,7 +9,7 @@ ghost use lib.Dec.{ltb};
 ghost use lib.ListN.{length};
 ghost use Rattle.ranges.specs.Ranges.{range};
 ghost use Rattle.covering.specs.Cover.{takenFull, takenPartial};
-ghost use Rattle.covering_tally.specs.Tally.{tallyIn, withOuter, withInner, oneMore, oneFull, onePartial, noTally, countsIn, TrixelAccepted, InnerNeeds, InnerPushed, Inside, Countable, SmallRange, TallyInvariant, OuterPushed};
+ghost use Rattle.covering_tally.specs.Tally.{tallyIn, withOuter, withInner, oneMore, oneFull, onePartial, noTally, countsIn, TrixelAccepted, InnerNeeds, InnerPushed, InnerAdded, Countable, SmallRange, TallyInvariant, OuterPushed};
 
 // The tally as numbers.
 pub type TallyNumbers = [u64; 13];
@@ -77,7 +77,7 @@ fn flag(t: bool) -> u64
 }
 
 // Notes how many outer ranges are stored now.
-fn note_outer(s: &mut [u64], m: Pushed)
+fn note_outer(s: &mut [u64], m: PushResult)
     requires { ⌜ length (now s) ≡ 13 ⌝ }
     ensures { λ _. ⌜ tallyIn (now (s .exit)) ≡ withOuter m (tallyIn (now (s .entry))) ⌝ }
 {
@@ -166,7 +166,7 @@ fn push_inner(out: &mut [u64], budget: usize, p: Pending, low: u64, high: u64) -
 fn add_inner(out: &mut [u64], s: &mut [u64], low: u64, high: u64)
     requires { ⌜ length (now s) ≡ 13 ⌝ }
     requires { ⌜ InnerNeeds (tallyIn (now s) .budget) (tallyIn (now s) .inner) (now out) ⌝ }
-    ensures { λ _. ⌜ Inside (range low high) (tallyIn (now (s .entry))) (now (out .entry)) (tallyIn (now (s .exit))) (now (out .exit)) ⌝ }
+    ensures { λ _. ⌜ InnerAdded (range low high) (tallyIn (now (s .entry))) (now (out .entry)) (tallyIn (now (s .exit))) (now (out .exit)) ⌝ }
 {
     note_inner(s, push_inner(out, budget_of(s), pending(s), low, high));
 }

@@ -33,9 +33,9 @@ use Rattle.covering.specs.declared.Counts.{Counts}
 use Rattle.covering.specs.Cover.{coverCounts, countsList}
 use Rattle.htm.specs.Answers.{coverInto, coverAnswer, coverAfter}
 use Rattle.index.specs.declared.Entry.{Entry}
-use Rattle.index.specs.Entries.{Width, numbers, Placed}
+use Rattle.index.specs.Entries.{Width, numbers, Slot}
 use Rattle.index.specs.Answers.{entryAnswer}
-use Rattle.htm_abi.specs.ShortLists.{refusalOf}
+use Rattle.htm_abi.specs.ShortLists.{fileRefusalOrSpace}
 use Rattle.htm_abi.specs.Values.{foundForC, statusOf, cornersList, headerList}
 use Rattle.htm.specs.CalledFromC.{entryForC, entryAfterC, cornersForC, cornersAfterC, readForC, rowsAfterC, headerAfterC, coverForC, coverAfterC, countsAfterC, inBoth, contentsList, contentsForC, contentsAfterC}
 use Rattle.htm.proofs.RoomLaws.{room-short, room-enough, refused-by, in-any-case}
@@ -85,20 +85,20 @@ module _ (i : ℕ) (l out : List ℤ) where
   entry-refused n e = (cc, cc)
 
   -- no entry there: nothing is written
-  pub no-entry : gives Placed.nothing ≡ entryAnswer i l → Enters (pos 0) out
+  pub no-entry : gives Slot.nothing ≡ entryAnswer i l → Enters (pos 0) out
   unfolding entryForC entryAfterC
   no-entry e = (cc, cc)
 
-  module _ (x : Entry) (e : gives (Placed.found x) ≡ entryAnswer i l) where
+  module _ (x : Entry) (e : gives (Slot.found x) ≡ entryAnswer i l) where
     -- an entry, and too short a list: 10
     pub no-entry-room : length out < Width → Enters (foundForC (refused Space)) out
     unfolding entryForC entryAfterC
-    no-entry-room h = let short = room-short Width out h (gives (Placed.found x)) in (cc, cc)
+    no-entry-room h = let short = room-short Width out h (gives (Slot.found x)) in (cc, cc)
 
     -- an entry, and a list that is long enough
     pub entry-put : Width ≤ length out → Enters (pos 1) (put 0 (numbers x) out)
     unfolding entryForC entryAfterC
-    entry-put h = let enough = room-enough Width out h (gives (Placed.found x)) in (cc, cc)
+    entry-put h = let enough = room-enough Width out h (gives (Slot.found x)) in (cc, cc)
 
 -- ---- corners
 
@@ -140,10 +140,10 @@ module _ (f : List ℕ) (rs : List ℤ) (header : List ℕ) where
   Reads status xs ns = (status ≡ statusOf (readForC f rs header)) × ((xs ≡ rowsAfterC f rs header) × (ns ≡ headerAfterC f rs header))
 
   -- too short a list for the header: the file's refusal, or 10
-  pub short-header : length header < 3 → Reads (statusOf (refusalOf f)) rs header
+  pub short-header : length header < 3 → Reads (statusOf (fileRefusalOrSpace f)) rs header
   unfolding readForC rowsAfterC headerAfterC
   short-header h =
-      let both = refused-by 3 header h (readInto f rs) (refusalOf f) (simp in-any-case) in
+      let both = refused-by 3 header h (readInto f rs) (fileRefusalOrSpace f) (simp in-any-case) in
       let refuses = both .by-call in
       (ap statusOf (both .by-checks) ∙ (cc), (cc, cc))
 
@@ -195,10 +195,10 @@ module _ (f out counts : List ℕ) where
   Covers status xs ns = (status ≡ statusOf (coverForC f out counts)) × ((xs ≡ coverAfterC f out counts) × (ns ≡ countsAfterC f out counts))
 
   -- too short a list for the counts: the file's refusal, or 10
-  pub short-counts : length counts < coverCounts → Covers (statusOf (refusalOf f)) out counts
+  pub short-counts : length counts < coverCounts → Covers (statusOf (fileRefusalOrSpace f)) out counts
   unfolding coverForC coverAfterC countsAfterC
   short-counts h =
-      let both = refused-by coverCounts counts h (coverInto f out) (refusalOf f) (simp in-any-case) in
+      let both = refused-by coverCounts counts h (coverInto f out) (fileRefusalOrSpace f) (simp in-any-case) in
       let refuses = both .by-call in
       (ap statusOf (both .by-checks) ∙ (cc), (cc, cc))
 

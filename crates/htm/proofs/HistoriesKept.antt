@@ -18,7 +18,7 @@ use Rattle.covering.specs.Cover.{cover, bothListed}
 use Rattle.index.specs.declared.Entry.{Entry}
 use Rattle.index.specs.Entries.{IndexLength}
 use Rattle.index.specs.Exposures.{Call, OwnerCapacity, isOwner}
-use Rattle.frames.specs.Walk.{Met, walk, deliveredBy}
+use Rattle.frames.specs.Walk.{WalkStep, walk, deliveredBy}
 use Rattle.frames.specs.Answers.{framesBy, walkOf, framesAnswer, rangesAfter, numbersAfter}
 use Rattle.trial.specs.declared.Setting.{Setting}
 use Rattle.trial.specs.declared.Trial.{Trial}
@@ -56,16 +56,16 @@ frames-apart o h g rs qs m n r q e f ranges numbers =
     let own = same-entries o h g rs qs m n r q e in
     let into : Bool → Answer File = λ b. check Owner (isOwner o) (then (read f) (λ x.
     check Space (leb (4 * budgetOf (x .budget)) (length ranges)) (check Space (leb OwnerCapacity (length numbers)) (check Space b (gives x))))) in
-    let met : List Entry → File → List Met = λ es x. walk (x .depth) (holds (x .region)) (cover x .outer) (cover x .inner) (take OwnerCapacity es) in
+    let steps : List Entry → File → List WalkStep = λ es x. walk (x .depth) (holds (x .region)) (cover x .outer) (cover x .inner) (take OwnerCapacity es) in
     record {
-      answer = λ i. with-value (λ x. framesBy (met (own i) x)) (into (long i));
+      answer = λ i. with-value (λ x. framesBy (steps (own i) x)) (into (long i));
       lists = λ i. stored (λ x before. bothListed (budgetOf (x .budget)) (cover x) before) (into (long i)) ranges;
-      left = λ i. stored (λ x before. put 0 (deliveredBy (met (own i) x)) before) (into (long i)) numbers;
+      left = λ i. stored (λ x before. put 0 (deliveredBy (steps (own i) x)) before) (into (long i)) numbers;
     }
 
 trial-by : List Entry → Region → Setting → Setting → Trial
 trial-by es g s t =
-    let w : Setting → List Met = λ u. walk (u .depth) (holds g) (coverBy u g .outer) (coverBy u g .inner) (take OwnerCapacity es) in
+    let w : Setting → List WalkStep = λ u. walk (u .depth) (holds g) (coverBy u g .outer) (coverBy u g .inner) (take OwnerCapacity es) in
     record { first = resultOf (coverBy s g) (w s); second = resultOf (coverBy t g) (w t); choice = choiceOf (skyOf s g) (skyOf t g) }
 
 pub trials-apart : TrialsApart

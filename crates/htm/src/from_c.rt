@@ -164,7 +164,7 @@ pub extern "C" fn htm_read(file: &[u8], rows: &mut [i32], header: &mut [u64]) ->
     ensures { λ r. ⌜ now (header .exit) ≡ headerAfterC (now (file .entry)) (now (rows .entry)) (now (header .entry)) ⌝ }
 {
     if header.len() < 3 {
-        return htm_abi::without_room(file);
+        return htm_abi::file_refusal_or_space(file);
     }
     let answer = crate::read(file, rows);
     match answer {
@@ -206,7 +206,7 @@ pub extern "C" fn htm_cover(file: &[u8], out: &mut [u64], counts: &mut [u64]) ->
     ensures { λ r. ⌜ now (counts .exit) ≡ countsAfterC (now (file .entry)) (now (out .entry)) (now (counts .entry)) ⌝ }
 {
     if counts.len() < COVER_COUNTS {
-        return htm_abi::without_room(file);
+        return htm_abi::file_refusal_or_space(file);
     }
     let answer = crate::cover(file, out);
     match answer {

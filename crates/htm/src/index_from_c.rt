@@ -82,7 +82,7 @@ pub extern "C" fn htm_frames(
         r (now (ranges .exit)) (now (numbers .exit)) (now (counts .exit)) ⌝ }
 {
     if counts.len() < FRAME_COUNTS {
-        return htm_abi::owner_without_room(owner, file);
+        return htm_abi::owner_refusal_or_space(owner, file);
     }
     let answer = crate::frames(index, owner, file, ranges, numbers);
     match answer {

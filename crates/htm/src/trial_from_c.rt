@@ -39,7 +39,7 @@ pub extern "C" fn htm_trial(
         budget: budget_2,
     };
     if numbers.len() < TRIAL_COUNTS {
-        return htm_abi::minus(htm_abi::trials::refused_anyway(owner, file, s, t));
+        return htm_abi::minus(htm_abi::trials::trial_refusal_or_space(owner, file, s, t));
     }
     let answer = crate::trial(index, owner, file, s, t, first, second);
     match answer {

@@ -29,7 +29,7 @@ ghost use Rattle.index.specs.Answers.{changeGiven};
 ghost use Rattle.htm_abi.specs.Values.{orZero, numberForC, statusOf, cornersList, headerList};
 ghost use Rattle.covering.specs.Cover.{countsList, coverCounts};
 ghost use Rattle.frames.specs.Answers.{framesList, frameCounts};
-ghost use Rattle.htm_abi.specs.ShortLists.{refusalOf};
+ghost use Rattle.htm_abi.specs.ShortLists.{fileRefusalOrSpace};
 
 pub mod trials;
 
@@ -105,8 +105,8 @@ pub fn put_corners(out: &mut [i32], c: Corners)
 }
 
 // The refusal of a file for which a lent list is too short: its own, or 10.
-pub fn without_room(file: &[u8]) -> i64
-    ensures { λ r. ⌜ (r ≡ statusOf (refusalOf (now (file .entry)))) × Upto (2 ^ 32) r ⌝ }
+pub fn file_refusal_or_space(file: &[u8]) -> i64
+    ensures { λ r. ⌜ (r ≡ statusOf (fileRefusalOrSpace (now (file .entry)))) × Upto (2 ^ 32) r ⌝ }
 {
     let mut rows = [0i32; 5 * HALFSPACES];
     let said = region_reader::decode(file, &mut rows);
@@ -136,13 +136,13 @@ pub fn put_contents(header: &mut [u64], h: Header, convexes: u64)
 }
 
 // The refusal of an owner and a file for which a lent list is too short: 18, the file's own, or 10.
-pub fn owner_without_room(owner: u32, file: &[u8]) -> i64
-    ensures { λ r. ⌜ (r ≡ statusOf (check Owner (isOwner owner) (refusalOf (now (file .entry))))) × Upto (2 ^ 32) r ⌝ }
+pub fn owner_refusal_or_space(owner: u32, file: &[u8]) -> i64
+    ensures { λ r. ⌜ (r ≡ statusOf (check Owner (isOwner owner) (fileRefusalOrSpace (now (file .entry))))) × Upto (2 ^ 32) r ⌝ }
 {
     if OWNERS <= owner {
         return minus(OWNER);
     }
-    without_room(file)
+    file_refusal_or_space(file)
 }
 
 // The counts, at the beginning of a list.

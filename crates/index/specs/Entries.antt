@@ -17,9 +17,9 @@
 --   inserted e es     e before those entries at the end that it precedes
 --   withdrawn k es    without the first entry that has the key k
 --   hasRoom es        one entry more has a place in the list, whoever's it is
---   entering          the entries after an add, or the refusal: 15 twice, 16 full; withdrawing: after a removal, or 17 absent
---   Placed            what stands at a place: an entry, or nothing
---   placed i es       what stands at place i, counted from 0: nothing past the last entry
+--   inserting          the entries after an add, or the refusal: 15 twice, 16 full; withdrawing: after a removal, or 17 absent
+--   Slot            what stands at a place: an entry, or nothing
+--   slotAt i es       what stands at place i, counted from 0: nothing past the last entry
 use Prim.Native.Nat.{ℕ, zero, suc, _+_, _*_, min}
 use mathlib.Core.Bool.{Bool, cond, not, _&&_, _||_}
 use mathlib.Core.List.{List, [], _∷_, _++_}
@@ -109,18 +109,18 @@ abbrev pub hasRoom : List Entry → Bool
 hasRoom es = ltb (length es) IndexCapacity
 
 -- the entry e of the exposure with the key k
-abbrev pub entering : Key → Entry → List Entry → Answer (List Entry)
-entering k e es =
+abbrev pub inserting : Key → Entry → List Entry → Answer (List Entry)
+inserting k e es =
     check Twice (not (some (isKeyed k) es)) (check Full (hasPlace OwnerCapacity (isOwned (k .owner)) es) (check Full (hasRoom es) (gives (inserted e es))))
 
 abbrev pub withdrawing : Key → List Entry → Answer (List Entry)
 withdrawing k es = check Absent (some (isKeyed k) es) (gives (withdrawn k es))
 
-pub data Placed : Type 0 where
-  found : Entry → Placed
-  nothing : Placed
+pub data Slot : Type 0 where
+  found : Entry → Slot
+  nothing : Slot
 
-unfoldable pub placed : ℕ → List Entry → Placed
-placed i [] = nothing
-placed zero (e ∷ es) = found e
-placed (suc i) (e ∷ es) = placed i es
+unfoldable pub slotAt : ℕ → List Entry → Slot
+slotAt i [] = nothing
+slotAt zero (e ∷ es) = found e
+slotAt (suc i) (e ∷ es) = slotAt i es

@@ -19,7 +19,7 @@ use vector::Vec3;
 ghost use mathlib.Core.Path.{_≡_};
 ghost use Rattle.answer.specs.Calls.{numberOf};
 ghost use Rattle.index.specs.Exposures.{key, exposed};
-ghost use Rattle.index.specs.Entries.{entriesIn, entering};
+ghost use Rattle.index.specs.Entries.{entriesIn, inserting};
 ghost use Rattle.index.specs.Answers.{inList, beginAnswer, beginAfter, addAnswer, addAfter, removeAnswer, removeAfter, countAnswer, entryAnswer};
 ghost use Rattle.index.specs.Answers.{changeGiven, entryGiven};
 ghost use Rattle.index_calls.specs.Done.{Done};
@@ -63,7 +63,7 @@ pub fn add(index: &mut [i64], owner: u32, number: u32, p: Vec3) -> Change
 
 // The entry of the exposure with this owner and number, in its place; refusals 10, 15, 16. In an index there is room wherever the owner has a place.
 fn insert(index: &mut [i64], e: Entry, owner: u32, number: u32) -> Change
-    ensures { λ r. ⌜ Done (inList (now (index .entry)) (entering (key owner number) e (entriesIn (now (index .entry)))))
+    ensures { λ r. ⌜ Done (inList (now (index .entry)) (inserting (key owner number) e (entriesIn (now (index .entry)))))
         (now (index .entry)) (now (index .exit)) r ⌝ }
 {
     if index.len() < INDEX_LENGTH {

@@ -11,7 +11,7 @@ ghost use Rattle.ranges.specs.Ranges.{range, rangesIn};
 ghost use Rattle.ranges_stored.specs.Stored.{differences, differencesIn, written, Writes, Hinted, stateOf, Stores};
 
 // How many ranges stand in a list, and what is known of their gaps, or of their sizes less one.
-pub struct Pushed {
+pub struct PushResult {
     pub n: usize,
     pub hint: MinHint,
 }
@@ -62,7 +62,7 @@ pub fn outer_push(
     low: u64,
     high: u64,
     hint: MinHint,
-) -> Pushed
+) -> PushResult
     requires { ⌜ (1 ≤ budget) × (n ≤ budget) × (2 * budget ≤ length (now list)) ⌝ }
     requires { ⌜ Hinted hint (gaps (rangesIn n (now list))) ⌝ }
     ensures { λ r. ⌜ Writes (outerPush budget (rangesIn n (now (list .entry))) (range low high)) (now (list .entry)) (now (list .exit)) (r .n) ⌝ }
@@ -72,7 +72,7 @@ pub fn outer_push(
     if n == 0 {
         list[0] = low;
         list[1] = high;
-        return Pushed {
+        return PushResult {
             n: 1,
             hint: ranges_stored::no_hint(),
         };
@@ -80,18 +80,18 @@ pub fn outer_push(
     let last = 2 * n - 1;
     if ranges_stored::touches(list[last], low) {
         list[last] = high;
-        return Pushed { n: n, hint: hint };
+        return PushResult { n: n, hint: hint };
     }
     if n < budget {
         list[last + 1] = low;
         list[last + 2] = high;
-        return Pushed {
+        return PushResult {
             n: n + 1,
             hint: ranges_stored::no_hint(),
         };
     }
     let next = outer_full(list, n, low, high, hint);
-    Pushed { n: n, hint: next }
+    PushResult { n: n, hint: next }
 }
 
 // One range more, which grows no more, where the list is full, n being the budget: the shortest is dropped, the new one or another. The answer is
@@ -125,7 +125,7 @@ fn inner_close(
     low: u64,
     high: u64,
     hint: MinHint,
-) -> Pushed
+) -> PushResult
     requires { ⌜ (1 ≤ budget) × (n ≤ budget) × (2 * budget ≤ length (now list)) ⌝ }
     requires { ⌜ Hinted hint (differencesIn 0 0 n (now list)) ⌝ }
     ensures { λ r. ⌜ Writes (innerClose budget (rangesIn n (now (list .entry))) (range low high)) (now (list .entry)) (now (list .exit)) (r .n) ⌝ }
@@ -134,13 +134,13 @@ fn inner_close(
 {
     if n == budget {
         let next = inner_full(list, n, low, high, hint);
-        return Pushed { n: n, hint: next };
+        return PushResult { n: n, hint: next };
     }
     list[2 * n] = low;
     list[2 * n + 1] = high;
     let m = n + 1;
     let none = ranges_stored::no_hint();
-    Pushed { n: m, hint: none }
+    PushResult { n: m, hint: none }
 }
 
 // One range more for the inner list: the last one grows, or is closed and the new one is the last.

@@ -25,7 +25,7 @@ use Rattle.covering.specs.Cover.{Cover}
 use Rattle.index.specs.Entries.{entry}
 use Rattle.frames.specs.declared.Disposition.{Disposition}
 use Rattle.frames.specs.declared.Disposition.the-variants.{Skipped, Unchecked, Held, Discarded}
-use Rattle.frames.specs.Walk.{Met, met}
+use Rattle.frames.specs.Walk.{WalkStep, walkStep}
 use Rattle.trial.specs.declared.Setting.{Setting}
 use Rattle.trial.specs.declared.SettingResult.{SettingResult}
 use Rattle.trial.specs.declared.Choice.{Choice}
@@ -55,10 +55,10 @@ choice-examples = (refl, refl, refl, refl, refl, refl)
 
 -- ---- what a setting comes to
 
-abbrev m : Disposition → Met
-m f = met (entry (pos 33554432) (pos 1) (pos 0) (vec (pos 0) (pos 0) K)) f
+abbrev m : Disposition → WalkStep
+m f = walkStep (entry (pos 33554432) (pos 1) (pos 0) (vec (pos 0) (pos 0) K)) f
 
-abbrev walked : List Met
+abbrev walked : List WalkStep
 walked = m Skipped ∷ m Held ∷ m Unchecked ∷ m Unchecked ∷ m Discarded ∷ m Unchecked ∷ m Skipped ∷ m Held ∷ m Unchecked ∷ m Skipped ∷ []
 
 abbrev lists : Cover

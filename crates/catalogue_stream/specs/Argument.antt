@@ -3,8 +3,8 @@
 use mathlib.Core.Path.{_≡_}
 use mathlib.Core.Bool.{true}
 use Rattle.vector.specs.Numbers.{isDepth}
-use Rattle.catalogue_stream.specs.declared.Asked.{Asked}
+use Rattle.catalogue_stream.specs.declared.Argument.{Argument}
 
-abbrev pub DepthInRange : Asked → Type 0
-DepthInRange (Asked.Depth d) = isDepth d ≡ true
-DepthInRange Asked.Not = Unit {0}
+abbrev pub DepthInRange : Argument → Type 0
+DepthInRange (Argument.Depth d) = isDepth d ≡ true
+DepthInRange Argument.Not = Unit {0}
