@@ -138,7 +138,7 @@ fn list(index: &[i64], owner: u32, out: &mut Buffer, at: usize) -> usize {
     ended(out, listed)
 }
 
-// One entry more, where it is one of the owner's.
+// Prints an entry where it is one of the owner's.
 fn list_entry(listed: ListState, e: Entry, owner: u32, out: &mut Buffer) -> ListState {
     if owner < OWNERS && e.owner != owner as i64 {
         return listed;

@@ -1,4 +1,4 @@
--- What is said of the depth that the program is asked for.
+-- The argument of program catalogue. Document 02, F-3: a good line gets its identifier at the asked depth.
 --   DepthInRange r   where a depth is asked for, it is one from 1 to 12
 use mathlib.Core.Path.{_≡_}
 use mathlib.Core.Bool.{true}

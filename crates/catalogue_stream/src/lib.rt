@@ -6,7 +6,7 @@ use command_words::lines::LINES;
 use print::Buffer;
 ghost use Rattle.catalogue_stream.specs.Argument.{DepthInRange};
 
-// What the program is asked for: a depth, or nothing that it can do.
+// The program's argument: a depth, or no depth.
 pub enum Argument {
     Depth(u32),
     Not,

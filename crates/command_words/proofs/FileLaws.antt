@@ -1,4 +1,4 @@
--- Laws of files in digits: the value of a digit, how many bytes a word writes, and what is stored of a line when one byte more comes. Assumes nothing.
+-- Laws of files in digits: the value of a digit, how many bytes a word writes, and what is stored of a line when the next byte comes. Assumes nothing.
 use Prim.Native.Nat.{ℕ, suc, _+_, _-_, _*_, _/_, _≤_, _<_}
 use native.Mathlib.Omega.{arith}
 use native.Mathlib.Numerals.{add-one}
@@ -97,7 +97,7 @@ module _ (w : List ℕ) (some : isNoBytes w ≡ false) where
     pub first-bytes : FileCapacity ≤ length w / 2 → FileCapacity ≡ lengthOf (bytesIn w)
     first-bytes h = many (length w / 2) h ∙ in-digits pairs even all
 
--- ---- one pair of digits more
+-- ---- the next pair of digits
 
 module _ (w : List ℕ) (i : ℕ) (here : i * 2 + 1 < length w) where
   abbrev upper : ℕ
@@ -133,7 +133,7 @@ pub all-read : (w : List ℕ) (n : ℕ) → length w ≤ n → every isHex (drop
 unfolding every
 all-read w n h = ap (every isHex) (drop-of-length-le w h)
 
--- ---- one byte more in a word
+-- ---- the next byte of a word
 
 module _ (s : List ℕ) (b : ℕ) where
   pub grown-short : length s < FileDigits → grown s b ≡ s ++ (b ∷ [])
@@ -155,7 +155,7 @@ module _ (s : List ℕ) (b : ℕ) where
   unfolding grown past
   grown-other h d = simp (le-leb FileDigits (length s) h, d)
 
--- ---- one byte more in a line
+-- ---- the next byte of a line
 
 module _ (p n b : ℕ) (line : List ℕ) (within : n ≤ length line) where
   abbrev stored : List ℕ

@@ -1,4 +1,4 @@
--- Laws of the numbers in digits: what one digit more does to a number that is being read, and that a number that was read is at most the
+-- Laws of the numbers in digits: what the next digit does to a number that is being read, and that a number that was read is at most the
 -- bound. A number never falls as digits follow it, so one that has passed the bound stays none. Assumes nothing.
 use Prim.Native.Nat.{ℕ, zero, suc, _+_, _-_, _*_, _≤_, _<_}
 use native.Mathlib.Omega.{arith}
@@ -51,7 +51,7 @@ module _ (m n : ℕ) (w : List ℕ) (i : ℕ) (here : i < length w) where
   at : naturalFrom m n (drop i w) ≡ after (naturalFrom m n (getD w i 0 ∷ [])) (λ k. naturalFrom m k (drop (i + 1) w))
   at = rw (add-one, drop-cons w i 0) (step m n (getD w i 0) (drop (suc i) w))
 
-  -- one digit more
+  -- the next digit
   pub goes-on : {k : ℕ} → Is k ≡ naturalFrom m n (getD w i 0 ∷ []) → naturalFrom m n (drop i w) ≡ naturalFrom m k (drop (i + 1) w)
   goes-on e = at ∙ ap (λ r. after r (λ k. naturalFrom m k (drop (i + 1) w))) (sym e)
 

@@ -95,7 +95,7 @@ module _ (w s : List ℕ) (b : ℕ) (st : Stands w s) where
           subst (Stands (w ++ (b ∷ []))) (sym next) (itself (w ++ (b ∷ [])) (omega (arith, length-more w b, ap length same)))
       by-length false e = absurd (omega (arith, st .long (leb-false _ _ e) .0))
 
-  -- past FileDigits: the file and what is stored of it have so many at least
+  -- past FileDigits: the file and what is stored of it have at least as many
   module _ (far : FileDigits ≤ length s) where
     sizes : (FileDigits ≤ length w) × (length s ≤ FileDigits + 1)
     sizes = by-length (leb (length w) FileDigits) refl

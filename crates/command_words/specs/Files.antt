@@ -1,7 +1,7 @@
 -- Files in hexadecimal digits, as a command line writes them, and what is stored of such a line while it comes. A word and a line are lists of bytes.
 --   hexValue b           the value of a digit, whose letters are small or capital; 256 for another byte
 --   isHex b              a byte is a digit
---   FileCapacity         the bytes of a file with one more than a region file may have
+--   FileCapacity         the bytes of a file that is one byte too long for a region file
 --   bytesIn w            how many bytes a word writes, two digits each and none for `-`; FileCapacity where there are more
 --   lengthOf r           the same as a length; None, which no file has, for a word that writes no file
 --   FileDigits           one digit less than a file of FileCapacity bytes has
@@ -10,7 +10,7 @@
 --   storedOf w           what is stored of a whole file
 --   lineWith p s b       what is stored of a line with a file from p on when s is stored of it and b follows
 --   filePlace b p        where the file of a line begins that had one from p on when b follows: nowhere after a blank, which ends it
---   BytePushed, ByteStored       one byte more in a list of which n bytes are stored: r are stored then, or r is more than the list can hold
+--   BytePushed, ByteStored   a byte is appended to a list of which n bytes are stored: r are stored then, or r is more than the list can hold
 use Prim.Native.Nat.{ℕ, _+_, _-_, _*_, _/_, _≤_, _<_}
 use mathlib.Core.Path.{_≡_}
 use mathlib.Core.Bool.{Bool, cond, _&&_}

@@ -3,7 +3,7 @@
 --   valueFrom n w         the number that the digits of w write after n
 --   naturalFrom m n w     that number, if all are digits and it is at most m
 --   naturalIn m w         the number that a word writes: digits only, one at least, and at most m
---   wholeIn w             the same of a word that may begin with a minus, for numbers of 32 bits: plain, or negated
+--   wholeIn w             as above, for a word that may begin with a minus and numbers of 32 bits: plain, or negated
 --   UpTo m r              a number that was read is at most m
 use Prim.Native.Nat.{ℕ, _+_, _-_, _*_, _≤_}
 use mathlib.Core.Bool.{Bool, true, false, _&&_}

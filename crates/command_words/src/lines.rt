@@ -28,6 +28,7 @@ pub struct LineState {
     pub is_last: bool,
 }
 
+// The next line, with the state behind it; or the input is over.
 pub enum NextLine {
     Line(Line, LineState),
     Over,
@@ -153,7 +154,7 @@ pub fn text<'a>(block: &'a Buffer, store: &'a Buffer, line: Line) -> &'a [u8] {
     part(block, line.from, line.to)
 }
 
-// The same with its line feed, which a last line does not have.
+// As above, with its line feed, which a last line does not have.
 pub fn with_feed<'a>(block: &'a Buffer, store: &'a Buffer, line: Line) -> &'a [u8] {
     if line.is_stored {
         return part(store, line.from, line.after);

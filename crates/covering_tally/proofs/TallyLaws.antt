@@ -1,5 +1,5 @@
 -- The tally as thirteen numbers: a number that is stored changes its part and no other. And a range that is accepted: it is pushed onto the outer list, a full
--- one onto the inner list behind it too, and one more is seen. Assumes nothing.
+-- one onto the inner list behind it too, and the trixel is counted as seen. Assumes nothing.
 use Prim.Native.Nat.{ℕ, _+_, _-_, _*_, _≤_}
 use native.Mathlib.Omega.{arith}
 use mathlib.Core.Path.{_≡_, refl, sym, ap, subst, subst₂, _∙_}

@@ -4,7 +4,7 @@
 --   framesInto ..       the file whose frames are delivered, or the refusal: 18, the file's, 10
 --   walkOf o l x        the walk over the entries of the owner o in the list l beside the cover of the file x
 --   framesBy ms         how many numbers a walk delivers, and how many tests it makes; framesList: as numbers, `frameCounts` of them
---   framesAnswer        the same of the call
+--   framesAnswer        what the call answers: these counts, or the refusal
 --   rangesAfter         the range list afterwards: as the cover leaves it
 --   numbersAfter        the list of numbers afterwards: those delivered, from element 0 on; the other elements stay
 --   framesGiven r       what the call gave

@@ -1,17 +1,17 @@
--- The walk: one owner's entries and the two lists of a cover, side by side. Document 02, F-12: entries in an inner range are delivered unchecked, entries in
--- an outer range only are put to the point test, and the others are skipped. What is said here is said of every list of entries, in order or not, and of any
--- two lists of ranges; that in an index every entry meets the ranges that its identifier is in: htm/specs/Frames.
---   natural z            the number z; 0 where it is below 0, as in no entry of an index
+-- The walk: one owner's entries and the two lists of a cover, side by side. Document 02, F-12: entries in an inner range are delivered unchecked, entries that
+-- are only in an outer range go through the point test, and the others are skipped. What is said here holds of every list of entries, in order or not, and of
+-- any two lists of ranges; that in an index every entry finds the ranges that its identifier is in: htm/specs/Frames.
+--   natural z          the number z; 0 where it is below 0, as in no entry of an index
 --   shortened d e      the identifier of the entry e, shortened to the depth d: divided by 4^(12 − d)
 --   numberOf e         the number of the entry e; 0 where it has more than 32 bits, as in no entry of an index
 --   entriesOf o l      the entries of the owner o in the list l, in their order; at most an owner's capacity, and in an index all of them
 --   ahead i rs         the ranges rs from the first one on that does not end below the identifier i
 --   begins i rs        the first of rs begins at i or below it
 --   dispositionOf ..   what becomes of an entry with the pointing p, by whether it is in an inner range, and in an outer one; `held` is the point test
---   WalkStep                an entry, and what becomes of it
+--   WalkStep           an entry, and its disposition; walkStep e f: the one of these
 --   walk d held ..     the walk over the entries es beside the outer ranges os and the inner ranges ns, each of which it leaves behind as it passes
 --                      them
---   isDelivered f      the disposition f is that of an entry that is delivered; isTested f: of one that is put to the test
+--   isDelivered f      the disposition f is that of an entry that is delivered; isTested f: of one that is tested
 --   deliveredBy ms     the numbers of those delivered, in their order; testsOf ms: how many tests were made
 use Prim.Native.Nat.{ℕ, _-_, _/_, _^_}
 use mathlib.Core.Bool.{Bool, true, false, cond, _&&_, _||_}

@@ -72,14 +72,14 @@ module _ (o : ℕ) (l : List ℤ) (f ranges numbers : List ℕ) where
       no-ranges s = refuses Space (checked (lt-leb (4 * B) (length ranges) (omega (arith, budget-same k))) refl refl)
 
       module _ (s : 4 * budgetOf (h .budget) ≤ length ranges) where
-        roomy : leb (4 * B) (length ranges) ≡ true
-        roomy = le-leb (4 * B) (length ranges) (omega (arith, budget-same k))
+        long-ranges : leb (4 * B) (length ranges) ≡ true
+        long-ranges = le-leb (4 * B) (length ranges) (omega (arith, budget-same k))
 
         pub no-numbers : length numbers < OwnerCapacity → FramesCall o l f ranges numbers (FramesOf.Refused Space) ranges numbers
-        no-numbers t = refuses Space (checked roomy (lt-leb OwnerCapacity (length numbers) t) refl)
+        no-numbers t = refuses Space (checked long-ranges (lt-leb OwnerCapacity (length numbers) t) refl)
 
         pub no-index : OwnerCapacity ≤ length numbers → length l < IndexLength → FramesCall o l f ranges numbers (FramesOf.Refused Space) ranges numbers
-        no-index t u = refuses Space (checked roomy (le-leb OwnerCapacity (length numbers) t) (lt-leb IndexLength (length l) u))
+        no-index t u = refuses Space (checked long-ranges (le-leb OwnerCapacity (length numbers) t) (lt-leb IndexLength (length l) u))
 
         pub delivered : OwnerCapacity ≤ length numbers → IndexLength ≤ length l → (r : SearchResult) (lists left : List ℕ)
             → SearchesRows o l (h .depth) (budgetOf (h .budget)) rs (h .count) ranges numbers r lists left
@@ -87,7 +87,7 @@ module _ (o : ℕ) (l : List ℤ) (f ranges numbers : List ℕ) where
         unfolding framesAnswer rangesAfter numbersAfter walkOf
         delivered t u r lists left w =
             let v = w (x .region) (k .rows) in
-            let e = checked roomy (le-leb OwnerCapacity (length numbers) t) (le-leb IndexLength (length l) u) in
+            let e = checked long-ranges (le-leb OwnerCapacity (length numbers) t) (le-leb IndexLength (length l) u) in
             let C = cover-same k in
             let hd = sym (k .header) in
             let walked : walkBeside o l (h .depth) (x .region) (listed (budgetOf (h .budget)) (cutting (h .depth) (x .region))) ≡ walkOf o l x = λ i. walkBeside o l (hd i .depth) (x .region) (C i) in

@@ -29,7 +29,7 @@ use Rattle.frames_walk.specs.Steps.{countsBy, Lent, Walks}
 use Rattle.frames_walk.proofs.StepLaws.{few-counted}
 use Rattle.frames_calls.specs.Searches.{walkBeside, Searches}
 
--- ---- few entries are met
+-- ---- few entries are visited
 
 abbrev counting : DispositionCounts → ℕ
 counting t = t .unchecked + t .held + t .discarded

@@ -1,5 +1,5 @@
--- What a search leaves: the cover's lists and counts, and the walk beside them. The rules are those of frames/specs/Answers.
---   Searches ..            what a search of a region leaves; SearchesRows: of every region that has these rows
+-- What a search leaves: the cover's lists and counts, and the walk beside them. Document 02, F-12; the rules are those of frames/specs/Answers.
+--   Searches ..          what a search of a region leaves; SearchesRows: of every region that has these rows
 --   FileIs h rs          rs is what some file with the header h was decoded to
 --   deliveryOf t         the answer by the counts of a walk
 use Prim.Native.Nat.{ℕ, _+_, _≤_}

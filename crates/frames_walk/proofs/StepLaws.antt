@@ -1,6 +1,5 @@
--- One entry more that was met: the numbers delivered are one more or as many, and so are the counts; and as many numbers are delivered, and tests made, as are
--- counted. By
--- recursion over those met before, disposition by disposition. Assumes nothing.
+-- Another step of a walk: it delivers one number or none, and adds one to one count or to none; and as many numbers are delivered, and tests made, as are
+-- counted. By recursion over the steps before, disposition by disposition. Assumes nothing.
 use Prim.Native.Nat.{ℕ, suc, _+_, _≤_}
 use mathlib.Core.Path.{_≡_, refl, sym, ap, _∙_}
 use mathlib.Core.Bool.{Bool, true, false, cond}
@@ -45,14 +44,14 @@ counts-more ms e f = (λ i. dispositionCounts (tally-last (λ m. isUnchecked (m 
     by-disposition Held = refl
     by-disposition Discarded = refl
 
--- no more than one more
+-- a step adds at most one
 pub with-disposition-most : (t : DispositionCounts) (f : Disposition) → withDisposition t f .unchecked + withDisposition t f .held + withDisposition t f .discarded ≤ t .unchecked + t .held + t .discarded + 1
 with-disposition-most t Skipped = omega arith
 with-disposition-most t Unchecked = omega arith
 with-disposition-most t Held = omega arith
 with-disposition-most t Discarded = omega arith
 
--- ---- those of all that were met
+-- ---- those of all steps
 
 module _ (ms : List WalkStep) where
   abbrev u : ℕ
@@ -64,7 +63,7 @@ module _ (ms : List WalkStep) where
   abbrev x : ℕ
   x = countsBy ms .discarded
 
--- no more than were met
+-- no more than there are steps
 pub few-counted : (ms : List WalkStep) → u ms + h ms + x ms ≤ length ms
 unfolding tally
 few-counted [] = omega arith

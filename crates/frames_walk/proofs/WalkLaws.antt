@@ -1,4 +1,4 @@
--- A walk, entry by entry: what the code does with an entry of the owner takes the walk past it, what it leaves alone is none that the walk meets, and from
+-- A walk, entry by entry: what the code does with an entry of the owner takes the walk past it, what it passes over is none that the walk visits, and from
 -- the first entry to the last that is the whole walk. Assumes nothing.
 use Prim.Native.Nat.{ℕ, suc, _+_, _-_, _*_, _/_, _^_, _≤_, _<_}
 use mathlib.Core.Path.{_≡_, refl, sym, ap, subst, _∙_}

@@ -1,12 +1,13 @@
--- How far a walk is, and what a step of it does. The rule is `walk` of frames/specs/Walk.
---   withDisposition t f          one entry more, with the disposition f, in the counts t; countsBy ms: the counts of the entries met
---   outerIn l ls       the outer list that stands in the lent list ls by l; innerOf l ls: the inner list
+-- How far a walk is, and what a step of it does. Document 02, F-12; the rule is `walk` of frames/specs/Walk.
+--   dispositionCounts  the counts of these numbers
+--   withDisposition t f   the counts t after an entry with the disposition f; countsBy ms: the counts of the steps ms
+--   outerIn l ls       the outer list that stands in the lent list ls by l; innerIn l ls: the inner list
 --   Lent l ls          the lent list has room for them
 --   Fits l a           the state a is one of these lists, and of a walk over no more entries than an owner's capacity
---   left o m es        of the entries es those that a walk still meets: the owner's, up to an owner's capacity, after m of them
---   Walking ..         a walk that meets `all` in all has met some of them, `es` are left, and `after` is the list `before` with the numbers delivered so far
+--   left o m es        of the entries es those that a walk still visits: the owner's, up to an owner's capacity, after m of them
+--   Walking ..         a walk of the steps `all` has made some of them, `es` are left, and `after` is the list `before` with the numbers delivered so far
 --   Walks ..           the whole walk
---   VisitsEntry .., VisitsIfOwned ..  whatever was met before: a walk that had the entry e before it has it behind it; the same of any entry, whoever's it is
+--   VisitsEntry ..     whatever was visited before: a walk that had the entry e before it has it behind it; VisitsIfOwned ..: as above, for an entry of any owner
 use Prim.Native.Nat.{ℕ, _+_, _-_, _*_, _^_, _≤_, _<_}
 use mathlib.Core.Path.{_≡_}
 use mathlib.Core.List.{List, _∷_, _++_}

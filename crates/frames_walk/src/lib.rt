@@ -36,7 +36,7 @@ pub struct DispositionCounts {
     pub discarded: u64,
 }
 
-// How far a walk is: how many of the owner's entries it has met, how many ranges of each list it has left behind, and what it has counted.
+// How far a walk is: how many of the owner's entries it has visited, how many ranges of each list it has left behind, and what it has counted.
 pub struct WalkState {
     pub visited: usize,
     pub outer: usize,
@@ -59,7 +59,7 @@ fn shortened(e: Entry, span: u64) -> u64
     natural(e.id) / span
 }
 
-// So many numbers have 32 bits.
+// How many numbers of 32 bits there are.
 const NUMBERS: u64 = 4294967296;
 
 // The number of an entry, where it has 32 bits; else 0.
@@ -120,7 +120,7 @@ fn disposition_of(
     }
 }
 
-// One entry more with its disposition.
+// Counts an entry by its disposition.
 fn count_disposition(t: DispositionCounts, disposition: Disposition) -> DispositionCounts
     requires { ⌜ t .unchecked + t .held + t .discarded ≤ OwnerCapacity ⌝ }
     ensures { λ r. ⌜ r ≡ withDisposition t disposition ⌝ }
@@ -203,7 +203,7 @@ fn visit_entry(
     }
 }
 
-// The next entry, whoever's it is; the owner's are met, up to an owner's capacity.
+// The next entry, of either owner; the owner's are visited, up to an owner's capacity.
 fn visit_if_owned(
     e: Entry,
     owner: u32,

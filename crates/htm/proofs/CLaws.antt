@@ -42,9 +42,9 @@ use Rattle.htm.proofs.RoomLaws.{room-short, room-enough, refused-by, in
 
 -- ---- lengths are small: 32 bytes a name, 10508 a file
 
--- a list that has room is the list that was to be written
-roomy : (a : Answer (List ℕ)) (before : List ℕ) (n : ℕ) → with-value length (then a (λ s. room (length s) before s)) ≡ gives n → (s : List ℕ) × (a ≡ gives s) × (length s ≡ n)
-roomy a before n e =
+-- what is given, of a list with room, is the length of what is written
+room-written : (a : Answer (List ℕ)) (before : List ℕ) (n : ℕ) → with-value length (then a (λ s. room (length s) before s)) ≡ gives n → (s : List ℕ) × (a ≡ gives s) × (length s ≡ n)
+room-written a before n e =
     let v = value-gives length (then a (λ s. room (length s) before s)) n e in
     (v .0, room-gives before length a (v .0) (v .1), v .2)
 
@@ -52,7 +52,7 @@ roomy a before n e =
 pub name-short : (i : ℕ) (before : List ℕ) (n : ℕ) → nameAnswer i before ≡ gives n → n ≤ 32
 unfolding nameAnswer nameOf
 name-short i before n e =
-    let t = roomy (nameOf i) before n e in
+    let t = room-written (nameOf i) before n e in
     let s = same-value (nameAt (depthOf i) i) (t .0) (check-gives Name (isIdentifier i) (gives (nameAt (depthOf i) i)) (t .0) (t .1)) in
     omega (arith, t .2, ap length s, digits-length (depthOf i) i, depth-high i)
 
@@ -60,7 +60,7 @@ name-short i before n e =
 pub file-short : (s : Style) (d b : ℕ) (rs : List ℤ) (before : List ℕ) (n : ℕ) → fileAnswer (writeIn s d b rs) before ≡ gives n → n ≤ 10508
 unfolding fileAnswer
 file-short s d b rs before n e =
-    let t = roomy (writeIn s d b rs) before n e in
+    let t = room-written (writeIn s d b rs) before n e in
     let w = write-back s d b rs (t .0) (t .1) in
     omega (arith, t .2, accepted-short (t .0) _ (w .2 .1))
 
@@ -68,7 +68,7 @@ file-short s d b rs before n e =
 pub converted-short : (s : Style) (f before : List ℕ) (n : ℕ) → fileAnswer (convert s f) before ≡ gives n → n ≤ 10508
 unfolding fileAnswer convert
 converted-short s f before n e =
-    let t = roomy (convert s f) before n e in
+    let t = room-written (convert s f) before n e in
     let x = value-gives (inStyle s f) (read f) (t .0) (t .1) in
     omega (arith, t .2, accepted-short (t .0) (x .0) (converted s f (t .0) (t .1) .1 ∙ x .1))
 

@@ -194,13 +194,13 @@ into o l f ranges numbers x e =
     let first : File → Answer File = λ y. check Space (leb (4 * budgetOf (y .budget)) (length ranges)) (second y) in
     let t = then-gives (read f) first x (check-gives Owner (isOwner o) (then (read f) first) x e) in
     let y = t .0 in
-    let room = leb (4 * budgetOf (y .budget)) (length ranges) in
-    let b = check-gives Space room (second y) x (t .2) in
+    let long = leb (4 * budgetOf (y .budget)) (length ranges) in
+    let b = check-gives Space long (second y) x (t .2) in
     let c = check-gives Space (leb OwnerCapacity (length numbers)) (third y) x b in
     let same : y ≡ x = same-value y x (check-gives Space (leb IndexLength (length l)) (gives y) x c) in
     record {
       accepted = t .1 ∙ ap gives same;
-      long = subst (λ z. leb (4 * budgetOf (z .budget)) (length ranges) ≡ true) same (check-passed Space room (second y) x (t .2));
+      long = subst (λ z. leb (4 * budgetOf (z .budget)) (length ranges) ≡ true) same (check-passed Space long (second y) x (t .2));
     }
 
 -- what the cover of that file answers and leaves

@@ -81,7 +81,7 @@ module _ (z : ℤ) (ns first second part : List ℕ) where
       unfolding chosenForC chosenAfterC
       no-part n =
           let enough = le-leb trialCounts (length ns) h in
-          let roomy = le-leb 2 (length part) k in
+          let long = le-leb 2 (length part) k in
           let other = ne-eqb (natAbs z) 0 n in
           (cc, cc)
 
@@ -90,6 +90,6 @@ module _ (z : ℤ) (ns first second part : List ℕ) where
       unfolding chosenForC chosenAfterC
       some-part n =
           let enough = le-leb trialCounts (length ns) h in
-          let roomy = le-leb 2 (length part) k in
+          let long = le-leb 2 (length part) k in
           let zero = eq-eqb (natAbs z) 0 n in
           (cc, cc)

@@ -1,5 +1,5 @@
 -- A cover is the same from either form of one region, and so is the point test. Document 02, F-7. Proved, of the rules and of the answers too: proofs/EitherForm.
---   SameAnswers h f             cover and point test answer the same of two files, and the cover leaves the same in the lent list; with a second list, for C, too
+--   SameAnswers h f       cover and point test answer the same for two files, and the cover leaves the same in the lent list; with a second list, for C, too
 --   SameCoverOfCalls      of the file that a conversion left in a lent list: handed to cover or point test, it is answered as the first file is
 use Prim.Native.Nat.{ℕ}
 use mathlib.Core.Path.{_≡_}

@@ -1,7 +1,7 @@
 -- Frames and trials after every history of adds and removes from an empty index. Document 02, F-10 to F-13, of the calls, end to end.
 --   FramesOfHistories   the owner's entries are those of the exposures that its own accepted calls leave, and of them are delivered exactly those that the
 --                       region holds, in index order (`Delivered`, Frames)
---   TrialsOfHistories   the same entries, and unchecked plus held is the same under both settings (`TrialCorrect`, Trials), with no premise on the index
+--   TrialsOfHistories   the same entries, and unchecked plus held is the same under both settings (`SameHeld`, Trials), with no premise on the index
 --   FramesApart, TrialsApart   two histories with the same calls of one owner in the same order give that owner the same frames and trials, in every lent list
 use Prim.Native.Nat.{ℕ}
 use mathlib.Core.Path.{_≡_}

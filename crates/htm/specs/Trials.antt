@@ -4,7 +4,7 @@
 --   SameHeld n r       under both settings of the trial r, what is delivered unchecked plus what is tested and held is n
 --   chosenOf c s t     the setting of the choice c; Smaller c s t g: its outer list spans no more than either, and the first is chosen if they
 --                      are equal
---   TrialCorrect ..           of a trial's answer and the part that the second call hands back: the same, and the part has the chosen setting's outer list
+--   TrialCorrect ..    of a trial's answer and the part that the second call hands back: both, and the part has the chosen setting's outer list
 --   TrialsOfCalls      of whatever values meet the contracts of both calls
 -- Proved, of the rules and of the answers too: proofs/TrialsKept.
 use Prim.Native.Nat.{ℕ, _+_, _≤_}

@@ -32,7 +32,7 @@ pub extern "C" fn lookup(x: i32, y: i32, z: i32, depth: u32) -> u64
     htm_abi::or_zero(crate::locate(x, y, z, depth))
 }
 
-// The same lookup: the identifier, or minus the number of the refusal.
+// As above: the identifier, or minus the number of the refusal.
 #[no_mangle]
 pub extern "C" fn htm_lookup(x: i32, y: i32, z: i32, depth: u32) -> i64
     ensures { λ r. ⌜ r ≡ numberForC (mesh_lookup.lookup (vec x y z) depth) ⌝ }
@@ -51,7 +51,7 @@ pub extern "C" fn htm_lookup_f32(x: f32, y: f32, z: f32, depth: u32) -> i64
     ))
 }
 
-// The same in double precision.
+// As above, in double precision.
 #[no_mangle]
 pub extern "C" fn htm_lookup_f64(x: f64, y: f64, z: f64, depth: u32) -> i64
     ensures { λ r. ⌜ r ≡ numberForC (lookupReport (doubleReport x y z) depth) ⌝ }
@@ -116,7 +116,7 @@ pub extern "C" fn htm_write(depth: u32, budget: u32, rows: &[i32], out: &mut [u8
     htm_abi::number_or_minus(crate::write(depth, budget, rows, out))
 }
 
-// The same of the grouped file.
+// As above, for the grouped file.
 #[no_mangle]
 pub extern "C" fn htm_write_grouped(depth: u32, budget: u32, rows: &[i32], out: &mut [u8]) -> i64
     ensures { λ r. ⌜ r ≡ numberForC (fileAnswer (writeGrouped depth budget (now (rows .entry))) (now (out .entry))) ⌝ }
@@ -134,7 +134,7 @@ pub extern "C" fn htm_to_grouped(file: &[u8], out: &mut [u8]) -> i64
     htm_abi::number_or_minus(crate::to_grouped(file, out))
 }
 
-// The same of the plain form.
+// As above, for the plain form.
 #[no_mangle]
 pub extern "C" fn htm_to_plain(file: &[u8], out: &mut [u8]) -> i64
     ensures { λ r. ⌜ r ≡ numberForC (fileAnswer (toPlain (now (file .entry))) (now (out .entry))) ⌝ }

@@ -9,7 +9,7 @@ ghost use Rattle.htm_abi.specs.Values.{statusOf};
 ghost use Rattle.htm_abi.specs.TrialValues.{settingOf};
 ghost use Rattle.htm.specs.TrialFromC.{TrialCallC, chosenForC, chosenAfterC};
 
-// How many numbers say a part: which buffer, and how many elements of it.
+// How many numbers give a part: which buffer, and how many elements of it.
 const PART: usize = 2;
 
 // A trial: the two lists of each setting in its buffer, and eleven numbers at the beginning of `numbers`: unchecked, held, discarded, outer and inner count of

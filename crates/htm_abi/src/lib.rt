@@ -72,7 +72,7 @@ pub fn number_or_minus(answer: Number) -> i64
     }
 }
 
-// What a call answers that changes the index: 0, or minus the number of the refusal.
+// The answer of a call that changes the index: 0, or minus the number of the refusal.
 pub fn status(answer: Change) -> i64
     ensures { λ r. ⌜ (r ≡ statusOf (changeGiven answer)) × Upto (2 ^ 32) r ⌝ }
 {
@@ -104,7 +104,7 @@ pub fn put_corners(out: &mut [i32], c: Corners)
     put_corner(out, 6, c.v2);
 }
 
-// The refusal of a file for which a lent list is too short: its own, or 10.
+// What a call for C returns where a lent list is too short: the file's own refusal, or 10.
 pub fn file_refusal_or_space(file: &[u8]) -> i64
     ensures { λ r. ⌜ (r ≡ statusOf (fileRefusalOrSpace (now (file .entry)))) × Upto (2 ^ 32) r ⌝ }
 {
@@ -126,7 +126,7 @@ pub fn put_header(header: &mut [u64], h: Header)
     header[2] = h.budget as u64;
 }
 
-// The same, and then the count of convexes.
+// As above, and then the count of convexes.
 pub fn put_contents(header: &mut [u64], h: Header, convexes: u64)
     requires { ⌜ 4 ≤ length (now header) ⌝ }
     ensures { λ _. ⌜ now (header .exit) ≡ put 0 (headerList h ++ convexes ∷ []) (now (header .entry)) ⌝ }
@@ -135,7 +135,7 @@ pub fn put_contents(header: &mut [u64], h: Header, convexes: u64)
     header[3] = convexes;
 }
 
-// The refusal of an owner and a file for which a lent list is too short: 18, the file's own, or 10.
+// As above, with an owner: 18, the file's own refusal, or 10.
 pub fn owner_refusal_or_space(owner: u32, file: &[u8]) -> i64
     ensures { λ r. ⌜ (r ≡ statusOf (check Owner (isOwner owner) (fileRefusalOrSpace (now (file .entry))))) × Upto (2 ^ 32) r ⌝ }
 {

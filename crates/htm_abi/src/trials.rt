@@ -69,7 +69,7 @@ pub fn trial_at(numbers: &[u64]) -> Trial
     }
 }
 
-// The number of the refusal of a trial for which a list is too short: 18, the file's, 5 and 6 of each setting, or 10.
+// The refusal of a trial where a lent list is too short: 18, the file's, 5 and 6 of each setting, or 10.
 pub fn trial_refusal_or_space(owner: u32, file: &[u8], s: Setting, t: Setting) -> u32
     ensures { λ r. ⌜ trialRefusalOrSpace owner (now (file .entry)) s t ≡ refused r ⌝ }
 {

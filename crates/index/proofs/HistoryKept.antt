@@ -54,7 +54,7 @@ module _ (xs : List Exposure) (es : List Entry) (h : Files xs es) where
   same-some : (n : Key) → some (isKeyed n) es ≡ some (hasKey n) xs
   same-some n = some-tally (isKeyed n) es ∙ ap (ltb 0) (h .holds .exactly (isKeyed n)) ∙ sym (some-tally (hasKey n) xs)
 
-  -- one exposure more, whose key is not there
+  -- an exposure is added whose key is not there
   more : (x : Exposure) → isExposure x ≡ true → some (isKeyed (keyOf x)) es ≡ false → tally (hasOwner (x .owner)) xs < OwnerCapacity → length es < IndexCapacity → Files (x ∷ xs) (inserted (entryOf x) es)
   unfolding tally
   more x u o p f =

@@ -1,4 +1,4 @@
--- How many elements pass a test, where one more is inserted, where one is withdrawn, and among those only that pass another. By recursion over the list,
+-- How many elements pass a test, where one is inserted, where one is withdrawn, and among those only that pass another. By recursion over the list,
 -- test by test. Assumes nothing.
 use Prim.Native.Nat.{ℕ, suc, _+_, _≤_}
 use mathlib.Core.Path.{_≡_, sym, ap, _∙_, refl}

@@ -16,9 +16,9 @@
 --   withEntries es l  the list l with the entries es in the place of its own
 --   inserted e es     e before those entries at the end that it precedes
 --   withdrawn k es    without the first entry that has the key k
---   hasRoom es        one entry more has a place in the list, whoever's it is
---   inserting          the entries after an add, or the refusal: 15 twice, 16 full; withdrawing: after a removal, or 17 absent
---   Slot            what stands at a place: an entry, or nothing
+--   hasRoom es        the list has room for another entry, of either owner
+--   inserting         the entries after an add, or the refusal: 15 twice, 16 full; withdrawing: after a removal, or 17 absent
+--   Slot              what stands at a place: an entry, or nothing
 --   slotAt i es       what stands at place i, counted from 0: nothing past the last entry
 use Prim.Native.Nat.{ℕ, zero, suc, _+_, _*_, min}
 use mathlib.Core.Bool.{Bool, cond, not, _&&_, _||_}
@@ -94,7 +94,7 @@ written (e ∷ es) l = numbers e ++ written es (drop Width l)
 unfoldable pub withEntries : List Entry → List ℤ → List ℤ
 withEntries es l = pos (length es) ∷ written es (drop 1 l)
 
--- ---- one entry more, one less, one by its place
+-- ---- an entry inserted, withdrawn, found by its place
 
 unfoldable pub inserted : Entry → List Entry → List Entry
 inserted e [] = e ∷ []

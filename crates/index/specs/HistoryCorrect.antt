@@ -8,8 +8,8 @@
 --   Runs l h rs n     the calls h one after the other give rs, from the list l on, and leave the list n
 --   Numbered h        the numbers of the exposures that h adds have 32 bits
 --   IsNew x h         after the history h, x may be added as far as its owner, its pointing and its number go
---   ServesAgain h     after the history h, one more of an owner that has 1024 is refused as full; and when one is withdrawn, whether there were 1024 or fewer,
---                     any other of the same owner is taken
+--   ServesAgain h     after the history h, another exposure of an owner that has 1024 is refused as full; and when one is withdrawn, whether there were 1024 or
+--                     fewer, any other of the same owner is accepted
 --   Leaves h rs n     the answers rs and the list n are what the rule says of the history h
 --   HistoryCorrect    the statement: lists of zeros, and lists that `begin` leaves, are empty indexes; from one every history leaves what it should; and in
 --                     an index there is room wherever an owner has a place

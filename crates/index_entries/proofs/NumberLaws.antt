@@ -57,7 +57,7 @@ pub none-below : (z : ℤ) → mag z < 2 ^ 63 → less z (pos 0) ≡ true → 0 
 none-below (pos n) h e = absurd (omega (arith, ltb-true n 0 (sym (same-less (pos n) (pos 0) h (omega arith)) ∙ e)))
 none-below (negsuc n) h e = refl
 
--- a number that is not below 0 fits the cast to one without a sign, and is the count, up to the most
+-- a number that is not below 0 fits the cast to one without a sign, and is the count, up to the capacity
 pub record Counts (z y : ℤ) : Type 0 where
   pub sign : T (nonNeg z)
   pub fits : Fits w64 (natAbs z)

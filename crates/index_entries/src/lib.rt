@@ -1,5 +1,5 @@
-// The entries of an index, in lent memory: reading, storing, their order, searches, and the moving of entries for one more and for one less. The rules
-// stand in index/specs, the steps of the code in specs/Steps. Each function says what it does of every list, index or not.
+// The entries of an index, in lent memory: reading, storing, their order, searches, and how entries move when one is inserted or removed. The rules
+// stand in index/specs, the steps of the code in specs/Steps. Each contract holds of every list, index or not.
 use index::Entry;
 use index::INDEX_CAPACITY;
 use index::WIDTH;
@@ -15,7 +15,7 @@ ghost use Rattle.index.specs.Entries as rule;
 ghost use Rattle.index_entries.specs.Steps.{leading, staying, raised};
 ghost use Rattle.algebra.proofs.Moves.{lowered};
 
-// What a search for a key ends with: the place of the first entry that has it, or how many entries there are; and then, how many of them are the owner's.
+// The result of a search for a key: the place of the first entry that has it; or how many entries there are, and then how many of them are the owner's.
 pub struct KeySearch {
     pub place: usize,
     pub owned: usize,
@@ -100,7 +100,7 @@ pub fn count_in(index: &[i64]) -> usize
     }
 }
 
-// One more, where the entry is one of this owner.
+// Counts an entry where it is one of this owner.
 fn count_if_owned(count: usize, e: Entry, owner: u32) -> usize
     requires { ⌜ count ≤ IndexCapacity ⌝ }
     ensures { λ r. ⌜ (r ≡ cond (isOwned owner e) (count + 1) count) × (r ≤ count + 1) ⌝ }

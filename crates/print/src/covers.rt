@@ -19,6 +19,7 @@ pub enum RangeShape {
     Identifiers,
 }
 
+// The lines of the cover of a file, with the byte `part` between them; or its refusal.
 pub fn lines(out: &mut Buffer, at: usize, file: &[u8], part: u8) -> usize {
     let mut lists = [0u64; ELEMENTS];
     match htm::cover(file, &mut lists) {
@@ -90,7 +91,7 @@ fn inner_start(budget: u32) -> usize {
     crate::least(limits::budget_of(budget) as u64 * 2, ELEMENTS)
 }
 
-// The pairs of so many ranges from an element on.
+// The pairs of `count` ranges, from element `from` on.
 fn pairs(lists: &[u64], from: usize, count: u64) -> &[u64] {
     if lists.len() < from {
         return &lists[..0];

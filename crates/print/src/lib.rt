@@ -98,7 +98,7 @@ pub fn located(out: &mut Buffer, at: usize, answer: Number) -> usize {
     }
 }
 
-// A length that is given as a number, up to `most`.
+// The lesser of a length that is given as a number and `most`.
 pub fn least(n: u64, most: usize) -> usize
     ensures { λ r. ⌜ r ≤ most ⌝ }
 {

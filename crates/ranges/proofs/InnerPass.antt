@@ -14,7 +14,7 @@ use Rattle.ranges.proofs.Pushing.{below, extend, innerFull, innerClose,
 use Rattle.ranges.proofs.Earliest.{below-without, earliest-inside, earliest-snoc}
 use Rattle.ranges.proofs.OuterPass.{lastHigh-snoc, joinOn, joinedFrom-snoc}
 
--- ---- one range less
+-- ---- a range is left out
 
 pub length-without : (i : ℕ) (xs : List Range) → i < length xs → suc (length (without i xs)) ≡ length xs
 unfolding without

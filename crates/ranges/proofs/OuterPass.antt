@@ -195,7 +195,7 @@ commutes xs r h =
     ∙ sym (joinSmallest-snoc (joinSmallest xs) r (omega (arith, joinSmallest-shrinks xs h)) ∙ full-on (joinSmallest xs) r (nearest-stays xs r h t)))
     (λ t. ap joinSmallest (joinSmallest-snoc xs r (omega arith) ∙ full-off xs r t))
 
--- ---- touching ranges, one more
+-- ---- touching ranges, and a new one
 
 unfoldable pub joinOn : List Range → Range → List Range
 joinOn xs r = cond (eqb (lastHigh xs + 1) (r .low)) (extend xs r) (xs ++ r ∷ [])
@@ -218,7 +218,7 @@ joinedFrom-snoc a (b ∷ xs) r =
     (λ t. rw t (joinedFrom-snoc (over a b) xs r))
     (λ t. rw t (ap (λ l. a ∷ l) (joinedFrom-snoc b xs r) ∙ sym (joinOn-cons a (joinedFrom b xs) r (length-joinedFrom b xs))))
 
--- ---- one range more, pushed
+-- ---- a range is pushed
 
 pub push-some : (B : ℕ) (xs : List Range) (r : Range) → 0 < length xs → outerPush B xs r ≡ cond (eqb (lastHigh xs + 1) (r .low)) (extend xs r) (outerNew B xs r)
 unfolding outerPush

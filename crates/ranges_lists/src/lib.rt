@@ -10,13 +10,13 @@ ghost use Rattle.ranges.proofs.Pushing.{outerPush, outerFull, innerFull, innerC
 ghost use Rattle.ranges.specs.Ranges.{range, rangesIn};
 ghost use Rattle.ranges_stored.specs.Stored.{differences, differencesIn, written, Writes, Hinted, stateOf, Stores};
 
-// How many ranges stand in a list, and what is known of their gaps, or of their sizes less one.
+// What a push leaves: how many ranges stand in the list, and what is known of their gaps, or of their sizes less one.
 pub struct PushResult {
     pub n: usize,
     pub hint: MinHint,
 }
 
-// Range number i of n and the next join, and one more stands behind the last.
+// Joins range number i of n and the next, and stores a range behind the last.
 fn join_at(list: &mut [u64], n: usize, i: usize, low: u64, high: u64)
     requires { ⌜ (i + 1 < n) × (2 * n ≤ length (now list)) ⌝ }
     ensures { λ _. ⌜ now (list .exit) ≡ written (joinAt i (rangesIn n (now (list .entry))) ++ range low high ∷ []) (now (list .entry)) ⌝ }
@@ -28,8 +28,8 @@ fn join_at(list: &mut [u64], n: usize, i: usize, low: u64, high: u64)
     list[end] = high;
 }
 
-// One range more, which does not touch the last, where the list is full, n being the budget: it joins on to the last one, if its gap is the smallest,
-// or two others join and it stands behind them. The answer is what is known of the gaps then.
+// Pushes a range that does not touch the last onto a full list, where n is the budget. If its gap is the smallest, the range joins on to the last one; else
+// two others join, and it stands behind them. The answer is what is known of the gaps then.
 fn outer_full(list: &mut [u64], n: usize, low: u64, high: u64, hint: MinHint) -> MinHint
     requires { ⌜ (1 ≤ n) × (2 * n ≤ length (now list)) ⌝ }
     requires { ⌜ Hinted hint (gaps (rangesIn n (now list))) ⌝ }
@@ -53,7 +53,7 @@ fn outer_full(list: &mut [u64], n: usize, low: u64, high: u64, hint: MinHint) ->
     next
 }
 
-// One range more for the outer list, whose n ranges stand at the front of the lent list. The answer has how many stand there then: not fewer, and at
+// Pushes a range onto the outer list, whose n ranges stand at the front of the lent list. The answer has how many stand there then: not fewer, and at
 // most the budget.
 pub fn outer_push(
     list: &mut [u64],
@@ -94,8 +94,8 @@ pub fn outer_push(
     PushResult { n: n, hint: next }
 }
 
-// One range more, which grows no more, where the list is full, n being the budget: the shortest is dropped, the new one or another. The answer is
-// what is known of the sizes less one then.
+// Stores a closed range in a full list, where n is the budget: the shortest is dropped, the new one or another. The answer is what is known of the
+// sizes less one then.
 fn inner_full(list: &mut [u64], n: usize, low: u64, high: u64, hint: MinHint) -> MinHint
     requires { ⌜ (1 ≤ n) × (2 * n ≤ length (now list)) ⌝ }
     requires { ⌜ Hinted hint (differencesIn 0 0 n (now list)) ⌝ }
@@ -117,7 +117,7 @@ fn inner_full(list: &mut [u64], n: usize, low: u64, high: u64, hint: MinHint) ->
     next
 }
 
-// A range that grows no more is stored behind the n that are. The answer has how many are stored then, at most the budget.
+// Stores a closed range behind the n that are stored. The answer has how many are stored then, at most the budget.
 fn inner_close(
     list: &mut [u64],
     n: usize,
@@ -143,7 +143,7 @@ fn inner_close(
     PushResult { n: m, hint: none }
 }
 
-// One range more for the inner list: the last one grows, or is closed and the new one is the last.
+// Pushes a range onto the inner list: the last one grows, or is closed and the new one is the last.
 pub fn inner_push(list: &mut [u64], p: Pending, budget: usize, low: u64, high: u64) -> Pending
     requires { ⌜ (1 ≤ budget) × (p .n ≤ budget) × (2 * budget ≤ length (now list)) ⌝ }
     requires { ⌜ Hinted (p .hint) (differencesIn 0 0 (p .n) (now list)) ⌝ }
@@ -185,7 +185,7 @@ pub fn inner_push(list: &mut [u64], p: Pending, budget: usize, low: u64, high: u
     }
 }
 
-// No more ranges come: the last one is closed. The answer is how many are stored then, at most the budget.
+// Closes the inner list: its last range is stored too. The answer is how many are stored then, at most the budget.
 pub fn inner_end(list: &mut [u64], p: Pending, budget: usize) -> usize
     requires { ⌜ (1 ≤ budget) × (p .n ≤ budget) × (2 * budget ≤ length (now list)) ⌝ }
     requires { ⌜ Hinted (p .hint) (differencesIn 0 0 (p .n) (now list)) ⌝ }

@@ -1,5 +1,5 @@
--- What is said of the bytes that were read.
---   BytesIn xs r   they stand at the beginning of the list xs
+-- The bytes that a read of standard input gave.
+--   BytesIn xs r   where r counts bytes, they stand at the beginning of the list xs
 use Prim.Native.Nat.{ℕ}
 use mathlib.Core.List.{List}
 use Rattle.io.specs.Counts.{Counts}

@@ -12,7 +12,7 @@ ghost use Rattle.streams.specs.declared.Input.{Input};
 // A loop must end, and no run is interrupted so often.
 const CALLS: u64 = u64::MAX;
 
-// So many bytes were read, none at the input's end; or a read has failed.
+// How many bytes were read, 0 at the input's end; or a read has failed.
 pub enum Input {
     Bytes(usize),
     Failed,

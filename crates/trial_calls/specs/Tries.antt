@@ -1,4 +1,4 @@
--- What the parts of a trial give. The rules are those of trial/specs.
+-- What the parts of a trial give. Document 02, F-13; the rules are those of trial/specs.
 --   passing n a        the answer a, or the refusal n; 0 is none
 --   SettingRefusal s r r is what the setting s is refused with, 0 for a good one
 --   Checks ..          r is the first check that fails behind the file's, 0 for none, where the index has k elements and the buffers have m and n:

@@ -205,7 +205,7 @@ pub fn trial(
     }
 }
 
-// The first n pairs of a list, where it has so many; else none.
+// The first n pairs of a list; none where it has fewer.
 fn front<'a>(n: u64, list: &'a [u64]) -> &'a [u64]
     ensures { λ r. ⌜ (now r ≡ fitting (2 * n) (now (list .entry))) × (ptr r ≡ ptr (list .entry)) ⌝ }
 {

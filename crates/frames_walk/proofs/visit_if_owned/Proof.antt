@@ -1,4 +1,4 @@
--- `frames_walk::visit_if_owned` leaves alone what the walk does not meet. Assumes nothing.
+-- `frames_walk::visit_if_owned` passes over what the walk does not visit. Assumes nothing.
 use mathlib.Core.Path.{refl, sym, _∙_}
 use native.Mathlib.Omega.{arith}
 use borrow.Author.Tests.{not-true, not-false}

@@ -1,4 +1,4 @@
--- `index_entries::count_in` tests the count against 0 and the most, and is it between them. Assumes nothing.
+-- `index_entries::count_in` tests the count against 0 and the capacity, and gives it between them. Assumes nothing.
 use native.Mathlib.Omega.{arith}
 use lib.ListN.{getD}
 use lib.IntN.{pos}

@@ -41,7 +41,7 @@ module _ (l : List ℤ) (k : Key) where
   none : (n i : ℕ) → n ≡ i → Others i → (n ≡ leading (λ e. not (isKeyed k e)) (entriesFrom n (drop 1 l))) × (n ≤ n)
   none n i e all = ends n n (omega arith) (λ j b. all j (omega arith)) (λ b. absurd (omega arith))
 
-  -- of the entries before number i so many are the owner's
+  -- how many of the entries before number i are the owner's
   record Owned (i w : ℕ) : Type 0 where
     few : w ≤ i
     same : w ≡ tally (isOwned (k .owner)) (entriesFrom i (drop 1 l))
@@ -54,7 +54,7 @@ module _ (l : List ℤ) (k : Key) where
   unfolding entriesFrom tally
   none-owned = record { few = omega arith; same = refl }
 
-  -- one entry more, as it is counted
+  -- the next entry, as it is counted
   abbrev CountsIfOwned : ℕ → ℕ → Entry → Type 0
   CountsIfOwned w r e = (r ≡ cond (isOwned (k .owner) e) (w + 1) w) × (r ≤ w + 1)
 

@@ -1,4 +1,4 @@
--- `streams::read_all` meets its contract and ends: each read gives at least one byte more, and at most what is left of `to`. Assumes nothing.
+-- `streams::read_all` meets its contract and ends: each read gives at least one byte, and at most what is left of `to`. Assumes nothing.
 use Prim.Native.Nat.{_-_, _≤_}
 use native.Mathlib.Omega.{arith}
 use borrow.Author.Needs.{needs}

@@ -1,4 +1,4 @@
--- `htm::from_c::htm_cover` checks that the counts have room, and covers. Assumes nothing.
+-- `htm::from_c::htm_cover` checks that there is room for the counts, and covers. Assumes nothing.
 use native.Mathlib.Omega.{arith}
 use mathlib.Core.Path.{sym, ap, _∙_}
 use denote.Ref.{now}

@@ -1,4 +1,4 @@
--- `htm::from_c::htm_read` checks that the header has room, and reads. Assumes nothing.
+-- `htm::from_c::htm_read` checks that there is room for the header, and reads. Assumes nothing.
 use native.Mathlib.Omega.{arith}
 use mathlib.Core.Path.{sym, ap, _∙_}
 use denote.Ref.{now}

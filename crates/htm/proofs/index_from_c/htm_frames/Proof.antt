@@ -1,4 +1,4 @@
--- `htm::index_from_c::htm_frames` checks that the counts have room, and delivers. Assumes nothing.
+-- `htm::index_from_c::htm_frames` checks that there is room for the counts, and delivers. Assumes nothing.
 use native.Mathlib.Omega.{arith}
 use mathlib.Core.Path.{sym, ap, _∙_}
 use borrow.Author.Needs.{needs}

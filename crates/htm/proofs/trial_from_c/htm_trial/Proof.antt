@@ -1,4 +1,4 @@
--- `htm::trial_from_c::htm_trial` checks that the result has room, and tries. Assumes nothing.
+-- `htm::trial_from_c::htm_trial` checks that there is room for the result, and tries. Assumes nothing.
 use native.Mathlib.Omega.{arith}
 use mathlib.Core.Path.{_≡_, sym, ap, _∙_}
 use borrow.Author.Needs.{needs}
