@@ -3,6 +3,9 @@
 use crate::CoverOf;
 use answer::SPACE;
 use covering::COVER_COUNTS;
+use htm_abi::CONTENTS_LENGTH;
+use htm_abi::CORNERS_LENGTH;
+use htm_abi::HEADER_LENGTH;
 use limits::HALFSPACES;
 use mesh::CornersOf;
 use mount::Double;
@@ -97,7 +100,7 @@ pub extern "C" fn htm_corners(id: u64, out: &mut [i32]) -> i64
     let answer = crate::corners(id);
     match answer {
         CornersOf::Gives(c) => {
-            if out.len() < 9 {
+            if out.len() < CORNERS_LENGTH {
                 return htm_abi::minus(SPACE);
             }
             htm_abi::put_corners(out, c);
@@ -163,7 +166,7 @@ pub extern "C" fn htm_read(file: &[u8], rows: &mut [i32], header: &mut [u64]) ->
     ensures { λ r. ⌜ now (rows .exit) ≡ rowsAfterC (now (file .entry)) (now (rows .entry)) (now (header .entry)) ⌝ }
     ensures { λ r. ⌜ now (header .exit) ≡ headerAfterC (now (file .entry)) (now (rows .entry)) (now (header .entry)) ⌝ }
 {
-    if header.len() < 3 {
+    if header.len() < HEADER_LENGTH {
         return htm_abi::file_refusal_or_space(file);
     }
     let answer = crate::read(file, rows);
@@ -187,7 +190,7 @@ pub extern "C" fn htm_header(file: &[u8], header: &mut [u64]) -> i64
     let said = region_reader::decode(file, &mut rows);
     match said {
         HeaderOf::Gives(h) => {
-            if header.len() < 4 {
+            if header.len() < CONTENTS_LENGTH {
                 return htm_abi::minus(SPACE);
             }
             let convexes = region_reader::convexes_in(&rows, h.count as usize);

@@ -10,7 +10,7 @@ ghost use Rattle.htm_abi.specs.TrialValues.{settingOf};
 ghost use Rattle.htm.specs.TrialFromC.{TrialCallC, chosenForC, chosenAfterC};
 
 // How many numbers give a part: which buffer, and how many elements of it.
-const PART: usize = 2;
+const PART_LENGTH: usize = 2;
 
 // A trial: the two lists of each setting in its buffer, and eleven numbers at the beginning of `numbers`: unchecked, held, discarded, outer and inner count of
 // each setting, and the choice, 1 or 2. 0, or minus the number of the refusal, 10 also where `numbers` has fewer elements.
@@ -68,7 +68,7 @@ pub extern "C" fn htm_chosen<'a>(
     if numbers.len() < TRIAL_COUNTS {
         return htm_abi::minus(SPACE);
     }
-    if part.len() < PART {
+    if part.len() < PART_LENGTH {
         return htm_abi::minus(SPACE);
     }
     if status != 0 {

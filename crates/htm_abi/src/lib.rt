@@ -33,6 +33,15 @@ ghost use Rattle.htm_abi.specs.ShortLists.{fileRefusalOrSpace};
 
 pub mod trials;
 
+// How many numbers three corners are.
+pub const CORNERS_LENGTH: usize = 9;
+
+// How many numbers a header is: count, depth and budget.
+pub const HEADER_LENGTH: usize = 3;
+
+// How many numbers give what a file says without its rows: a header, and the count of convexes.
+pub const CONTENTS_LENGTH: usize = HEADER_LENGTH + 1;
+
 // Three components, as a vector.
 pub fn pointing(x: i32, y: i32, z: i32) -> Vec3
     ensures { λ r. ⌜ r ≡ vec x y z ⌝ }

@@ -10,8 +10,8 @@ ghost use Rattle.answer.specs.Answer.{gives};
 ghost use Rattle.region.specs.Reader.{File, Accepted};
 ghost use Rattle.region.specs.Answers.{headerGiven};
 
-// Two lists of pairs, each within the largest budget.
-const ELEMENTS: usize = 4 * MAX_BUDGET as usize;
+// The elements of two lists of pairs, each within the largest budget.
+pub const RANGES_LENGTH: usize = 4 * MAX_BUDGET as usize;
 
 // What is printed of a range: a byte that parts it from what is before, a letter and its first and last name; or `|` and its first and last identifier.
 pub enum RangeShape {
@@ -21,7 +21,7 @@ pub enum RangeShape {
 
 // The lines of the cover of a file, with the byte `part` between them; or its refusal.
 pub fn lines(out: &mut Buffer, at: usize, file: &[u8], part: u8) -> usize {
-    let mut lists = [0u64; ELEMENTS];
+    let mut lists = [0u64; RANGES_LENGTH];
     match htm::cover(file, &mut lists) {
         CoverOf::Gives(counts) => accepted(out, at, file, counts, &lists, part),
         CoverOf::Refused(n) => crate::refused(out, at, n),
@@ -34,7 +34,7 @@ fn accepted(
     at: usize,
     file: &[u8],
     counts: Counts,
-    lists: &[u64; ELEMENTS],
+    lists: &[u64; RANGES_LENGTH],
     part: u8,
 ) -> usize {
     match header_of(file) {
@@ -56,7 +56,7 @@ fn covered(
     at: usize,
     header: Header,
     counts: Counts,
-    lists: &[u64; ELEMENTS],
+    lists: &[u64; RANGES_LENGTH],
     part: u8,
 ) -> usize {
     let end = first_line(out, at, header.depth, counts);
@@ -88,7 +88,7 @@ fn labelled(out: &mut Buffer, at: usize, label: &[u8], n: u64) -> usize {
 
 // The element of the lent list at which the inner list begins: twice the budget.
 fn inner_start(budget: u32) -> usize {
-    crate::least(limits::budget_of(budget) as u64 * 2, ELEMENTS)
+    crate::least(limits::budget_of(budget) as u64 * 2, RANGES_LENGTH)
 }
 
 // The pairs of `count` ranges, from element `from` on.
