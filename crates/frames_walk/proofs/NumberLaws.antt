@@ -18,15 +18,15 @@ none-below (pos n) h e = absurd (omega (arith, ltb-true n 0 (sym (same-less (pos
 none-below (negsuc n) h e = refl
 
 -- the cast to a number without a sign, and what it gives
-pub record Natural (z y : ℤ) : Type 0 where
+pub record NaturalCast (z y : ℤ) : Type 0 where
   pub sign : T (nonNeg z)
   pub fits : Fits w64 (natAbs z)
   pub same : natAbs z ≡ natural y
   pub small : natAbs z < 2 ^ 63
 
-not-below′ : (z : ℤ) → mag z < 2 ^ 63 → ltZ z (pos 0) ≡ false → Natural z z
+not-below′ : (z : ℤ) → mag z < 2 ^ 63 → ltZ z (pos 0) ≡ false → NaturalCast z z
 not-below′ (pos n) h e = record { sign = tt; fits = record { fits = omega arith }; same = refl; small = omega arith }
 not-below′ (negsuc n) h e = absurd (true≢false e)
 
-pub not-below : (z : ℤ) → mag z < 2 ^ 63 → ltZ (toZ w64 (ofZ w64 z)) (pos 0) ≡ false → Natural (toZ w64 (ofZ w64 z)) z
-not-below z h e = subst (λ x. Natural x z) (sym (stored-same z h)) (not-below′ z h (sym (same-less z (pos 0) h (omega arith)) ∙ e))
+pub not-below : (z : ℤ) → mag z < 2 ^ 63 → ltZ (toZ w64 (ofZ w64 z)) (pos 0) ≡ false → NaturalCast (toZ w64 (ofZ w64 z)) z
+not-below z h e = subst (λ x. NaturalCast x z) (sym (stored-same z h)) (not-below′ z h (sym (same-less z (pos 0) h (omega arith)) ∙ e))

@@ -13,17 +13,17 @@ ghost use Rattle.region.specs.Answers.{headerGiven};
 // The elements of two lists of pairs, each within the largest budget.
 pub const RANGES_LENGTH: usize = 4 * MAX_BUDGET as usize;
 
-// What is printed of a range: a byte that parts it from what is before, a letter and its first and last name; or `|` and its first and last identifier.
+// What is printed of a range: a separator, a letter and its first and last name; or `|` and its first and last identifier.
 pub enum RangeShape {
-    Names { part: u8, letter: u8 },
+    Names { separator: u8, letter: u8 },
     Identifiers,
 }
 
-// The lines of the cover of a file, with the byte `part` between them; or its refusal.
-pub fn lines(out: &mut Buffer, at: usize, file: &[u8], part: u8) -> usize {
+// The lines of the cover of a file, with the byte `separator` between them; or its refusal.
+pub fn lines(out: &mut Buffer, at: usize, file: &[u8], separator: u8) -> usize {
     let mut lists = [0u64; RANGES_LENGTH];
     match htm::cover(file, &mut lists) {
-        CoverOf::Gives(counts) => accepted(out, at, file, counts, &lists, part),
+        CoverOf::Gives(counts) => accepted(out, at, file, counts, &lists, separator),
         CoverOf::Refused(n) => crate::refused(out, at, n),
     }
 }
@@ -35,10 +35,10 @@ fn accepted(
     file: &[u8],
     counts: Counts,
     lists: &[u64; RANGES_LENGTH],
-    part: u8,
+    separator: u8,
 ) -> usize {
     match header_of(file) {
-        HeaderOf::Gives(header) => covered(out, at, header, counts, lists, part),
+        HeaderOf::Gives(header) => covered(out, at, header, counts, lists, separator),
         HeaderOf::Refused(n) => crate::refused(out, at, n),
     }
 }
@@ -57,17 +57,17 @@ fn covered(
     header: Header,
     counts: Counts,
     lists: &[u64; RANGES_LENGTH],
-    part: u8,
+    separator: u8,
 ) -> usize {
     let end = first_line(out, at, header.depth, counts);
     let inner = pairs(lists, inner_start(header.budget), counts.inner);
     let end = ranges(
         out,
         end,
-        RangeShape::Names { part, letter: b'o' },
+        RangeShape::Names { separator, letter: b'o' },
         pairs(lists, 0, counts.outer),
     );
-    let end = ranges(out, end, RangeShape::Names { part, letter: b'i' }, inner);
+    let end = ranges(out, end, RangeShape::Names { separator, letter: b'i' }, inner);
     crate::byte(out, end, b'\n')
 }
 
@@ -111,13 +111,13 @@ pub fn ranges(out: &mut Buffer, at: usize, shape: RangeShape, pairs: &[u64]) -> 
 
 fn range(out: &mut Buffer, at: usize, shape: RangeShape, low: u64, high: u64) -> usize {
     match shape {
-        RangeShape::Names { part, letter } => names(out, at, part, letter, low, high),
+        RangeShape::Names { separator, letter } => names(out, at, separator, letter, low, high),
         RangeShape::Identifiers => identifiers(out, at, low, high),
     }
 }
 
-fn names(out: &mut Buffer, at: usize, part: u8, letter: u8, low: u64, high: u64) -> usize {
-    let end = crate::byte(out, at, part);
+fn names(out: &mut Buffer, at: usize, separator: u8, letter: u8, low: u64, high: u64) -> usize {
+    let end = crate::byte(out, at, separator);
     let end = crate::byte(out, end, letter);
     let end = crate::byte(out, end, b' ');
     let end = crate::name(out, end, low);
