@@ -1,6 +1,6 @@
 -- The walk: one owner's entries and the two lists of a cover, side by side. Document 02, F-12: entries in an inner range are delivered unchecked, entries that
--- are only in an outer range go through the point test, and the others are skipped. What is said here holds of every list of entries, in order or not, and of
--- any two lists of ranges; that in an index every entry finds the ranges that its identifier is in: htm/specs/Frames.
+-- are only in an outer range go through the point test, and the others are skipped. The definitions are for every list of entries, in order or not, and
+-- for any two lists of ranges; that in an index every entry finds the ranges that its identifier is in: htm/specs/Frames.
 --   natural z          the number z; 0 where it is below 0, as in no entry of an index
 --   shortened d e      the identifier of the entry e, shortened to the depth d: divided by 4^(12 − d)
 --   numberOf e         the number of the entry e; 0 where it has more than 32 bits, as in no entry of an index

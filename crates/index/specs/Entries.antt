@@ -1,6 +1,6 @@
 -- The entries of an index, and how they stand in a lent list. Document 02, F-10: ordered by depth-12 identifier and then number; F-11: entries alike in both
--- stand with owner 0 first. In the list, element 0 is the count, and then come the entries, six numbers each: identifier, number, owner, x, y, z. What is
--- said here is said of every list, index or not.
+-- stand with owner 0 first. In the list, element 0 is the count, and then come the entries, six numbers each: identifier, number, owner, x, y, z. The definitions
+-- are for every list, index or not.
 --   entryOf x         the entry of an exposure
 --   below y z t       y is below z or, where they are equal, t: one part of an order, and what the parts after it say
 --   precedes a b      the order of the entries; byNumber a b: of those with one identifier
@@ -10,7 +10,7 @@
 --   IndexLength       the fewest elements of a list that is lent for an index
 --   entryAt l k       the entry whose numbers begin at element k of the list l
 --   entriesFrom n l   the first n entries of a list l without count
---   countIn l         the count that the list l says: none where it is below 0, and no more than IndexCapacity
+--   countIn l         the count in element 0 of the list l: 0 where that is below 0, and at most IndexCapacity
 --   entriesIn l       the entries in the list l
 --   written es l      the list l without count with the entries es at its front; the other elements stay
 --   withEntries es l  the list l with the entries es in the place of its own

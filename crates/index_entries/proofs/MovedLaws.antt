@@ -55,7 +55,7 @@ more′ (suc i) q (suc n) e l s h =
     ∙ append-assoc f (take (Width * i) m) (numbers e ++ (take (Width * q) (drop (Width * i) m) ++ drop (Width * suc n) m))
     ∙ ap (λ x. f ++ x) (more′ i q n e m (omega arith) (omega (arith, length-drop Width l)))
 
--- the same in an index of n entries, whose count stands before them
+-- as above, in an index of n entries, whose count stands before them
 pub one-more : (n i m : ℕ) (e : Entry) (l : List ℤ) (v : ℤ) → i ≤ n → m ≡ Width * (n - i) → 1 + Width + Width * n ≤ length l
     → set (put (1 + Width * i) (numbers e) (raised (1 + Width * i) l m)) 0 v ≡ v ∷ written (take i (entriesFrom n (drop 1 l)) ++ e ∷ drop i (entriesFrom n (drop 1 l))) (drop 1 l)
 one-more n i m e [] v h s f = absurd (omega arith)

@@ -14,7 +14,7 @@ const DOUBLE_INFINITY: u64 = 2047 << 52;
 
 const DOUBLE_SIGN: u64 = 1 << 63;
 
-// The same in single precision.
+// As above, in single precision.
 const SINGLE_INFINITY: u32 = 255 << 23;
 
 const SINGLE_SIGN: u32 = 1 << 31;

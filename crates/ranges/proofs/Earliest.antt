@@ -107,7 +107,7 @@ earliest-snoc (x ∷ l) g =
     at : {m : ℕ} → min (smallest (x ∷ l)) g ≡ m → earliest (x ∷ l ++ g ∷ []) ≡ place m (x ∷ l ++ g ∷ [])
     at e = ap (λ m. place m (x ∷ l ++ g ∷ [])) (smallest-snoc x l g ∙ e)
 
--- ---- the same from the end
+-- ---- the smallest, number by number from the end
 
 pub smallest-one : (x : ℕ) → smallest (x ∷ []) ≡ x
 unfolding smallest

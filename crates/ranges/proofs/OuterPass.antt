@@ -163,7 +163,7 @@ joinSmallest-snoc (a ∷ xs) r h =
     off : Nearest (a ∷ xs) r ≡ false → joinAt (earliest (gaps (a ∷ xs))) (a ∷ xs ++ r ∷ []) ≡ joinSmallest (a ∷ xs) ++ r ∷ []
     off t = unfold joinSmallest in joinAt-snoc (earliest (gaps (a ∷ xs))) a xs r (inside a xs (nearest-alone a xs r t))
 
--- the same by the place of the smallest gap, where it is not the new one
+-- as above, by the place of the smallest gap, where it is not the new one
 pub full-join : (xs : List Range) (r : Range) (i : ℕ) → i ≡ earliest (gaps xs ++ newGap xs r ∷ []) → i + 1 < length xs → outerFull xs r ≡ joinAt i xs ++ r ∷ []
 full-join [] r i e h = absurd (omega arith)
 full-join (a ∷ xs) r i e h =
