@@ -1,8 +1,8 @@
 // Lines of a catalogue, each looked up as it ends, and the argument of the program.
 use command_words::NaturalAt;
 use command_words::lines;
-use command_words::lines::NextLine;
 use command_words::lines::LINES;
+use command_words::lines::NextLine;
 use print::Buffer;
 ghost use Rattle.catalogue_stream.specs.Argument.{DepthInRange};
 

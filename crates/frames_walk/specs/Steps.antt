@@ -7,7 +7,7 @@
 --   left o m es        of the entries es those that a walk still visits: the owner's, up to an owner's capacity, after m of them
 --   Walking ..         a walk of the steps `all` has made some of them, `es` are left, and `after` is the list `before` with the numbers delivered so far
 --   Walks ..           the whole walk
---   VisitsEntry ..     whatever was visited before: a walk that had the entry e before it has it behind it; VisitsIfOwned ..: as above, for an entry of any owner
+--   VisitsEntry ..     whatever was visited before: a walk that had the entry e before it has it behind it; VisitsIfOwned ..: as above, for any owner's entry
 use Prim.Native.Nat.{ℕ, _+_, _-_, _*_, _^_, _≤_, _<_}
 use mathlib.Core.Path.{_≡_}
 use mathlib.Core.List.{List, _∷_, _++_}

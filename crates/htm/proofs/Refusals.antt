@@ -1,5 +1,5 @@
--- Number 10 comes last, and a refusal changes no lent element: an answer with the check of a list's length is the answer's refusal where it has one, and what is stored
--- for a refusal is the list as it was. Assumes nothing.
+-- Number 10 comes last, and a refusal changes no lent element: an answer with the check of a list's length is the answer's refusal where it has one, and
+-- what is stored for a refusal is the list as it was. Assumes nothing.
 use Prim.Native.Nat.{ℕ, _*_}
 use mathlib.Core.Path.{_≡_, refl, ap, _∙_}
 use mathlib.Core.Bool.{Bool, true, false}

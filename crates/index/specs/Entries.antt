@@ -1,6 +1,6 @@
 -- The entries of an index, and how they stand in a lent list. Document 02, F-10: ordered by depth-12 identifier and then number; F-11: entries alike in both
--- stand with owner 0 first. In the list, element 0 is the count, and then come the entries, six numbers each: identifier, number, owner, x, y, z. The definitions
--- are for every list, index or not.
+-- stand with owner 0 first. In the list, element 0 is the count, and then come the entries, six numbers each: identifier, number, owner, x, y, z. The
+-- definitions are for every list, index or not.
 --   entryOf x         the entry of an exposure
 --   below y z t       y is below z or, where they are equal, t: one part of an order, and what the parts after it say
 --   precedes a b      the order of the entries; byNumber a b: of those with one identifier

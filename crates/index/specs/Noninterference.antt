@@ -1,5 +1,5 @@
--- The two owners do not interfere. Document 02, F-11: any two histories from an empty index with the same calls by one owner in the same order give that owner the
--- same answers, full included, however the other's calls differ. Calls of no owner may stand between them.
+-- The two owners do not interfere. Document 02, F-11: any two histories from an empty index with the same calls by one owner in the same order give that owner
+-- the same answers, full included, however the other's calls differ. Calls of no owner may stand between them.
 --   ownerOf c         the owner that the call c names, 0 or 1 or no owner
 --   callsOf o h       the calls of the history h that name the owner o
 --   answersTo o h rs  of the answers rs to the history h those to the calls that name the owner o

@@ -64,10 +64,21 @@ fn covered(
     let end = ranges(
         out,
         end,
-        RangeShape::Names { separator, letter: b'o' },
+        RangeShape::Names {
+            separator,
+            letter: b'o',
+        },
         pairs(lists, 0, counts.outer),
     );
-    let end = ranges(out, end, RangeShape::Names { separator, letter: b'i' }, inner);
+    let end = ranges(
+        out,
+        end,
+        RangeShape::Names {
+            separator,
+            letter: b'i',
+        },
+        inner,
+    );
     crate::byte(out, end, b'\n')
 }
 

@@ -1,7 +1,7 @@
 -- The outer list is the tightest for its budget: no list of at most as many ranges that contains the accepted ones contains fewer identifiers. It swallows
 -- one gap for each range beyond the budget, a smallest one each time, and a join leaves the other gaps as they were, so no other gaps, as many, have less
--- (Cheapest of algebra); and any other list contains at least as many gaps whole (OtherLists). Which of two equal gaps is joined over changes the list, not its size: of the
--- gap only that none is smaller is used. Assumes nothing.
+-- (Cheapest of algebra); and any other list contains at least as many gaps whole (OtherLists). Which of two equal gaps is joined over changes the list, not
+-- its size: of the gap only that none is smaller is used. Assumes nothing.
 use Prim.Native.Nat.{ℕ, suc, _+_, _-_, _≤_, _<_}
 use mathlib.Core.Path.{_≡_, refl, sym, ap, subst, _∙_}
 use mathlib.Core.Bool.{true, false, true≢false}
