@@ -40,7 +40,7 @@ static void halfspace(Bytes &f, Point n, double offset)
 }
 static void end(Bytes &f) { literal::put16(f, 4); literal::put16(f, 4); }
 
-// A convex of great circles around a middle, each so many degrees away from it.
+// A convex of great circles around a middle, each some degrees away from it.
 static void polygon(Bytes &f, Point middle, double degrees, int sides)
 {
     Point u = unit(cross(middle, {0.1, 0.9, 0.3})), w = cross(middle, u);
@@ -91,7 +91,7 @@ static Bytes bands(int count, unsigned budget)
     end(f);
     return f;
 }
-// Hemispheres whose borders lie close together, a hundred in a convex: near the border all of them are open.
+// Hemispheres whose borders lie close together, a hundred in a convex: near the border all of them are active.
 static Bytes hemispheres(int count, unsigned budget)
 {
     Bytes f;
@@ -284,7 +284,7 @@ static bool index_rows(const std::vector<int32_t> &p)
 
 // ---- frames
 
-// So many pointings up to so many degrees away from the middle of the caps.
+// Pointings up to some degrees away from the middle of the caps.
 static std::vector<int32_t> points_around(size_t n, double degrees)
 {
     std::mt19937_64 random(20261117);

@@ -407,7 +407,7 @@ def other_shapes():
 
 
 def odd_numbers():
-    """Numbers in an unusual dress that are taken: leading zeros, −0, the ends of each type."""
+    """Numbers in unusual forms that are taken: leading zeros, −0, the ends of each type."""
     yield from (b'lookup -0 -0 1048576 2', b'lookup 00 -000 0001048576 02', b'lookup 0 0 -01048576 012', b'lookup -00001048576 0 0 0000000000000000012')
     yield from (line('lookup', w, 0, 0, 1) for w in (b'2147483647', b'-2147483648', b'0' * 40, b'-' + b'0' * 40, b'0' * 40 + b'1048576', b'-' + b'0' * 300 + b'1048576'))
     yield from (line('lookup', 0, 0, K, w) for w in (b'0', b'00', b'4294967295', b'0' * 60 + b'12', b'0' * 60 + b'4294967295'))

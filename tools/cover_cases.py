@@ -9,7 +9,7 @@ from region_cases import END, GOOD, file_of
 AXES = [tuple(s * K if k == m else 0 for k in range(3)) for m in range(3) for s in (1, -1)]
 NORTH, SOUTH = (0, 0, K), (0, 0, -K)
 K2, K3 = 741455, 605396                             # components of the middle of an arc and of an octant
-DEGREE = {1: 1048416, 5: 1044586, 30: 908093, 60: K // 2}   # offsets of caps of so many degrees: K times the cosine
+DEGREE = {1: 1048416, 5: 1044586, 30: 908093, 60: K // 2}   # offsets of caps by their degrees: K times the cosine
 
 
 # ---- the answer of a line
@@ -47,7 +47,7 @@ class Sky:
         self.draws, self.direction, self.into_rule = draws, direction, into_rule
 
     def near(self, p, spread):
-        """A vector near p: each component moved by up to so much."""
+        """A vector near p: each component moved a little."""
         return self.into_rule(htm.unit(tuple(c + self.draws.between(-spread, spread) for c in p)))
 
     def trixel(self, depth):
@@ -259,7 +259,7 @@ def damaged(sky):
 
 
 def shapes(sky):
-    """Lines of another shape, and digits of either case."""
+    """Malformed lines, and digits of either case."""
     good = b''.join([regions.header(2, 5), *GOOD[1:]]).hex().encode()
     yield from (b'cover', b'cover ', b'cover  ' + good, b' cover ' + good, b'Cover ' + good, b'covers ' + good, b'cover ' + good.upper(), b'cover\t' + good)
     yield from (b'cover ' + w for w in (b'-', b'--', b'- -', b'-0', b'0', b'00', b'0g', b'zz', b'0x00', b'00 00', good + b'0', good + b' ', good + b' ' + good))

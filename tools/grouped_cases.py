@@ -114,7 +114,7 @@ def mixed():
 
 
 def group_lengths():
-    """Kind 5 of the lengths around those of 1 and of 100 halfspaces, with so many good halfspaces as fit."""
+    """Kind 5 of the lengths around those of 1 and of 100 halfspaces, with as many good halfspaces as fit."""
     short = 4, 5, 6, 7, 8, 12, 16, 18, 19, 20, 21, 22, 24, 28, 32, 34, 35, 36, 37, 52
     long = 1588, 1603, 1604, 1605, 1606, 1619, 1620, 1621, 1636, 8196
     for n, kind in [(n, 5) for n in short + long] + [(n, 261) for n in short]:

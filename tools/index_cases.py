@@ -9,7 +9,7 @@ from grouped_cases import grouped
 from htm import K, Refused
 from region_cases import file_of
 
-SHARE = 1024                                        # the most of one owner
+OWNER_CAPACITY = 1024                               # the most exposures of one owner
 LAST = 2**32 - 1                                    # the greatest number
 LINE = regions.LINE
 POLES = ((0, 0, K), (0, 0, -K), (K, 0, 0), (-K, 0, 0), (0, K, 0), (0, -K, 0))
@@ -117,7 +117,7 @@ def equal_identifiers():
 
 
 def shapes():
-    """Lines of another shape, which change nothing, and numbers in an unusual dress."""
+    """Malformed lines, which change nothing, and numbers in unusual forms."""
     yield add(0, 40, POLES[0])
     good = add(1, 41, POLES[0]), remove(0, 40), b'list', b'list 0'
     yield from (b'', b' ', b'add', b'remove', b'lists', b'List', b'LIST', b'list list', b'list 0 1', b'list 0 40', b'list -0', b'list -1', b'list 4294967296', b'list x',
@@ -135,13 +135,13 @@ def shapes():
 
 
 def filled(draws, direction):
-    """A full share of each owner, one after the other: the other owner still has its places; owner before vector before twice before full; a withdrawn
+    """Each owner full, one after the other: the other owner still has its places; owner before vector before twice before full; a withdrawn
     place serves again, at the first, a middle and the last place, and its owner only."""
     index = htm.Index()
     p = direction()
     for owner in (1, 0):
-        numbers = [7 * k + 1 for k in range(SHARE)]
-        for k in range(SHARE - 1, 0, -1):
+        numbers = [7 * k + 1 for k in range(OWNER_CAPACITY)]
+        for k in range(OWNER_CAPACITY - 1, 0, -1):
             j = draws.below(k + 1)
             numbers[k], numbers[j] = numbers[j], numbers[k]
         for n in numbers:
@@ -153,7 +153,7 @@ def filled(draws, direction):
             yield from (add(o, 0, p), add(o, LAST, p), remove(o, 0), remove(o, LAST), add(o, 1, p), add(o, 0, BAD), add(o, 1, BAD), add(o + 2, 0, BAD))
             if o != owner and owner == 1:
                 yield from (remove(0, 0), remove(0, LAST), remove(0, 1))
-    for place in (0, SHARE // 2, SHARE - 1):
+    for place in (0, OWNER_CAPACITY // 2, OWNER_CAPACITY - 1):
         for o in (0, 1):
             n, q = index.entries((o,))[place][1], direction()
             index.remove(o, n)
@@ -169,7 +169,7 @@ def filled(draws, direction):
 
 
 def a_call(draws, point, numbers, adds, owner):
-    """A random call, as owner, number and the pointing of an add: of ten so many add; the numbers are below `numbers`."""
+    """A random call, as owner, number and the pointing of an add: of ten calls `adds` are adds; the numbers are below `numbers`."""
     return owner, draws.below(numbers), point() if draws.below(10) < adds else None
 
 
@@ -177,7 +177,7 @@ def line(call):
     return add(*call) if call[2] else remove(*call[:2])
 
 
-def told(index, call):
+def answered(index, call):
     """What the model answers: 0, or the refusal."""
     try:
         index.add(*call) if call[2] else index.remove(*call[:2])
@@ -192,7 +192,7 @@ def emptied(numbers):
 
 
 def history(draws, point, calls, numbers, adds, listed):
-    """A random history of both owners, and of none now and then; the index is listed after so many calls each, and emptied at the end."""
+    """A random history of both owners, and of none now and then; the index is listed after every `listed` calls, and emptied at the end."""
     for k in range(1, calls + 1):
         yield line(a_call(draws, point, numbers, adds, 2 if draws.below(50) == 0 else draws.below(2)))
         if k % listed == 0:
@@ -208,7 +208,7 @@ def apart(draws, point, calls, numbers):
         for c in own:
             among += [a_call(draws, point, numbers, 5, draws.pick((1 - owner, 1 - owner, 2))) for _ in range(draws.below(4))] + [c]
         alone, both = htm.Index(), htm.Index()
-        assert [told(alone, c) for c in own] == [t for c, t in [(c, told(both, c)) for c in among] if c[0] == owner]
+        assert [answered(alone, c) for c in own] == [t for c, t in [(c, answered(both, c)) for c in among] if c[0] == owner]
         assert alone.entries((owner,)) == both.entries((owner,))
         for history in (own, among):
             yield from map(line, history)
@@ -370,7 +370,7 @@ def refused_frames(sky):
 
 
 def frames_shapes():
-    """Lines of another shape, and digits and numbers in an unusual dress."""
+    """Malformed lines, and digits and numbers in unusual forms."""
     good = file_of(cap(NORTH, 0), 2, 5).hex().encode()
     shapes = [b'frames', b'frames ', b'frames 0', b'frames 0 ', b'frames ' + good, b'frames 0 0', b'frames 0 0g', b'frames 0 --', b'frames 0 -0', b'frames 0 0x00', b'frames 0 - -',
               b'frames  0 ' + good, b'frames 0  ' + good, b' frames 0 ' + good, b'frames 0 ' + good + b' ', b'frames 0 ' + good + b'0', b'frames 0 ' + good + b' 0',
@@ -388,8 +388,8 @@ def full_frames(sky):
     square = sky.polygon(n, 4, 300)
     some = [(cap(n, DEGREE[30]), 6), ([square], 7), ([square + [turned((n, DEGREE[5]))]], 8), (cap(n, DEGREE[1]), 12), ([[(n, DEGREE[30])], [(m, DEGREE[30])]], 5),
             (cap(n, -DEGREE[60]), 4), ([[(n, DEGREE[5])], [(htm.neg(n), DEGREE[5])]], 7)]
-    border = [near_border(sky, sky.draws.pick(some)[0]) for _ in range(SHARE)]
-    anywhere = [sky.direction() for _ in range(SHARE)]
+    border = [near_border(sky, sky.draws.pick(some)[0]) for _ in range(OWNER_CAPACITY)]
+    anywhere = [sky.direction() for _ in range(OWNER_CAPACITY)]
     asked = [l for region, depth in some for budget in (64, 1) for l in of_both(region, depth, budget)]
     all_or_none = of_both(EVERYTHING, 12, 1) + of_both(NOTHING, 1, 0) + of_both([[(NORTH, 0), (SOUTH, 0)]], 1, 1)
     both = [*asked, *all_or_none, remove(1, 4001), *asked[1:4], add(1, 4001, border[0]), asked[1]]
@@ -444,7 +444,7 @@ def both_ways(*pairs):
 
 
 def around(sky, region, some, others):
-    """Pointings of both owners: so many about the region's borders, so many about the middle of its first halfspace, and as many anywhere."""
+    """Pointings of both owners: `some` about the region's borders, `others` about the middle of its first halfspace, and as many anywhere."""
     n, d = region[0][0]
     within = [sky.near(n, isqrt(K * K - d * d) // 2) for _ in range(2 * others)]
     return {o: [near_border(sky, region) for _ in range(some)] + within[o::2] + [sky.direction() for _ in range(others)] for o in (0, 1)}
@@ -544,7 +544,7 @@ def refused_trials(sky):
 
 
 def trial_shapes():
-    """Lines of another shape, and digits and numbers in an unusual dress."""
+    """Malformed lines, and digits and numbers in unusual forms."""
     good = digits(file_of(cap(NORTH, 0), 2, 5))
     start, end = b'trial 0 ' + good, b' 2 5 3 1'
     shapes = [b'trial', b'trial ', b'trial 0', b'trial ' + good, start, start + b' ', start + b' 2', start + b' 2 5', start + b' 2 5 3', start + b' 2 5 3 ']
@@ -585,7 +585,7 @@ def full_trials(sky):
     m = sky.near(n, 300000)
     square = sky.polygon(n, 4, 300)
     some = cap(n, DEGREE[30]), [square], [square + [turned((n, DEGREE[5]))]], [[(n, DEGREE[30])], [(m, DEGREE[30])]], cap(n, -DEGREE[60])
-    owners = {o: [near_border(sky, sky.draws.pick(some)) for _ in range(count)] for o, count in ((1, SHARE), (0, 40))}
+    owners = {o: [near_border(sky, sky.draws.pick(some)) for _ in range(count)] for o, count in ((1, OWNER_CAPACITY), (0, 40))}
     pairs = ((4, 5), (7, 64)), ((6, 64), (6, 4)), ((5, 2048), (3, 0))
     everything = [trial(o, file_of(EVERYTHING, 7), (12, 1), (1, 5)) for o in (0, 1)]
     yield from among(owners, [l for region in some for l in tried(sky, region, *pairs)] + everything)

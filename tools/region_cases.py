@@ -7,7 +7,7 @@ import htm
 from htm import K
 
 LINE = 65536                                        # the longest line, without its line feed
-DIGITS = 2 * 10509                                  # so many digits of a file count: it is too long then, whatever follows
+DIGITS = 2 * 10509                                  # how many digits of a file count: it is too long then, whatever follows
 BASE = ((K, 0, 0), (3, -K, 7), (-699845, 499889, 599867), (0, 0, -K))
 CONVEX, END = pack('<HH', 4, 2), pack('<HH', 4, 4)
 
@@ -62,7 +62,7 @@ def file_of(convexes, depth=9, budget=64):
 
 
 def spread(count, convexes):
-    """A region of so many halfspaces, as evenly as may be in so many convexes."""
+    """A region of `count` halfspaces, as evenly as may be in `convexes` convexes."""
     return [[(BASE[(i + k) % 4], 1000 * k - i) for k in range((count + i) // convexes)] for i in range(convexes)]
 
 
@@ -235,12 +235,12 @@ def region_shapes():
 
 
 def digits(count):
-    """So many digits, 16 different ones in turn."""
+    """`count` digits, 16 different ones in turn."""
     return (b'0123456789abcdef' * (count // 16 + 1))[:count]
 
 
 def spoilt(count, *places):
-    """So many digits, and at these places another byte."""
+    """`count` digits, and at these places another byte."""
     word = bytearray(digits(count))
     for n, place in enumerate(places):
         word[place] = b'gG/:-@'[n]
@@ -261,6 +261,6 @@ def long_files():
 
 
 def long_lines_of_files():
-    """The longest line whose file counts in part, and one byte more: numbers in an unusual dress behind the file."""
+    """The longest line whose file counts in part, and one that is a byte longer: numbers in unusual forms behind the file."""
     for n in (0, 1):
         yield b'holds ' + digits(DIGITS + 2) + b' 0 0 ' + b'0' * (LINE - DIGITS - 6 - 5 - 7 + n) + b'1048576'

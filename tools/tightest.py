@@ -22,7 +22,7 @@ def bits(ranges):
 
 
 def contents(size, budget):
-    """What the lists of at most so many ranges contain, of identifiers 0 to size - 1: a set for every number of ranges."""
+    """What lists contain, of identifiers 0 to size - 1: a set for each number of ranges, from 0 to the budget."""
     every = (1 << size) - 1
     ends = range(-1, size + 1)
     ranges = {(bits([(low + 1, high + 1)]) >> 1) & every for low in ends for high in ends}
@@ -45,7 +45,7 @@ def by_steps(accepted, budget, choose=min, more=0):
 
 
 def latest(accepted, budget):
-    """The same with the latest among equal gaps: the list read backwards."""
+    """As above, with the latest among equal gaps: the list read backwards."""
     turned = [(-high, -low) for low, high in reversed(accepted)]
     return [(-high, -low) for low, high in reversed(by_steps(turned, budget))]
 

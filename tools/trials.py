@@ -13,7 +13,7 @@ from cases import Draws, direction, into_rule
 from cover_cases import DEGREE, Sky, cap, turned
 from grouped_cases import grouped
 from htm import K
-from index_cases import SHARE, add, trial
+from index_cases import OWNER_CAPACITY, add, trial
 
 SEED = 20261117
 MIDDLE = 377487, 503316, 838860                     # 0.36, 0.48, 0.8
@@ -25,7 +25,7 @@ PAIRS = {'cap, 5 degrees': [((6, 16), (9, 16)), ((9, 64), (12, 64))],
 
 def frames(draws):
     found = []
-    while len(found) < SHARE:
+    while len(found) < OWNER_CAPACITY:
         p = direction(draws)
         if htm.dot(MIDDLE, p) >= DEGREE[30] * K:
             found.append(p)

@@ -26,7 +26,7 @@ PG_MODULE_MAGIC;
 #define PARTS 16       /* ranges of a search whose region is known only when it runs */
 #define MOST_RANGES 32 /* ranges of a search whose region is known to the planner; README.md has what more of them cost */
 
-/* Of what an outer range holds, so much is in the region: about 0.9 at budget 64. */
+/* The share of what an outer range holds that is in the region: about 0.9 at budget 64. */
 #define CHECKED_SHARE 0.9
 /* What a planner takes a range of unknown ends to select. */
 #define WITHIN_SHARE 0.005
@@ -211,7 +211,7 @@ Datum pg_htm_within_degrees(PG_FUNCTION_ARGS)
     PG_RETURN_BOOL(answer);
 }
 
-/* Whether one of the ranges holds the identifier. They are pairs low, high and ascend; of an array of another shape the answer means nothing. */
+/* Whether one of the ranges holds the identifier. They are pairs low, high and ascend; for any other array the answer means nothing. */
 static bool in_ranges(ArrayType *ranges, int64 id)
 {
     const int64 *pairs = (const int64 *)ARR_DATA_PTR(ranges);
@@ -312,7 +312,7 @@ static int64 widest_gap(const struct pieces *p, const bool *chosen)
     return widest;
 }
 
-/* The ranges that hold all pieces, at most so many, from ranges[0] on: how many. The widest gaps stay between them. */
+/* The ranges that hold all pieces, at most `most`, from ranges[0] on: how many. The widest gaps stay between them. */
 static int join_pieces(const struct pieces *p, struct range *ranges, int most)
 {
     bool *chosen = palloc0(SKY_PIECES * sizeof *chosen);

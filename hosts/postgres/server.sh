@@ -78,7 +78,7 @@ prepare() {
     export PGHOST=$room PGUSER=archive PGDATABASE=archive
 }
 
-# Port numbers only tell the sockets apart.
+# Port numbers only separate the sockets.
 start() { # NAME PORT SETTINGS..
     local settings="-k $room -p $2 -c listen_addresses= -c fsync=off" s
     for s in "${@:3}"; do settings+=" -c $s"; done

@@ -1,6 +1,6 @@
 """Times of cone searches beside a test of every row: HTM_LIBRARY_PATH=target/lib python3 hosts/python/times.py [ROWS]
 A row is kept as identifier, pointing and unit vector, ready for both. The test of every row is the product of unit vectors beside the cosine. Each time is the
-least of seven, in milliseconds; a search makes its region file and cover anew each time, and is told that the rows are in order. Lists are timed up to 200,000
+least of seven, in milliseconds; a search makes its region file and cover anew each time, and takes the rows as ordered. Lists are timed up to 200,000
 rows. Ends with 1 where a search misses a row."""
 import math
 import random

@@ -90,7 +90,7 @@ static void put_row(int32_t *row, int32_t convex, struct direction n, double off
     row[4] = (int32_t)offset;
 }
 
-/* The depth for a region that reaches so many radians from its middle: 12 for up to 2 degrees within a budget of 64, and one less for each
+/* The depth for a region by how many radians it reaches from its middle: 12 for up to 2 degrees within a budget of 64, and one less for each
  * doubling of the reach or halving of the budget. One more would take twice the time and hardly leave less to test. */
 static uint32_t choose_depth(double reach, uint32_t budget)
 {
@@ -275,7 +275,7 @@ int64_t sky_polygon(const double *degrees, size_t corners, uint32_t depth, uint3
 struct lists {
     uint64_t pairs[HTM_RANGES_LENGTH], outer, inner; /* how many ranges each has; the outer one begins at pairs[0] */
     const uint64_t *inner_pairs;
-    unsigned shift; /* an identifier of the file's depth, shifted so many bits, is the first of depth 12 below it */
+    unsigned shift; /* by how many bits an identifier of the file's depth is shifted to the first of depth 12 below it */
 };
 
 static int64_t find_lists(const uint8_t *file, size_t bytes, struct lists *l)

@@ -23,7 +23,7 @@ enum {
     SKY_RADIUS = -103,  /* a radius that is not a number from 0 to 180 degrees */
     SKY_FEW = -104,     /* a polygon of fewer than three corners */
     SKY_MANY = -105,    /* a polygon of more than 100 corners */
-    SKY_CLOSE = -106,   /* two corners in a row that are the same, opposite, or too close to tell their side's direction */
+    SKY_CLOSE = -106,   /* two corners in a row that are the same, opposite, or too close to give their side a direction */
     SKY_CONVEX = -107   /* corners that do not go around a convex polygon once, or that are all on one great circle */
 };
 
@@ -41,7 +41,7 @@ int64_t sky_pointing(double ra, double dec, int32_t p[3]);
 int64_t sky_lookup(double ra, double dec, uint32_t depth);
 
 /* A region file of all directions within radius degrees of (ra, dec), from file[0] on: its length. It is one halfspace from 2 degrees on, and
- * below a halfspace and 32 circles. It is padded by just so much that rounding loses no direction within the radius: README.md has the
+ * below a halfspace and 32 circles. It is padded by just enough that rounding loses no direction within the radius: README.md has the
  * figures of what it holds beyond. SKY_RA, SKY_DEC, SKY_RADIUS, then a refusal of htm_write. */
 int64_t sky_cone(double ra, double dec, double radius, uint32_t depth, uint32_t budget, uint8_t *file, size_t bytes);
 

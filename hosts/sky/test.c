@@ -16,7 +16,7 @@
 #define PI 3.14159265358979323846264338327950288L
 #define DEGREE (PI / 180)
 #define FILE_BYTES HTM_FILE_BYTES
-#define ROUNDING 1.7321L /* n.p / K is off by so much at most, when both are rounded */
+#define ROUNDING 1.7321L /* by how much n.p / K is off at most, when both are rounded */
 #define SPECIAL 8        /* centres on axes and other places */
 #define CENTRES 24       /* those, and some anywhere */
 #define POINTS 1600      /* for each centre and radius */
@@ -155,7 +155,7 @@ static void check_pieces(const struct region *r)
     uint64_t header[HTM_HEADER_LENGTH], counts[HTM_COVER_COUNTS], inner = 0, all = 0, want = 0;
     if (htm_read(r->file, r->bytes, rows, HTM_ROWS_LENGTH, header, HTM_HEADER_LENGTH) ||
         htm_cover(r->file, r->bytes, lists, HTM_RANGES_LENGTH, counts, HTM_COVER_COUNTS))
-        return; /* refused, and told so before */
+        return; /* refused, and said so before */
     for (int64_t i = 0; i < r->count; i++) {
         uint64_t size = r->pieces[i].high - r->pieces[i].low + 1;
         all += size;
@@ -201,7 +201,7 @@ static bool held(const struct region *r, struct degrees g)
 
 struct tally {
     long truths, missed;       /* points within the radius; those of them that are not held */
-    long evenly, lost, beyond; /* the same of points spread evenly around centres anywhere; and how many are held though beyond the radius */
+    long evenly, lost, beyond; /* as above, for points spread evenly around centres anywhere; and how many are held though beyond the radius */
     double us;                 /* that pieces took, on the average */
 };
 

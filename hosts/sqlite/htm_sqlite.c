@@ -164,7 +164,7 @@ static void give(sqlite3_context *c, int64_t answer)
         sqlite3_result_int64(c, answer);
 }
 
-/* The file of so many bytes, or what the answer says. */
+/* The file, by its length, or what the answer says. */
 static void give_file(sqlite3_context *c, int64_t answer, const uint8_t *file)
 {
     if (answer < 0)

@@ -336,7 +336,7 @@ static int64_t try_making(making *make, const struct source *from, uint8_t out[F
     return n;
 }
 
-/* How many identifiers are in so many ranges. */
+/* How many identifiers are in some ranges. */
 static uint64_t contained(const uint64_t *pairs, uint64_t count)
 {
     uint64_t sum = 0;

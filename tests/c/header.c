@@ -36,7 +36,7 @@ static int64_t list[HTM_INDEX_LENGTH], entry[HTM_ENTRY_LENGTH];
 static uint32_t numbers[HTM_NUMBERS_LENGTH];
 static int32_t corners[HTM_CORNERS_LENGTH];
 
-/* So many halfspaces, each of them the northern hemisphere, in convexes of so many. */
+/* The rows of `all` halfspaces, each of them the northern hemisphere, `in_convex` in a convex. */
 static size_t hemispheres(int all, int in_convex)
 {
     for (int i = 0; i < all; i++) {

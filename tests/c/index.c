@@ -3,7 +3,7 @@
  * one that is shorter by one element and one that is exactly long enough. Then adds and removals on short lists, in the order of their checks, and the calls
  * on lists of noise, which no history leaves.
  * What htm_frames leaves in its range list is compared with htm_cover, and so is each buffer of htm_trial, with the setting in the file's
- * header; the part that htm_chosen tells is printed from the buffer itself, and is empty after a refusal, also in lists that are used again.
+ * header; the part that htm_chosen gives is printed from the buffer itself, and is empty after a refusal, also in lists that are used again.
  *
  *   index STDIN STDOUT     exit status 1 on any difference */
 #include <inttypes.h>
@@ -184,7 +184,7 @@ static bool is_left(uint32_t owner, const struct region *r, struct lengths n, in
     return frames_of(owner, r, n, &again) == refusal && memcmp(&again, &painted, sizeof again) == 0;
 }
 
-/* The call with lists of exact lengths, and with each of them short by one; so many ranges are needed. */
+/* The call with lists of exact lengths, and with each of them short by one. */
 static void must_need(uint32_t owner, const struct region *r, size_t ranges, int64_t answer)
 {
     struct lengths exact = {HTM_INDEX_LENGTH, ranges, NUMBERS, HTM_FRAME_COUNTS}, n = exact;
@@ -342,7 +342,7 @@ static void trial_must_need(uint32_t owner, const struct region *r, const struct
     must(trial_is_left(owner, r, two, (struct room){0, 0, 0, 0}, refusal), "lists of no elements are not tried, and all stays");
 }
 
-/* What htm_chosen tells of a status, some numbers and buffers of so many elements: the buffer and the length, each other element of the list staying. */
+/* What htm_chosen gives for a status, some numbers and buffers of some lengths: the buffer and the length, each other element of the list staying. */
 static bool is_part(int64_t status, const struct buffers *b, size_t n1, size_t n2, uint64_t which, uint64_t length)
 {
     uint64_t part[PART + BEHIND], wanted_part[PART + BEHIND];
@@ -366,14 +366,14 @@ static void part_must_need(int64_t status, const struct buffers *b)
     must(has_no_part(status, b, COUNTS, PART - 1) && has_no_part(status, b, COUNTS, 0), "a part that is short is refused, and stays");
 }
 
-/* The same of the trial, where its chosen buffer and the other one have so many elements. */
+/* As above, for the trial, where its chosen buffer and the other one have these lengths. */
 static bool has_part(size_t its, size_t others, uint64_t length)
 {
     uint64_t choice = trial_given.numbers[COUNTS - 1];
     return is_part(0, &trial_given, choice == 1 ? its : others, choice == 1 ? others : its, choice, length);
 }
 
-/* The part in buffers that are longer, exact, short by one and empty; it is printed from the buffer that is told. */
+/* The part in buffers that are longer, exact, short by one and empty; it is printed from the buffer that is named. */
 static void print_part(size_t at)
 {
     static struct buffers before;

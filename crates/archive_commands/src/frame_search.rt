@@ -4,11 +4,8 @@ use command_words::NaturalAt;
 use frames::Frames;
 use frames::FramesOf;
 use index::OWNER_CAPACITY;
-use limits::MAX_BUDGET;
 use print::Buffer;
-
-// Two lists of pairs, each within the largest budget.
-const ELEMENTS: usize = 4 * MAX_BUDGET as usize;
+use print::covers::RANGES_LENGTH;
 
 // frames OWNER HEX
 pub fn frames(index: &[i64], line: &[u8], next: usize, out: &mut Buffer, at: usize) -> usize {
@@ -33,7 +30,7 @@ fn find(
     if all.len() < n {
         return print::usage(out, at);
     }
-    let mut ranges = [0u64; ELEMENTS];
+    let mut ranges = [0u64; RANGES_LENGTH];
     let mut numbers = [0u32; OWNER_CAPACITY];
     match htm::frames(index, owner, &all[0..n], &mut ranges, &mut numbers) {
         FramesOf::Gives(counts) => delivered(out, at, counts, &numbers),

@@ -4,8 +4,8 @@ use check::same;
 use command_words::NaturalAt;
 use command_words::PointAt;
 use command_words::lines;
-use command_words::lines::Found;
 use command_words::lines::LINES;
+use command_words::lines::NextLine;
 use index::Change;
 use index::Entry;
 use index::EntryOf;
@@ -20,7 +20,7 @@ pub mod setting_trial;
 type Index = [i64; INDEX_LENGTH];
 
 // Between two entries of a list: whether one is printed, and the end of what is printed.
-struct Listed {
+struct ListState {
     some: bool,
     at: usize,
 }
@@ -33,7 +33,7 @@ pub fn answer_lines() {
     let mut out = io::large_buffer();
     let mut state = lines::begin();
     for _ in 0..LINES {
-        let Found::Line(line, after) = lines::next(&mut block, &mut store, state, &out) else {
+        let NextLine::Line(line, after) = lines::next(&mut block, &mut store, state, &out) else {
             return;
         };
         state = after;
@@ -125,7 +125,7 @@ fn list_owner(index: &[i64], line: &[u8], next: usize, out: &mut Buffer, at: usi
 
 // The entries of an owner in their order; those of both for OWNERS, which is no owner.
 fn list(index: &[i64], owner: u32, out: &mut Buffer, at: usize) -> usize {
-    let mut listed = Listed {
+    let mut listed = ListState {
         some: false,
         at: at,
     };
@@ -138,8 +138,8 @@ fn list(index: &[i64], owner: u32, out: &mut Buffer, at: usize) -> usize {
     ended(out, listed)
 }
 
-// One entry more, where it is one of the owner's.
-fn list_entry(listed: Listed, e: Entry, owner: u32, out: &mut Buffer) -> Listed {
+// Prints an entry where it is one of the owner's.
+fn list_entry(listed: ListState, e: Entry, owner: u32, out: &mut Buffer) -> ListState {
     if owner < OWNERS && e.owner != owner as i64 {
         return listed;
     }
@@ -148,7 +148,7 @@ fn list_entry(listed: Listed, e: Entry, owner: u32, out: &mut Buffer) -> Listed 
     } else {
         listed.at
     };
-    Listed {
+    ListState {
         some: true,
         at: entry(out, at, e),
     }
@@ -165,7 +165,7 @@ fn entry(out: &mut Buffer, at: usize, e: Entry) -> usize {
 }
 
 // The end of a list: a line feed, after `-` where it has no entry.
-fn ended(out: &mut Buffer, listed: Listed) -> usize {
+fn ended(out: &mut Buffer, listed: ListState) -> usize {
     if listed.some {
         print::byte(out, listed.at, b'\n')
     } else {

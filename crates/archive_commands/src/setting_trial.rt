@@ -1,17 +1,14 @@
 // The command of archive that tries two settings for a region: trial. It is answered from the word at `next` on.
 use command_words::FILE_CAPACITY;
 use command_words::NaturalAt;
-use limits::MAX_BUDGET;
 use print::Buffer;
+use print::covers::RANGES_LENGTH;
 use print::covers::RangeShape;
 use trial::Choice;
 use trial::Setting;
 use trial::SettingResult;
 use trial::Trial;
 use trial::TrialOf;
-
-// Two lists of pairs, each within the largest budget.
-const ELEMENTS: usize = 4 * MAX_BUDGET as usize;
 
 enum SettingAt {
     Is(Setting, usize),
@@ -63,8 +60,8 @@ fn try_both(
     if all.len() < n {
         return print::usage(out, at);
     }
-    let mut first = [0u64; ELEMENTS];
-    let mut second = [0u64; ELEMENTS];
+    let mut first = [0u64; RANGES_LENGTH];
+    let mut second = [0u64; RANGES_LENGTH];
     let result = htm::trial(index, owner, &all[0..n], s, t, &mut first, &mut second);
     match result {
         TrialOf::Gives(both) => compared(out, at, both, htm::chosen(result, &first, &second)),

@@ -1,12 +1,12 @@
 // The lookup of a whole catalogue: `catalogue DEPTH` answers each line of standard input by one line on standard output, identifier and name of the
 // trixel that holds its pointing, or `refused N`. A line is three decimals parted by one blank and closed by a line feed; a last line without its line
-// feed is of another shape. DEPTH is a decimal number from 1 to 12; where it is missing, is none or is not alone, one line says how to call it.
-use catalogue_stream::Asked;
+// feed is malformed. DEPTH is a decimal number from 1 to 12; where it is missing, is none or is not alone, one line says how to call it.
+use catalogue_stream::Argument;
 
 fn main() {
     let mut word = io::buffer();
     let length = os::arg(1, &mut word);
-    let Asked::Depth(depth) = catalogue_stream::depth_in(&word[..length], os::arg_count()) else {
+    let Argument::Depth(depth) = catalogue_stream::depth_in(&word[..length], os::arg_count()) else {
         catalogue_stream::usage();
         return;
     };

@@ -1,4 +1,4 @@
--- Laws of files in digits: the value of a digit, how many bytes a word writes, and what is stored of a line when one byte more comes. Assumes nothing.
+-- Laws of files in digits: the value of a digit, how many bytes a word writes, and what is stored of a line when the next byte comes. Assumes nothing.
 use Prim.Native.Nat.{ℕ, suc, _+_, _-_, _*_, _/_, _≤_, _<_}
 use native.Mathlib.Omega.{arith}
 use native.Mathlib.Numerals.{add-one}
@@ -10,7 +10,7 @@ use lib.Dec.{leb, eqb}
 use lib.ListN.{length, getD, take, drop, set, take-append-drop, length-append, length-drop, length-set, drop-of-length-le}
 use lib.Seq.{take-set-le, take-set-lt, drop-set-add, take-suc-set, take-take, take-add, length-take-le, drop-cons}
 use Rattle.algebra.specs.Lists.{every}
-use Rattle.command_words.specs.Files.{letterValue, hexValue, isHex, isNoBytes, upToCapacity, FileCapacity, bytesIn, lengthOf, None, FileDigits, past, grown, lineWith, NoFile, filePlace, Pushed, Stored}
+use Rattle.command_words.specs.Files.{letterValue, hexValue, isHex, isNoBytes, upToCapacity, FileCapacity, bytesIn, lengthOf, None, FileDigits, past, grown, lineWith, NoFile, filePlace, BytePushed, ByteStored}
 use Rattle.command_words.proofs.NumberLaws.{and-false}
 
 -- ---- the value of a digit
@@ -97,7 +97,7 @@ module _ (w : List ℕ) (some : isNoBytes w ≡ false) where
     pub first-bytes : FileCapacity ≤ length w / 2 → FileCapacity ≡ lengthOf (bytesIn w)
     first-bytes h = many (length w / 2) h ∙ in-digits pairs even all
 
--- ---- one pair of digits more
+-- ---- the next pair of digits
 
 module _ (w : List ℕ) (i : ℕ) (here : i * 2 + 1 < length w) where
   abbrev upper : ℕ
@@ -133,7 +133,7 @@ pub all-read : (w : List ℕ) (n : ℕ) → length w ≤ n → every isHex (drop
 unfolding every
 all-read w n h = ap (every isHex) (drop-of-length-le w h)
 
--- ---- one byte more in a word
+-- ---- the next byte of a word
 
 module _ (s : List ℕ) (b : ℕ) where
   pub grown-short : length s < FileDigits → grown s b ≡ s ++ (b ∷ [])
@@ -155,7 +155,7 @@ module _ (s : List ℕ) (b : ℕ) where
   unfolding grown past
   grown-other h d = simp (le-leb FileDigits (length s) h, d)
 
--- ---- one byte more in a line
+-- ---- the next byte of a line
 
 module _ (p n b : ℕ) (line : List ℕ) (within : n ≤ length line) where
   abbrev stored : List ℕ
@@ -189,7 +189,7 @@ module _ (p n b : ℕ) (line : List ℕ) (within : n ≤ length line) where
   length-pushed : length (stored ++ (b ∷ [])) ≡ n + 1
   length-pushed = simp (length-append, length-take-le n line within)
 
-  stored-pushed : {after : List ℕ} {r : ℕ} → grown word b ≡ word ++ (b ∷ []) → Pushed n b line after r → Stored p n b line after r
+  stored-pushed : {after : List ℕ} {r : ℕ} → grown word b ≡ word ++ (b ∷ []) → BytePushed n b line after r → ByteStored p n b line after r
   stored-pushed {after} {r} e done =
       let one : lineWith p stored b ≡ stored ++ (b ∷ []) = line-pushed e in
       let long : length (lineWith p stored b) ≡ n + 1 = ap length one ∙ length-pushed in
@@ -202,7 +202,7 @@ module _ (p n b : ℕ) (line : List ℕ) (within : n ≤ length line) where
         over = λ k. absurd (omega arith);
       }
 
-  stored-other : p < n → grown word b ≡ set word 0 b → Stored p n b line (set line p b) n
+  stored-other : p < n → grown word b ≡ set word 0 b → ByteStored p n b line (set line p b) n
   stored-other h e =
       let one : lineWith p stored b ≡ take n (set line p b) = line-other h e in
       let long : length (lineWith p stored b) ≡ n = ap length one ∙ length-take-le n (set line p b) (simp length-set within) in
@@ -213,7 +213,7 @@ module _ (p n b : ℕ) (line : List ℕ) (within : n ≤ length line) where
         over = λ k. absurd (omega arith);
       }
 
-  stored-dropped : p + FileDigits ≤ n → grown word b ≡ take FileDigits word → Stored p n b line line (p + FileDigits)
+  stored-dropped : p + FileDigits ≤ n → grown word b ≡ take FileDigits word → ByteStored p n b line line (p + FileDigits)
   stored-dropped h e =
       let one : lineWith p stored b ≡ take (p + FileDigits) line = line-dropped h e in
       let long : length (lineWith p stored b) ≡ p + FileDigits = ap length one ∙ length-take-le (p + FileDigits) line (omega arith) in
@@ -224,21 +224,21 @@ module _ (p n b : ℕ) (line : List ℕ) (within : n ≤ length line) where
         over = λ k. absurd (omega arith);
       }
 
-  pub short : {after : List ℕ} {r : ℕ} → n - p < FileDigits → Pushed n b line after r → Stored p n b line after r
+  pub short : {after : List ℕ} {r : ℕ} → n - p < FileDigits → BytePushed n b line after r → ByteStored p n b line after r
   short h done = stored-pushed (grown-short word b (omega (arith, word-length))) done
 
   module _ (far : p + FileDigits ≤ n) where
-    pub other : 15 < hexValue b → Stored p n b line (set line p b) n
+    pub other : 15 < hexValue b → ByteStored p n b line (set line p b) n
     other h = stored-other (omega arith) (grown-other word b (omega (arith, word-length)) (lt-leb (hexValue b) 15 h))
 
-    pub first-digit : {after : List ℕ} {r : ℕ} → n - p ≤ FileDigits → hexValue b ≤ 15 → Pushed n b line after r → Stored p n b line after r
+    pub first-digit : {after : List ℕ} {r : ℕ} → n - p ≤ FileDigits → hexValue b ≤ 15 → BytePushed n b line after r → ByteStored p n b line after r
     first-digit k h done = stored-pushed (grown-first word b (omega (arith, word-length)) (le-leb (hexValue b) 15 h)) done
 
-    pub second-digit : FileDigits < n - p → hexValue b ≤ 15 → Stored p n b line line (p + FileDigits)
+    pub second-digit : FileDigits < n - p → hexValue b ≤ 15 → ByteStored p n b line line (p + FileDigits)
     second-digit k h = stored-dropped far (grown-second word b (omega (arith, word-length)) (le-leb (hexValue b) 15 h))
 
 -- a line that is too long stays so
-pub too-long : (p n b : ℕ) (line : List ℕ) → length line < n → Stored p n b line line n
+pub too-long : (p n b : ℕ) (line : List ℕ) → length line < n → ByteStored p n b line line n
 too-long p n b line h =
     record {
       fits = λ k _. absurd (omega arith);
@@ -248,8 +248,8 @@ too-long p n b line h =
     }
 
 module _ (b p : ℕ) {n : ℕ} {line after : List ℕ} {r : ℕ} where
-  pub at-blank : b ≡ 32 → Stored NoFile n b line after r → Stored (filePlace b p) n b line after r
+  pub at-blank : b ≡ 32 → ByteStored NoFile n b line after r → ByteStored (filePlace b p) n b line after r
   at-blank e done = simp (eq-eqb b 32 e) done
 
-  pub at-no-blank : (b ≡ 32 → ⊥) → Stored p n b line after r → Stored (filePlace b p) n b line after r
+  pub at-no-blank : (b ≡ 32 → ⊥) → ByteStored p n b line after r → ByteStored (filePlace b p) n b line after r
   at-no-blank e done = simp (ne-eqb b 32 e) done

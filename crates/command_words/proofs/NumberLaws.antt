@@ -1,4 +1,4 @@
--- Laws of the numbers in digits: what one digit more does to a number that is being read, and that a number that was read is at most the
+-- Laws of the numbers in digits: what the next digit does to a number that is being read, and that a number that was read is at most the
 -- bound. A number never falls as digits follow it, so one that has passed the bound stays none. Assumes nothing.
 use Prim.Native.Nat.{ℕ, zero, suc, _+_, _-_, _*_, _≤_, _<_}
 use native.Mathlib.Omega.{arith}
@@ -16,7 +16,7 @@ use lib.Seq.{drop-cons, drop-length, take-all}
 use Rattle.command_words.specs.declared.Natural.{Natural}
 use Rattle.command_words.specs.declared.Natural.the-variants.{Is, Not}
 use Rattle.command_words.specs.declared.Whole.the-variants as WV
-use Rattle.command_words.specs.Numbers.{isDigit, digits, valueFrom, only, naturalFrom, naturalIn, wholeIn, plain, negated, UpTo}
+use Rattle.command_words.specs.Numbers.{isDigit, digits, valueFrom, provided, naturalFrom, naturalIn, wholeIn, plain, negated, UpTo}
 
 -- a number never falls
 grows : (n : ℕ) (w : List ℕ) → n ≤ valueFrom n w
@@ -35,8 +35,8 @@ after Not f = Not
 
 module _ (m n b : ℕ) (w : List ℕ) where
   step-by : (d t : Bool) → isDigit b ≡ d → leb (n * 10 + (b - 48)) m ≡ t
-      → only ((d && digits w) && leb (valueFrom (n * 10 + (b - 48)) w) m) (valueFrom (n * 10 + (b - 48)) w)
-      ≡ after (only ((d && true) && t) (n * 10 + (b - 48))) (λ k. naturalFrom m k w)
+      → provided ((d && digits w) && leb (valueFrom (n * 10 + (b - 48)) w) m) (valueFrom (n * 10 + (b - 48)) w)
+      ≡ after (provided ((d && true) && t) (n * 10 + (b - 48))) (λ k. naturalFrom m k w)
   step-by false t p q = refl
   step-by true true p q = refl
   step-by true false p q =
@@ -51,7 +51,7 @@ module _ (m n : ℕ) (w : List ℕ) (i : ℕ) (here : i < length w) where
   at : naturalFrom m n (drop i w) ≡ after (naturalFrom m n (getD w i 0 ∷ [])) (λ k. naturalFrom m k (drop (i + 1) w))
   at = rw (add-one, drop-cons w i 0) (step m n (getD w i 0) (drop (suc i) w))
 
-  -- one digit more
+  -- the next digit
   pub goes-on : {k : ℕ} → Is k ≡ naturalFrom m n (getD w i 0 ∷ []) → naturalFrom m n (drop i w) ≡ naturalFrom m k (drop (i + 1) w)
   goes-on e = at ∙ ap (λ r. after r (λ k. naturalFrom m k (drop (i + 1) w))) (sym e)
 
@@ -73,13 +73,13 @@ unfolding digits valueFrom
 ends m n w e h = simp (e, drop-length w, le-leb n m h)
 
 -- what was read is at most the bound
-only-most : (m v : ℕ) (a t : Bool) → leb v m ≡ t → UpTo m (only (a && t) v)
-only-most m v true true p = leb-true v m p
-only-most m v true false p = tt
-only-most m v false t p = tt
+provided-most : (m v : ℕ) (a t : Bool) → leb v m ≡ t → UpTo m (provided (a && t) v)
+provided-most m v true true p = leb-true v m p
+provided-most m v true false p = tt
+provided-most m v false t p = tt
 
 pub up-to-from : (m n : ℕ) (w : List ℕ) → UpTo m (naturalFrom m n w)
-up-to-from m n w = only-most m (valueFrom n w) (digits w) (leb (valueFrom n w) m) refl
+up-to-from m n w = provided-most m (valueFrom n w) (digits w) (leb (valueFrom n w) m) refl
 
 -- ---- words with a sign
 

@@ -13,7 +13,7 @@ use lib.Seq.{drop-set-lt, drop-at, length-take-le, append-snoc}
 use Rattle.algebra.specs.Lists.{every}
 use Rattle.answer.specs.Answer.{refused, Long}
 use Rattle.region.specs.Reader as rule
-use Rattle.command_words.specs.Numbers.{only}
+use Rattle.command_words.specs.Numbers.{provided}
 use Rattle.command_words.specs.Files.{isHex, FileCapacity, upToCapacity, bytesIn, FileDigits, grown, storedFrom, storedOf}
 use Rattle.command_words.proofs.NumberLaws.{and-false}
 use Rattle.command_words.proofs.FileLaws.{many, grown-short, grown-first, grown-second, grown-other}
@@ -95,7 +95,7 @@ module _ (w s : List ℕ) (b : ℕ) (st : Stands w s) where
           subst (Stands (w ++ (b ∷ []))) (sym next) (itself (w ++ (b ∷ [])) (omega (arith, length-more w b, ap length same)))
       by-length false e = absurd (omega (arith, st .long (leb-false _ _ e) .0))
 
-  -- past FileDigits: the file and what is stored of it have so many at least
+  -- past FileDigits: the file and what is stored of it have at least as many
   module _ (far : FileDigits ≤ length s) where
     sizes : (FileDigits ≤ length w) × (length s ≤ FileDigits + 1)
     sizes = by-length (leb (length w) FileDigits) refl
@@ -182,11 +182,11 @@ stored-itself w h = stands w .short h
 -- ---- what is read
 
 long-by : (w : List ℕ) → FileDigits ≤ length w → (t : Bool) → eqb (length w / 2 * 2) (length w) ≡ t
-    → only (t && every isHex w) (upToCapacity (length w / 2)) ≡ only (t && every isHex w) FileCapacity
+    → provided (t && every isHex w) (upToCapacity (length w / 2)) ≡ provided (t && every isHex w) FileCapacity
 long-by w h true e = simp (sym (many (length w / 2) (omega (arith, eqb-true (length w / 2 * 2) (length w) e))))
 long-by w h false e = refl
 
-long-read : (w : List ℕ) → FileDigits ≤ length w → bytesIn w ≡ only (eqb (length w / 2 * 2) (length w) && every isHex w) FileCapacity
+long-read : (w : List ℕ) → FileDigits ≤ length w → bytesIn w ≡ provided (eqb (length w / 2 * 2) (length w) && every isHex w) FileCapacity
 long-read w h = simp (ne-eqb (length w) 1 (λ e. omega arith), le-leb 2 (length w) (omega arith)) (long-by w h (eqb (length w / 2 * 2) (length w)) refl)
 
 even-by : (m n k : ℕ) → m ≡ n + 2 * k → (t : Bool) → eqb (n / 2 * 2) n ≡ t → t ≡ eqb (m / 2 * 2) m
@@ -195,14 +195,14 @@ even-by m n k e false f = sym (ne-eqb (m / 2 * 2) m (λ g. eqb-false (n / 2 * 2)
 
 module _ (w s : List ℕ) (st : Stands w s) where
   same-by : (t : Bool) → every isHex w ≡ t
-      → only (eqb (length s / 2 * 2) (length s) && t) FileCapacity ≡ only (eqb (length w / 2 * 2) (length w) && t) FileCapacity
-  same-by true all = ap (λ u. only (u && true) FileCapacity) (even-by (length w) (length s) (st .dropped) (st .pairs all) (eqb (length s / 2 * 2) (length s)) refl)
+      → provided (eqb (length s / 2 * 2) (length s) && t) FileCapacity ≡ provided (eqb (length w / 2 * 2) (length w) && t) FileCapacity
+  same-by true all = ap (λ u. provided (u && true) FileCapacity) (even-by (length w) (length s) (st .dropped) (st .pairs all) (eqb (length s / 2 * 2) (length s)) refl)
   same-by false all = simp and-false
 
   same-long : FileDigits < length w → bytesIn s ≡ bytesIn w
   same-long h =
       long-read s (st .long h .0)
-      ∙ ap (λ u. only (eqb (length s / 2 * 2) (length s) && u) FileCapacity) (st .digits)
+      ∙ ap (λ u. provided (eqb (length s / 2 * 2) (length s) && u) FileCapacity) (st .digits)
       ∙ same-by (every isHex w) refl
       ∙ sym (long-read w (omega arith))
 

@@ -1,7 +1,7 @@
 -- Files in hexadecimal digits, as a command line writes them, and what is stored of such a line while it comes. A word and a line are lists of bytes.
 --   hexValue b           the value of a digit, whose letters are small or capital; 256 for another byte
 --   isHex b              a byte is a digit
---   FileCapacity         the bytes of a file with one more than a region file may have
+--   FileCapacity         the bytes of a file that is one byte too long for a region file
 --   bytesIn w            how many bytes a word writes, two digits each and none for `-`; FileCapacity where there are more
 --   lengthOf r           the same as a length; None, which no file has, for a word that writes no file
 --   FileDigits           one digit less than a file of FileCapacity bytes has
@@ -10,7 +10,7 @@
 --   storedOf w           what is stored of a whole file
 --   lineWith p s b       what is stored of a line with a file from p on when s is stored of it and b follows
 --   filePlace b p        where the file of a line begins that had one from p on when b follows: nowhere after a blank, which ends it
---   Pushed, Stored       one byte more in a list of which n bytes are stored: r are stored then, or r is more than the list can hold
+--   BytePushed, ByteStored   a byte is appended to a list of which n bytes are stored: r are stored then, or r is more than the list can hold
 use Prim.Native.Nat.{ℕ, _+_, _-_, _*_, _/_, _≤_, _<_}
 use mathlib.Core.Path.{_≡_}
 use mathlib.Core.Bool.{Bool, cond, _&&_}
@@ -18,7 +18,7 @@ use mathlib.Core.List.{List, [], _∷_, _++_}
 use lib.Dec.{leb, eqb}
 use lib.ListN.{length, getD, take, drop, set}
 use Rattle.algebra.specs.Lists.{every}
-use Rattle.command_words.specs.Numbers.{only}
+use Rattle.command_words.specs.Numbers.{provided}
 use Rattle.command_words.specs.declared.Natural as N
 use Rattle.command_words.specs.declared.Natural.the-variants as NV
 
@@ -43,7 +43,7 @@ abbrev pub upToCapacity : ℕ → ℕ
 upToCapacity n = cond (leb n FileCapacity) n FileCapacity
 
 abbrev pub inPairs : List ℕ → N.Natural
-inPairs w = only ((leb 2 (length w) && eqb (length w / 2 * 2) (length w)) && every isHex w) (upToCapacity (length w / 2))
+inPairs w = provided ((leb 2 (length w) && eqb (length w / 2 * 2) (length w)) && every isHex w) (upToCapacity (length w / 2))
 
 abbrev pub bytesIn : List ℕ → N.Natural
 bytesIn w = cond (isNoBytes w) (NV.Is 0) (inPairs w)
@@ -81,11 +81,11 @@ NoFile = 18446744073709551615
 abbrev pub filePlace : ℕ → ℕ → ℕ
 filePlace b p = cond (eqb b 32) NoFile p
 
-pub record Pushed (n b : ℕ) (line after : List ℕ) (r : ℕ) : Type 0 where
+pub record BytePushed (n b : ℕ) (line after : List ℕ) (r : ℕ) : Type 0 where
   pub fits : n < length line → (r ≡ n + 1) × (after ≡ set line n b)
   pub full : length line ≤ n → (r ≡ length line + 1) × (after ≡ line)
 
-pub record Stored (p n b : ℕ) (line after : List ℕ) (r : ℕ) : Type 0 where
+pub record ByteStored (p n b : ℕ) (line after : List ℕ) (r : ℕ) : Type 0 where
   pub fits : n ≤ length line → length (lineWith p (take n line) b) ≤ length line → take r after ≡ lineWith p (take n line) b
   pub exact : n ≤ length line → length (lineWith p (take n line) b) ≤ length line → r ≡ length (lineWith p (take n line) b)
   pub full : length line < length (lineWith p (take n line) b) → length line < r

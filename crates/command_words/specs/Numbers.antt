@@ -3,7 +3,7 @@
 --   valueFrom n w         the number that the digits of w write after n
 --   naturalFrom m n w     that number, if all are digits and it is at most m
 --   naturalIn m w         the number that a word writes: digits only, one at least, and at most m
---   wholeIn w             the same of a word that may begin with a minus, for numbers of 32 bits: plain, or negated
+--   wholeIn w             as above, for a word that may begin with a minus and numbers of 32 bits: plain, or negated
 --   UpTo m r              a number that was read is at most m
 use Prim.Native.Nat.{ℕ, _+_, _-_, _*_, _≤_}
 use mathlib.Core.Bool.{Bool, true, false, _&&_}
@@ -27,12 +27,12 @@ unfoldable pub valueFrom : ℕ → List ℕ → ℕ
 valueFrom n [] = n
 valueFrom n (b ∷ w) = valueFrom (n * 10 + (b - 48)) w
 
-abbrev pub only : Bool → ℕ → N.Natural
-only true n = NV.Is n
-only false n = NV.Not
+abbrev pub provided : Bool → ℕ → N.Natural
+provided true n = NV.Is n
+provided false n = NV.Not
 
 abbrev pub naturalFrom : ℕ → ℕ → List ℕ → N.Natural
-naturalFrom m n w = only (digits w && leb (valueFrom n w) m) (valueFrom n w)
+naturalFrom m n w = provided (digits w && leb (valueFrom n w) m) (valueFrom n w)
 
 abbrev pub naturalIn : ℕ → List ℕ → N.Natural
 naturalIn m [] = NV.Not

@@ -4,7 +4,7 @@ use limits::MAX_FILE_BYTES;
 ghost use mathlib.Core.Path.{_≡_};
 ghost use mathlib.Core.List.{[], _∷_};
 ghost use Rattle.command_words.specs.Numbers.{UpTo, naturalFrom, naturalIn, wholeIn, plain, negated};
-ghost use Rattle.command_words.specs.Files.{FileDigits, hexValue, letterValue, bytesIn, lengthOf, filePlace, Pushed, Stored};
+ghost use Rattle.command_words.specs.Files.{FileDigits, hexValue, letterValue, bytesIn, lengthOf, filePlace, BytePushed, ByteStored};
 ghost use Prim.Native.Nat.{_+_, _-_, _^_, _≤_};
 ghost use lib.ListN.{length};
 
@@ -16,8 +16,8 @@ pub const FILE_CAPACITY: usize = MAX_FILE_BYTES + 1;
 // A line of 65536 bytes has no more numbers.
 pub const WORD_CAPACITY: usize = 32768;
 
-// More than the arrays hold.
-const NONE: usize = 32769;
+// No length: more than the arrays hold.
+const NONE: usize = WORD_CAPACITY + 1;
 
 const BLANK: u8 = b' ';
 
@@ -28,7 +28,7 @@ const LARGEST: u64 = i32::MAX as u64;
 
 const LARGEST_NEGATIVE: u64 = LARGEST + 1;
 
-// One digit less than a file of so many bytes has.
+// One digit less than a file of FILE_CAPACITY bytes has.
 const FILE_DIGITS: usize = 2 * FILE_CAPACITY - 1;
 
 // Past every place of a line.
@@ -73,10 +73,10 @@ pub fn empty_line() -> StoredLine {
     }
 }
 
-// One byte more of a line. Of a file no more digits are stored than tell that it is too long for a region file, so a line with a file may have
+// Appends a byte to a line. Of a file only as many digits are stored as show that it is too long for a region file, so a line with a file may have
 // any length. A line that is too long otherwise counts as more bytes than `line` can hold.
 pub fn append_byte(line: &mut [u8], stored: StoredLine, b: u8) -> StoredLine
-    ensures { λ r. ⌜ Stored (filePlace b (stored .file)) (stored .bytes) b (now (line .entry)) (now (line .exit)) (r .bytes) ⌝ }
+    ensures { λ r. ⌜ ByteStored (filePlace b (stored .file)) (stored .bytes) b (now (line .entry)) (now (line .exit)) (r .bytes) ⌝ }
 {
     let n = stored.bytes;
     if b == BLANK {
@@ -123,9 +123,9 @@ fn takes_owner_and_file(name: &[u8]) -> bool {
     same(name, b"frames") || same(name, b"trial")
 }
 
-// One byte more of a line of which n are stored, with a file from `file` on.
+// Appends a byte to a line of which n are stored, with a file from `file` on.
 fn store(line: &mut [u8], n: usize, file: usize, b: u8) -> usize
-    ensures { λ r. ⌜ Stored file n b (now (line .entry)) (now (line .exit)) r ⌝ }
+    ensures { λ r. ⌜ ByteStored file n b (now (line .entry)) (now (line .exit)) r ⌝ }
 {
     if line.len() < n {
         return n;
@@ -139,12 +139,12 @@ fn store(line: &mut [u8], n: usize, file: usize, b: u8) -> usize
     store_past(line, n, file, b)
 }
 
-// The same where FILE_DIGITS of the file are stored: a digit is stored until a second one comes, and then both are dropped. Another byte takes the
+// As above, where FILE_DIGITS of the file are stored: a digit is stored until a second one comes, and then both are dropped. Another byte takes the
 // place of the first digit, so that there is no file.
 fn store_past(line: &mut [u8], n: usize, file: usize, b: u8) -> usize
     requires { ⌜ file + FileDigits ≤ n ⌝ }
     requires { ⌜ n ≤ length (now line) ⌝ }
-    ensures { λ r. ⌜ Stored file n b (now (line .entry)) (now (line .exit)) r ⌝ }
+    ensures { λ r. ⌜ ByteStored file n b (now (line .entry)) (now (line .exit)) r ⌝ }
 {
     if 15 < digit(b) {
         line[file] = b;
@@ -156,9 +156,9 @@ fn store_past(line: &mut [u8], n: usize, file: usize, b: u8) -> usize
     push(line, n, b)
 }
 
-// One byte more, as it comes.
+// Appends a byte as it comes.
 fn push(line: &mut [u8], n: usize, b: u8) -> usize
-    ensures { λ r. ⌜ Pushed n b (now (line .entry)) (now (line .exit)) r ⌝ }
+    ensures { λ r. ⌜ BytePushed n b (now (line .entry)) (now (line .exit)) r ⌝ }
 {
     if n < line.len() {
         line[n] = b;
@@ -234,7 +234,7 @@ fn whole_of(word: &[u8]) -> Whole
     positive(natural_of(word, LARGEST))
 }
 
-// One digit more at the end of n.
+// Appends a digit to n.
 fn with_digit(n: u64, byte: u8, most: u64) -> Natural
     ensures { λ r. ⌜ r ≡ naturalFrom most n (byte ∷ []) ⌝ }
 {
@@ -338,7 +338,7 @@ pub fn file(word: &[u8], to: &mut [u8; FILE_CAPACITY]) -> usize
     FILE_CAPACITY
 }
 
-// The bits of a float: so many hexadecimal digits, no more and no fewer, and at most 16.
+// The bits of a float: exactly `digits` hexadecimal digits, 16 at most.
 pub fn bits_of(word: &[u8], digits: usize) -> Natural {
     if word.len() != digits {
         return Natural::Not;

@@ -28,7 +28,8 @@ pub struct LineState {
     pub is_last: bool,
 }
 
-pub enum Found {
+// The next line, with the state behind it; or the input is over.
+pub enum NextLine {
     Line(Line, LineState),
     Over,
 }
@@ -48,11 +49,11 @@ fn state_at(next: usize, end: usize, at: usize) -> LineState {
 }
 
 // The next line.
-pub fn next(block: &mut Buffer, store: &mut Buffer, state: LineState, out: &Buffer) -> Found {
+pub fn next(block: &mut Buffer, store: &mut Buffer, state: LineState, out: &Buffer) -> NextLine {
     let mut at = state.at;
     if state.is_last || at == LOST {
         print::flush(out, at);
-        return Found::Over;
+        return NextLine::Over;
     }
     let mut from = state.next;
     let mut end = state.end;
@@ -66,11 +67,11 @@ pub fn next(block: &mut Buffer, store: &mut Buffer, state: LineState, out: &Buff
                 to: after - 1,
                 after: after,
             };
-            return Found::Line(ended(block, store, stored, rest), state_at(after, end, at));
+            return NextLine::Line(ended(block, store, stored, rest), state_at(after, end, at));
         }
         stored = append_part(store, stored, part(block, from, end));
         let Input::Bytes(n) = refill(block, out, at) else {
-            return Found::Over;
+            return NextLine::Over;
         };
         if n == 0 {
             return last(stored.bytes);
@@ -79,7 +80,7 @@ pub fn next(block: &mut Buffer, store: &mut Buffer, state: LineState, out: &Buff
         end = n;
         at = 0;
     }
-    Found::Over
+    NextLine::Over
 }
 
 // The place after the first line feed from `from` on, in a block of which `end` bytes are there; 0 where there is none.
@@ -109,9 +110,9 @@ fn ended(block: &Buffer, store: &mut Buffer, stored: StoredLine, rest: Line) -> 
 }
 
 // A last line, of which n bytes are stored.
-fn last(n: usize) -> Found {
+fn last(n: usize) -> NextLine {
     if n == 0 {
-        return Found::Over;
+        return NextLine::Over;
     }
     let line = Line {
         is_stored: true,
@@ -125,7 +126,7 @@ fn last(n: usize) -> Found {
         at: 0,
         is_last: true,
     };
-    Found::Line(line, state)
+    NextLine::Line(line, state)
 }
 
 // More bytes of a line.
@@ -153,8 +154,8 @@ pub fn text<'a>(block: &'a Buffer, store: &'a Buffer, line: Line) -> &'a [u8] {
     part(block, line.from, line.to)
 }
 
-// The same with its line feed, which a last line does not have.
-pub fn whole<'a>(block: &'a Buffer, store: &'a Buffer, line: Line) -> &'a [u8] {
+// As above, with its line feed, which a last line does not have.
+pub fn with_feed<'a>(block: &'a Buffer, store: &'a Buffer, line: Line) -> &'a [u8] {
     if line.is_stored {
         return part(store, line.from, line.after);
     }

@@ -3,7 +3,7 @@
 use limits::MAX_FILE_BYTES;
 use streams::Input;
 
-// One byte more than the longest region file has, so that a longer one is seen to be longer.
+// A byte longer than the longest region file, so that a file that is too long is seen to be.
 const BYTES: usize = MAX_FILE_BYTES + 1;
 
 fn main() {

@@ -105,7 +105,7 @@ module _ (g : Region) (d B : ℕ) where
         let m : 4 ^ (d - 1) ≤ 4 ^ 11 = pow-le-pow-right {n = 4} (lit< tt) {i = d - 1} {j = 11} (omega arith) in
         omega (arith, counts-few)
 
--- ---- of the identifiers at the depth they contain so many, each once
+-- ---- how many of the identifiers at the depth they contain, each counted once
 
 module _ (g : Region) (d B : ℕ) (deep : 1 ≤ d) where
   abbrev low : ℕ

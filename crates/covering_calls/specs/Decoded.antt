@@ -1,4 +1,4 @@
--- A region file that was decoded: what the calls that cover a file hold of it.
+-- A region file that was decoded, as the calls that cover a file know it. Document 01, 'Regions'.
 --   Decoded f h rs   the file f is accepted, its header is h, and the array rs begins with its rows
 use mathlib.Core.Path.{_≡_}
 use mathlib.Core.List.{List}

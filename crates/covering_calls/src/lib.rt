@@ -1,4 +1,4 @@
-// The cover of rows: the eight roots one after the other, the end of the inner list, the counts. The rule is `listed` and `cutting` of
+// The cover of rows: the eight roots one after the other, then the closing of the inner list, and the counts. The rule is `listed` and `cutting` of
 // covering/specs/Cover.
 use classify_active::ACTIVE_ENDS;
 use classify_active::ACTIVE_NUMBERS;
@@ -81,7 +81,7 @@ fn visit_each_root(
     }
 }
 
-// The same, where no halfspaces are known to be active.
+// As above, where no halfspaces are known to be active.
 fn visit_roots(
     depth: u32,
     prepared: &PreparedHalfspaces,
@@ -98,7 +98,7 @@ fn visit_roots(
     visit_each_root(depth, prepared, ends, &active, &stops, out, s);
 }
 
-// No more ranges of the inner list come.
+// Closes the inner list. The result is how many ranges it has.
 fn end_inner(out: &mut [u64], s: &TallyNumbers) -> usize
     requires { ⌜ TallyInvariant (tallyIn (now s)) (now out) ⌝ }
     ensures { λ n. ⌜ InnerEnded (tallyIn (now (s .entry)) .budget) (now (out .entry)) (now (out .exit))
@@ -123,7 +123,7 @@ fn identifiers_in(list: &[u64], n: usize) -> u64
     sum
 }
 
-// The end of both lists, and the counts.
+// Closes both lists, and reads the counts.
 fn finish(out: &mut [u64], s: &TallyNumbers) -> Counts
     requires { ⌜ TallyInvariant (tallyIn (now s)) (now out) ⌝ }
     requires { ⌜ CountsContained (tallyIn (now s)) (now out) ⌝ }

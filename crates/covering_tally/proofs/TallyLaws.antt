@@ -1,5 +1,5 @@
 -- The tally as thirteen numbers: a number that is stored changes its part and no other. And a range that is accepted: it is pushed onto the outer list, a full
--- one onto the inner list behind it too, and one more is seen. Assumes nothing.
+-- one onto the inner list behind it too, and the trixel is counted as seen. Assumes nothing.
 use Prim.Native.Nat.{ℕ, _+_, _-_, _*_, _≤_}
 use native.Mathlib.Omega.{arith}
 use mathlib.Core.Path.{_≡_, refl, sym, ap, subst, subst₂, _∙_}
@@ -8,13 +8,13 @@ use lib.Dec.{ltb}
 use lib.ListN.{length, getD, set}
 use Rattle.algebra.proofs.Cells.{all-cells}
 use Rattle.ranges_stored.specs.declared.Pending.{Pending}
-use Rattle.ranges_lists.specs.declared.Pushed.{Pushed}
+use Rattle.ranges_lists.specs.declared.PushResult.{PushResult}
 use Rattle.ranges.specs.Ranges.{Range, rangesIn}
 use Rattle.ranges.specs.Lists.{gaps}
 use Rattle.ranges.proofs.Pushing.{outerPush}
 use Rattle.ranges_stored.specs.Stored.{Writes, differencesIn, hintOf, Hinted}
 use Rattle.covering.specs.Cover.{takenFull, takenPartial}
-use Rattle.covering_tally.specs.Tally.{Tally, tallyIn, withOuter, withInner, oneMore, oneFull, onePartial, OuterPushed, InnerNeeds, InnerPushed, Inside, Countable, SmallRange, TallyInvariant, TrixelAccepted}
+use Rattle.covering_tally.specs.Tally.{Tally, tallyIn, withOuter, withInner, oneMore, oneFull, onePartial, OuterPushed, InnerNeeds, InnerPushed, InnerAdded, Countable, SmallRange, TallyInvariant, TrixelAccepted}
 use Rattle.covering_tally.proofs.WalkLaws.{taken-partial, taken-full, hinted-before, hinted-behind}
 
 -- ---- the thirteen numbers
@@ -31,7 +31,7 @@ module _ (xs : List ℕ) (long : length xs ≡ 13) where
   noted-partial =
       all-cells 13 (λ xs. tallyIn (set (set xs 9 (getD xs 9 0 + 1)) 12 (getD xs 12 0 + 1)) ≡ onePartial (tallyIn xs)) (λ a b c d e f g h i j k l m. refl) xs long
 
-  pub noted-outer : (m : Pushed) → tallyIn (set (set (set xs 0 (m .n)) 1 (m .hint .from)) 2 (m .hint .floor)) ≡ withOuter m (tallyIn xs)
+  pub noted-outer : (m : PushResult) → tallyIn (set (set (set xs 0 (m .n)) 1 (m .hint .from)) 2 (m .hint .floor)) ≡ withOuter m (tallyIn xs)
   noted-outer m =
       all-cells 13 (λ xs. tallyIn (set (set (set xs 0 (m .n)) 1 (m .hint .from)) 2 (m .hint .floor)) ≡ withOuter m (tallyIn xs)) (λ a b c d e f g h i j k l m. refl) xs long
 
@@ -43,7 +43,7 @@ module _ (xs : List ℕ) (long : length xs ≡ 13) where
 
 -- ---- a range that is accepted
 
-pub outer-pushed : (r : Range) {m : Pushed} {s s₁ : Tally} {out out₁ : List ℕ}
+pub outer-pushed : (r : Range) {m : PushResult} {s s₁ : Tally} {out out₁ : List ℕ}
     → Writes (outerPush (s .budget) (rangesIn (s .outer) out) r) out out₁ (m .n) × (((s .outer ≤ m .n) × (m .n ≤ s .budget)) × Hinted (m .hint) (gaps (rangesIn (m .n) out₁)))
     → s₁ ≡ withOuter m s → OuterPushed r s out s₁ out₁
 outer-pushed r {m} {s} {s₁} {out} {out₁} h e =
@@ -99,7 +99,7 @@ module _ {r : Range} {s s₁ : Tally} {out out₁ : List ℕ} (invariant : Tally
       budget = refl;
     }
 
-  pub full-taken : {s₂ s₃ : Tally} {out₂ : List ℕ} → Inside r s₁ out₁ s₂ out₂ → length out₂ ≡ length out₁ → SmallRange r
+  pub full-taken : {s₂ s₃ : Tally} {out₂ : List ℕ} → InnerAdded r s₁ out₁ s₂ out₂ → length out₂ ≡ length out₁ → SmallRange r
       → s₃ ≡ oneFull (r .high - r .low + 1) s₂ → TrixelAccepted (takenFull r) s out s₃ out₂
   full-taken {s₂} {s₃} {out₂} k long z more =
       let n = r .high - r .low + 1 in
@@ -123,12 +123,12 @@ outer-counts o h = record {
   partial = omega (arith, h .partial, o .seen, o .partial);
 }
 
-pub inside-counts : {r : Range} {s s₁ : Tally} {out out₁ : List ℕ} → Inside r s out s₁ out₁ → Countable s → Countable s₁
-inside-counts k h = subst Countable (sym (k .noted)) (record { few = h .few; full = h .full; partial = h .partial })
+pub inner-added-counts : {r : Range} {s s₁ : Tally} {out out₁ : List ℕ} → InnerAdded r s out s₁ out₁ → Countable s → Countable s₁
+inner-added-counts k h = subst Countable (sym (k .noted)) (record { few = h .few; full = h .full; partial = h .partial })
 
 -- what was read from the tally
 pub inner-known : {out : List ℕ} {b b₀ : ℕ} {p p₀ : Pending} → InnerNeeds b₀ p₀ out → b ≡ b₀ → p ≡ p₀ → InnerNeeds b p out
 inner-known {out = out} h u e = subst₂ (λ b p. InnerNeeds b p out) (sym u) (sym e) h
 
-pub inside : {r : Range} {s s′ : Tally} {out out′ : List ℕ} {b : ℕ} {p q : Pending} → InnerPushed b r p out q out′ → b ≡ s .budget → p ≡ s .inner → s′ ≡ withInner q s → Inside r s out s′ out′
-inside {r} {s} {s′} {out} {out′} {q = q} h u e n = record { beside = q; pushed = subst₂ (λ b p. InnerPushed b r p out q out′) u e h; noted = n }
+pub inner-added : {r : Range} {s s′ : Tally} {out out′ : List ℕ} {b : ℕ} {p q : Pending} → InnerPushed b r p out q out′ → b ≡ s .budget → p ≡ s .inner → s′ ≡ withInner q s → InnerAdded r s out s′ out′
+inner-added {r} {s} {s′} {out} {out′} {q = q} h u e n = record { beside = q; pushed = subst₂ (λ b p. InnerPushed b r p out q out′) u e h; noted = n }

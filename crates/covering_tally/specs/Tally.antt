@@ -10,10 +10,10 @@
 --   Adds found ..      whatever was found before, `found` is noted after it
 --   TrixelAccepted ..  a trixel that was accepted: what a call that takes it gives
 --   OuterPushed ..     the range r was pushed onto the outer list
---   Countable s        one more can be counted
+--   Countable s        another trixel can be counted
 --   SmallRange r       its identifiers are some of a depth, which are below 2^26
 --   CountsContained .. the stored outer ranges contain what was counted
---   InnerNeeds ..      what is needed to push a range onto the inner list; InnerPushed: what is so then; Inside: it is noted
+--   InnerNeeds ..      what is needed to push a range onto the inner list; InnerPushed: what holds then; InnerAdded: the tally has it too
 --   InnerStored ..     the inner list's writer was lent the list from element 2 × b on: the elements before it stay; InnerEnded: the same at the end
 --   TallyInvariant ..  the counts are at most the budget, the list has room for both lists, and what s knows of the gaps of the outer list and of the
 --                      sizes, less one, of the inner list's stored ranges is so; and the counts of identifiers are no more than the trixels seen can have
@@ -23,7 +23,7 @@ use mathlib.Core.List.{List, [], _++_, foldl}
 use lib.Dec.{ltb}
 use lib.ListN.{length, getD, take, drop}
 use Rattle.ranges_stored.specs.declared.MinHint.{MinHint}
-use Rattle.ranges_lists.specs.declared.Pushed.{Pushed}
+use Rattle.ranges_lists.specs.declared.PushResult.{PushResult}
 use Rattle.ranges_stored.specs.declared.Pending.{Pending}
 use Rattle.ranges.specs.Ranges.{Range, rangesIn}
 use Rattle.ranges.specs.Lists.{gaps}
@@ -56,17 +56,17 @@ tallyIn xs = record {
 abbrev pub noTally : ℕ → Tally
 noTally b = record { outer = 0; hint = noHint; inner = nothingYet; seen = 0; budget = b; full = 0; partial = 0 }
 
-abbrev pub withOuter : Pushed → Tally → Tally
+abbrev pub withOuter : PushResult → Tally → Tally
 withOuter m s = record { outer = m .n; hint = m .hint; inner = s .inner; seen = s .seen; budget = s .budget; full = s .full; partial = s .partial }
 
 abbrev pub withInner : Pending → Tally → Tally
 withInner p s = record { outer = s .outer; hint = s .hint; inner = p; seen = s .seen; budget = s .budget; full = s .full; partial = s .partial }
 
--- one more is classified
+-- a trixel is classified
 abbrev pub oneMore : Tally → Tally
 oneMore s = record { outer = s .outer; hint = s .hint; inner = s .inner; seen = s .seen + 1; budget = s .budget; full = s .full; partial = s .partial }
 
--- and it is full, with n identifiers at the depth, or partial
+-- a full one, with n identifiers at the depth; a partial one
 abbrev pub oneFull : ℕ → Tally → Tally
 oneFull n s = record { outer = s .outer; hint = s .hint; inner = s .inner; seen = s .seen + 1; budget = s .budget; full = s .full + n; partial = s .partial }
 
@@ -128,7 +128,7 @@ pub record TallyInvariant (s : Tally) (out : List ℕ) : Type 0 where
   pub full : s .full ≤ 2 ^ 26 * s .seen
   pub partial : s .partial ≤ s .seen
 
--- one more can be counted
+-- another trixel can be counted
 pub record Countable (s : Tally) : Type 0 where
   pub few : s .seen < 2 ^ 32
   pub full : s .full ≤ 2 ^ 26 * s .seen
@@ -156,7 +156,7 @@ pub record InnerPushed (b : ℕ) (r : Range) (p : Pending) (out : List ℕ) (q :
   pub few : q .n ≤ b
   pub hinted : Hinted (q .hint) (differencesIn (2 * b) 0 (q .n) out′)
 
-pub record Inside (r : Range) (s : Tally) (out : List ℕ) (s′ : Tally) (out′ : List ℕ) : Type 0 where
+pub record InnerAdded (r : Range) (s : Tally) (out : List ℕ) (s′ : Tally) (out′ : List ℕ) : Type 0 where
   pub beside : Pending
   pub pushed : InnerPushed (s .budget) r (s .inner) out beside out′
   pub noted : s′ ≡ withInner beside s

@@ -29,7 +29,7 @@ use Rattle.index.specs.Exposures.{only}
 use Rattle.index.specs.Entries.{entry, entriesFrom, entriesIn, written, withEntries}
 use Rattle.frames.specs.declared.Disposition.{Disposition}
 use Rattle.frames.specs.declared.Disposition.the-variants.{Skipped, Unchecked, Held, Discarded}
-use Rattle.frames.specs.Walk.{shortened, numberOf, entriesOf, ahead, Met, met, walk, deliveredBy, testsOf}
+use Rattle.frames.specs.Walk.{shortened, numberOf, entriesOf, ahead, WalkStep, walkStep, walk, deliveredBy, testsOf}
 use Rattle.frames.specs.Answers.{framesInto, framesBy, framesList}
 use Rattle.region.specs.declared.Style.{Style}
 
@@ -58,16 +58,16 @@ outer = range 10 19 ∷ range 30 39 ∷ []
 abbrev inner : List Range
 inner = range 12 14 ∷ range 30 31 ∷ []
 
-abbrev day : List Met
+abbrev day : List WalkStep
 day =
-    met (e 9 1 north) Skipped ∷ met (e 10 2 north) Held ∷ met (e 11 3 south) Discarded
-    ∷ met (e 12 4 south) Unchecked ∷ met (e 12 5 north) Unchecked ∷ met (e 14 6 neither) Unchecked
-    ∷ met (e 15 7 neither) Discarded ∷ met (e 19 8 north) Held ∷ met (e 19 9 south) Discarded
-    ∷ met (e 20 10 north) Skipped ∷ met (e 29 11 south) Skipped
-    ∷ met (e 30 12 south) Unchecked ∷ met (e 31 13 north) Unchecked
-    ∷ met (e 32 14 north) Held ∷ met (e 39 15 south) Discarded ∷ met (e 40 16 north) Skipped ∷ []
+    walkStep (e 9 1 north) Skipped ∷ walkStep (e 10 2 north) Held ∷ walkStep (e 11 3 south) Discarded
+    ∷ walkStep (e 12 4 south) Unchecked ∷ walkStep (e 12 5 north) Unchecked ∷ walkStep (e 14 6 neither) Unchecked
+    ∷ walkStep (e 15 7 neither) Discarded ∷ walkStep (e 19 8 north) Held ∷ walkStep (e 19 9 south) Discarded
+    ∷ walkStep (e 20 10 north) Skipped ∷ walkStep (e 29 11 south) Skipped
+    ∷ walkStep (e 30 12 south) Unchecked ∷ walkStep (e 31 13 north) Unchecked
+    ∷ walkStep (e 32 14 north) Held ∷ walkStep (e 39 15 south) Discarded ∷ walkStep (e 40 16 north) Skipped ∷ []
 
-abbrev entries : List Met → List Entry
+abbrev entries : List WalkStep → List Entry
 entries ms = map (λ m. m .entry) ms
 
 pub day-example : walk 12 held outer inner (entries day) ≡ day
@@ -77,12 +77,12 @@ day-example = refl
 pub counts-example : (deliveredBy day ≡ 2 ∷ 4 ∷ 5 ∷ 6 ∷ 8 ∷ 12 ∷ 13 ∷ 14 ∷ [])
     × (testsOf day ≡ 7)
     × (framesList (framesBy day) ≡ 8 ∷ 7 ∷ [])
-    × (testsOf (met (e 9 1 north) Skipped ∷ []) ≡ 0)
-    × (testsOf (met (e 12 4 south) Unchecked ∷ []) ≡ 0)
+    × (testsOf (walkStep (e 9 1 north) Skipped ∷ []) ≡ 0)
+    × (testsOf (walkStep (e 12 4 south) Unchecked ∷ []) ≡ 0)
 unfolding only tally
 counts-example = (refl, refl, refl, refl, refl)
 
-abbrev dispositions : List Met → List Disposition
+abbrev dispositions : List WalkStep → List Disposition
 dispositions ms = map (λ m. m .disposition) ms
 
 abbrev unordered : List Entry

@@ -23,7 +23,7 @@ use Rattle.index.proofs.OrderLaws.{eqZ-eq}
 use Rattle.vector.specs.Numbers.{eqZ}
 use Rattle.index.specs.HistoryCorrect as index
 use Rattle.frames.specs.declared.Disposition.{Disposition}
-use Rattle.frames.specs.Walk.{whole, shortened, numberOf, ahead, begins, dispositionOf, Met, met, walk, isDelivered, deliveredBy}
+use Rattle.frames.specs.Walk.{natural, shortened, numberOf, ahead, begins, dispositionOf, WalkStep, walkStep, walk, isDelivered, deliveredBy}
 use Rattle.frames.proofs.AheadLaws.{ahead-ascends, ahead-same, ahead-begins}
 
 -- ---- identifiers that do not fall
@@ -32,17 +32,17 @@ abbrev Rising : ℕ → ℕ → List Entry → Type 0
 Rising d i [] = Unit {0}
 Rising d i (e ∷ es) = (i ≤ shortened d e) × Rising d (shortened d e) es
 
-whole-less : (y z : ℤ) → ltZ y z ≡ true → whole y ≤ whole z
-whole-less (pos a) (pos b) e = omega (arith, ltb-true a b e)
-whole-less (pos a) (negsuc b) e = absurd (false≢true e)
-whole-less (negsuc a) (pos b) e = omega arith
-whole-less (negsuc a) (negsuc b) e = omega arith
+natural-less : (y z : ℤ) → ltZ y z ≡ true → natural y ≤ natural z
+natural-less (pos a) (pos b) e = omega (arith, ltb-true a b e)
+natural-less (pos a) (negsuc b) e = absurd (false≢true e)
+natural-less (negsuc a) (pos b) e = omega arith
+natural-less (negsuc a) (negsuc b) e = omega arith
 
 -- an entry that precedes another has no greater identifier
-precedes-le : (a b : Entry) → precedes a b ≡ true → whole (a .id) ≤ whole (b .id)
+precedes-le : (a b : Entry) → precedes a b ≡ true → natural (a .id) ≤ natural (b .id)
 precedes-le a b e = or-cases (ltZ (a .id) (b .id)) (eqZ (a .id) (b .id) && byNumber a b) e
-    (λ t. whole-less (a .id) (b .id) t)
-    (λ t. let s : a .id ≡ b .id = eqZ-eq (a .id) (b .id) (and-left (eqZ (a .id) (b .id)) (byNumber a b) t) in omega (arith, ap whole s))
+    (λ t. natural-less (a .id) (b .id) t)
+    (λ t. let s : a .id ≡ b .id = eqZ-eq (a .id) (b .id) (and-left (eqZ (a .id) (b .id)) (byNumber a b) t) in omega (arith, ap natural s))
 
 quotient-le : (k : ℕ) {a b : ℕ} → 1 ≤ k → a ≤ b → a / k ≤ b / k
 quotient-le k {a} {b} p h = le-div-iff-mul-le p .1 (le-trans (div-mul-le-self a k) h)
@@ -67,7 +67,7 @@ Same i xs rs = (j : ℕ) → i ≤ j → inSome j xs ≡ inSome j rs
 
 module _ (d : ℕ) (held : Vec3 → Bool) (os ns : List Range) where
   walk-from : (i : ℕ) (es : List Entry) (xs ys : List Range) → Rising d i es → ranges.Ascends xs → ranges.Ascends ys → Same i xs os → Same i ys ns
-      → walk d held xs ys es ≡ map (λ e. met e (dispositionIn d held os ns e)) es
+      → walk d held xs ys es ≡ map (λ e. walkStep e (dispositionIn d held os ns e)) es
   unfolding walk
   walk-from i [] xs ys r a b f g = refl
   walk-from i (e ∷ es) xs ys r a b f g =
@@ -76,27 +76,27 @@ module _ (d : ℕ) (held : Vec3 → Bool) (os ns : List Range) where
       let o : begins j (ahead j xs) ≡ inSome j os = ahead-begins j xs a ∙ f j (r .0) in
       let rest = walk-from j es (ahead j xs) (ahead j ys) (r .1) (ahead-ascends j xs a) (ahead-ascends j ys b)
       (λ k h. ahead-same j k h xs ∙ f k (omega (arith, r .0))) (λ k h. ahead-same j k h ys ∙ g k (omega (arith, r .0))) in
-      λ k. met e (dispositionOf held (n k) (o k) (e .pointing)) ∷ rest k
+      λ k. walkStep e (dispositionOf held (n k) (o k) (e .pointing)) ∷ rest k
 
-  pub walk-all : (es : List Entry) → index.Ascends es → ranges.Ascends os → ranges.Ascends ns → walk d held os ns es ≡ map (λ e. met e (dispositionIn d held os ns e)) es
+  pub walk-all : (es : List Entry) → index.Ascends es → ranges.Ascends os → ranges.Ascends ns → walk d held os ns es ≡ map (λ e. walkStep e (dispositionIn d held os ns e)) es
   walk-all es a b c = walk-from 0 es os ns (rising d es a) b c (λ j h. refl) (λ j h. refl)
 
   -- what is delivered and tested, entry by entry
   module _ (F : Entry → Disposition) where
-    pub delivered-only : (es : List Entry) → deliveredBy (map (λ e. met e (F e)) es) ≡ map numberOf (only (λ e. isDelivered (F e)) es)
+    pub delivered-only : (es : List Entry) → deliveredBy (map (λ e. walkStep e (F e)) es) ≡ map numberOf (only (λ e. isDelivered (F e)) es)
     unfolding only
     delivered-only [] = refl
     delivered-only (e ∷ es) = by-test (isDelivered (F e)) (delivered-only es)
       where
-        left : List Met
-        left = only (λ m. isDelivered (m .disposition)) (map (λ x. met x (F x)) es)
+        left : List WalkStep
+        left = only (λ m. isDelivered (m .disposition)) (map (λ x. walkStep x (F x)) es)
 
         by-test : (t : Bool) → map (λ m. numberOf (m .entry)) left ≡ map numberOf (only (λ x. isDelivered (F x)) es)
-            → map (λ m. numberOf (m .entry)) (cond t (met e (F e) ∷ left) left) ≡ map numberOf (cond t (e ∷ only (λ x. isDelivered (F x)) es) (only (λ x. isDelivered (F x)) es))
+            → map (λ m. numberOf (m .entry)) (cond t (walkStep e (F e) ∷ left) left) ≡ map numberOf (cond t (e ∷ only (λ x. isDelivered (F x)) es) (only (λ x. isDelivered (F x)) es))
         by-test true r = ap (λ l. numberOf e ∷ l) r
         by-test false r = r
 
-    pub tallied : (f : Disposition → Bool) (es : List Entry) → tally (λ m. f (m .disposition)) (map (λ e. met e (F e)) es) ≡ tally (λ e. f (F e)) es
+    pub tallied : (f : Disposition → Bool) (es : List Entry) → tally (λ m. f (m .disposition)) (map (λ e. walkStep e (F e)) es) ≡ tally (λ e. f (F e)) es
     unfolding tally
     tallied f [] = refl
     tallied f (e ∷ es) = ap (λ n. cond (f (F e)) (suc n) n) (tallied f es)

@@ -4,7 +4,7 @@
 --   framesInto ..       the file whose frames are delivered, or the refusal: 18, the file's, 10
 --   walkOf o l x        the walk over the entries of the owner o in the list l beside the cover of the file x
 --   framesBy ms         how many numbers a walk delivers, and how many tests it makes; framesList: as numbers, `frameCounts` of them
---   framesAnswer        the same of the call
+--   framesAnswer        what the call answers: these counts, or the refusal
 --   rangesAfter         the range list afterwards: as the cover leaves it
 --   numbersAfter        the list of numbers afterwards: those delivered, from element 0 on; the other elements stay
 --   framesGiven r       what the call gave
@@ -25,7 +25,7 @@ use Rattle.index.specs.Exposures.{OwnerCapacity, isOwner}
 use Rattle.index.specs.Answers.{inList}
 use Rattle.frames.specs.declared.Frames.{Frames}
 use Rattle.frames.specs.declared.FramesOf.{FramesOf}
-use Rattle.frames.specs.Walk.{entriesOf, Met, walk, deliveredBy, testsOf}
+use Rattle.frames.specs.Walk.{entriesOf, WalkStep, walk, deliveredBy, testsOf}
 
 abbrev pub framesInto : ℕ → List ℤ → List ℕ → List ℕ → List ℕ → Answer File
 framesInto o l f ranges numbers =
@@ -35,10 +35,10 @@ framesInto o l f ranges numbers =
     (check Space (leb OwnerCapacity (length numbers))
     (inList l (gives x)))))
 
-unfoldable pub walkOf : ℕ → List ℤ → File → List Met
+unfoldable pub walkOf : ℕ → List ℤ → File → List WalkStep
 walkOf o l x = walk (x .depth) (holds (x .region)) (cover x .outer) (cover x .inner) (entriesOf o l)
 
-abbrev pub framesBy : List Met → Frames
+abbrev pub framesBy : List WalkStep → Frames
 framesBy ms = record { delivered = length (deliveredBy ms); tests = testsOf ms }
 
 -- as numbers, and how many they are

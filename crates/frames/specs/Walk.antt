@@ -1,17 +1,17 @@
--- The walk: one owner's entries and the two lists of a cover, side by side. Document 02, F-12: entries in an inner range are delivered unchecked, entries in
--- an outer range only are put to the point test, and the others are skipped. What is said here is said of every list of entries, in order or not, and of any
--- two lists of ranges; that in an index every entry meets the ranges that its identifier is in: htm/specs/Frames.
---   whole z            the number z; 0 where it is below 0, as in no entry of an index
+-- The walk: one owner's entries and the two lists of a cover, side by side. Document 02, F-12: entries in an inner range are delivered unchecked, entries that
+-- are only in an outer range go through the point test, and the others are skipped. The definitions are for every list of entries, in order or not, and
+-- for any two lists of ranges; that in an index every entry finds the ranges that its identifier is in: htm/specs/Frames.
+--   natural z          the number z; 0 where it is below 0, as in no entry of an index
 --   shortened d e      the identifier of the entry e, shortened to the depth d: divided by 4^(12 − d)
 --   numberOf e         the number of the entry e; 0 where it has more than 32 bits, as in no entry of an index
 --   entriesOf o l      the entries of the owner o in the list l, in their order; at most an owner's capacity, and in an index all of them
 --   ahead i rs         the ranges rs from the first one on that does not end below the identifier i
 --   begins i rs        the first of rs begins at i or below it
 --   dispositionOf ..   what becomes of an entry with the pointing p, by whether it is in an inner range, and in an outer one; `held` is the point test
---   Met                an entry, and what becomes of it
+--   WalkStep           an entry, and its disposition; walkStep e f: the one of these
 --   walk d held ..     the walk over the entries es beside the outer ranges os and the inner ranges ns, each of which it leaves behind as it passes
 --                      them
---   isDelivered f      the disposition f is that of an entry that is delivered; isTested f: of one that is put to the test
+--   isDelivered f      the disposition f is that of an entry that is delivered; isTested f: of one that is tested
 --   deliveredBy ms     the numbers of those delivered, in their order; testsOf ms: how many tests were made
 use Prim.Native.Nat.{ℕ, _-_, _/_, _^_}
 use mathlib.Core.Bool.{Bool, true, false, cond, _&&_, _||_}
@@ -31,15 +31,15 @@ use Rattle.frames.specs.declared.Disposition.the-variants.{Skipped, Unch
 
 -- ---- entries
 
-abbrev pub whole : ℤ → ℕ
-whole (pos n) = n
-whole (negsuc n) = 0
+abbrev pub natural : ℤ → ℕ
+natural (pos n) = n
+natural (negsuc n) = 0
 
 abbrev pub shortened : ℕ → Entry → ℕ
-shortened d e = whole (e .id) / 4 ^ (12 - d)
+shortened d e = natural (e .id) / 4 ^ (12 - d)
 
 abbrev pub numberOf : Entry → ℕ
-numberOf e = cond (isNumber (whole (e .number))) (whole (e .number)) 0
+numberOf e = cond (isNumber (natural (e .number))) (natural (e .number)) 0
 
 abbrev pub entriesOf : ℕ → List ℤ → List Entry
 entriesOf o l = take OwnerCapacity (only (isOwned o) (entriesIn l))
@@ -59,20 +59,20 @@ begins i (r ∷ rs) = leb (r .low) i
 abbrev pub dispositionOf : (Vec3 → Bool) → Bool → Bool → Vec3 → Disposition
 dispositionOf held inner outer p = cond inner Unchecked (cond outer (cond (isVector p && held p) Held Discarded) Skipped)
 
-pub record Met : Type 0 where
+pub record WalkStep : Type 0 where
   pub entry : Entry
   pub disposition : Disposition
 
-abbrev pub met : Entry → Disposition → Met
-met e f = record { entry = e; disposition = f }
+abbrev pub walkStep : Entry → Disposition → WalkStep
+walkStep e f = record { entry = e; disposition = f }
 
-unfoldable pub walk : ℕ → (Vec3 → Bool) → List Range → List Range → List Entry → List Met
+unfoldable pub walk : ℕ → (Vec3 → Bool) → List Range → List Range → List Entry → List WalkStep
 walk d held os ns [] = []
 walk d held os ns (e ∷ es) =
     let i = shortened d e in
     let outer = ahead i os in
     let inner = ahead i ns in
-    met e (dispositionOf held (begins i inner) (begins i outer) (e .pointing)) ∷ walk d held outer inner es
+    walkStep e (dispositionOf held (begins i inner) (begins i outer) (e .pointing)) ∷ walk d held outer inner es
 
 -- ---- what it delivers and counts
 
@@ -100,8 +100,8 @@ isDelivered f = isUnchecked f || isHeld f
 abbrev pub isTested : Disposition → Bool
 isTested f = isHeld f || isDiscarded f
 
-abbrev pub deliveredBy : List Met → List ℕ
+abbrev pub deliveredBy : List WalkStep → List ℕ
 deliveredBy ms = map (λ m. numberOf (m .entry)) (only (λ m. isDelivered (m .disposition)) ms)
 
-abbrev pub testsOf : List Met → ℕ
+abbrev pub testsOf : List WalkStep → ℕ
 testsOf ms = tally (λ m. isTested (m .disposition)) ms

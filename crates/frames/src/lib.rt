@@ -1,6 +1,6 @@
 // The frames of a region in a single pass: the rules in specs/, the laws in proofs/, and the types that they name. Document 02, F-12.
 
-// What becomes of an entry: in no outer range, in an inner range, and in an outer range only, where the point test decides.
+// What becomes of an entry: in no outer range it is skipped, in an inner range it is delivered unchecked, and in an outer range only the point test decides.
 pub enum Disposition {
     Skipped,
     Unchecked,
@@ -17,7 +17,7 @@ pub struct Frames {
     pub tests: u64,
 }
 
-// The same, or the number of the first check that failed.
+// These counts, or the number of the first check that failed.
 pub enum FramesOf {
     Gives(Frames),
     Refused(u32),

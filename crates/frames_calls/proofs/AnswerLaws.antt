@@ -23,15 +23,15 @@ use Rattle.index.specs.Exposures.{OwnerCapacity, isOwner}
 use Rattle.index.specs.Entries.{IndexLength}
 use Rattle.index.specs.Answers.{inList}
 use Rattle.frames.specs.declared.FramesOf.{FramesOf}
-use Rattle.frames.specs.Walk.{Met, deliveredBy}
+use Rattle.frames.specs.Walk.{WalkStep, deliveredBy}
 use Rattle.frames.specs.Answers.{framesInto, walkOf, framesBy, framesAnswer, rangesAfter, numbersAfter, FramesCall}
 use Rattle.frames_walk.specs.Steps.{countsBy}
-use Rattle.frames_walk.proofs.MetLaws.{length-delivered, tests-counted}
-use Rattle.frames_calls.specs.declared.Searched.{Searched}
+use Rattle.frames_walk.proofs.StepLaws.{length-delivered, tests-counted}
+use Rattle.frames_calls.specs.declared.SearchResult.{SearchResult}
 use Rattle.frames_calls.specs.Searches.{walkBeside, SearchesRows, deliveryOf}
 
 -- the counts of a walk are its answer
-counted : (ms : List Met) → deliveryOf (countsBy ms) ≡ framesBy ms
+counted : (ms : List WalkStep) → deliveryOf (countsBy ms) ≡ framesBy ms
 counted ms i = record { delivered = sym (length-delivered ms) i; tests = sym (tests-counted ms) i }
 
 module _ (o : ℕ) (l : List ℤ) (f ranges numbers : List ℕ) where
@@ -72,27 +72,27 @@ module _ (o : ℕ) (l : List ℤ) (f ranges numbers : List ℕ) where
       no-ranges s = refuses Space (checked (lt-leb (4 * B) (length ranges) (omega (arith, budget-same k))) refl refl)
 
       module _ (s : 4 * budgetOf (h .budget) ≤ length ranges) where
-        roomy : leb (4 * B) (length ranges) ≡ true
-        roomy = le-leb (4 * B) (length ranges) (omega (arith, budget-same k))
+        long-ranges : leb (4 * B) (length ranges) ≡ true
+        long-ranges = le-leb (4 * B) (length ranges) (omega (arith, budget-same k))
 
         pub no-numbers : length numbers < OwnerCapacity → FramesCall o l f ranges numbers (FramesOf.Refused Space) ranges numbers
-        no-numbers t = refuses Space (checked roomy (lt-leb OwnerCapacity (length numbers) t) refl)
+        no-numbers t = refuses Space (checked long-ranges (lt-leb OwnerCapacity (length numbers) t) refl)
 
         pub no-index : OwnerCapacity ≤ length numbers → length l < IndexLength → FramesCall o l f ranges numbers (FramesOf.Refused Space) ranges numbers
-        no-index t u = refuses Space (checked roomy (le-leb OwnerCapacity (length numbers) t) (lt-leb IndexLength (length l) u))
+        no-index t u = refuses Space (checked long-ranges (le-leb OwnerCapacity (length numbers) t) (lt-leb IndexLength (length l) u))
 
-        pub delivered : OwnerCapacity ≤ length numbers → IndexLength ≤ length l → (r : Searched) (lists left : List ℕ)
+        pub delivered : OwnerCapacity ≤ length numbers → IndexLength ≤ length l → (r : SearchResult) (lists left : List ℕ)
             → SearchesRows o l (h .depth) (budgetOf (h .budget)) rs (h .count) ranges numbers r lists left
-            → FramesCall o l f ranges numbers (FramesOf.Gives (deliveryOf (r .tests))) lists left
+            → FramesCall o l f ranges numbers (FramesOf.Gives (deliveryOf (r .dispositions))) lists left
         unfolding framesAnswer rangesAfter numbersAfter walkOf
         delivered t u r lists left w =
             let v = w (x .region) (k .rows) in
-            let e = checked roomy (le-leb OwnerCapacity (length numbers) t) (le-leb IndexLength (length l) u) in
+            let e = checked long-ranges (le-leb OwnerCapacity (length numbers) t) (le-leb IndexLength (length l) u) in
             let C = cover-same k in
             let hd = sym (k .header) in
             let walked : walkBeside o l (h .depth) (x .region) (listed (budgetOf (h .budget)) (cutting (h .depth) (x .region))) ≡ walkOf o l x = λ i. walkBeside o l (hd i .depth) (x .region) (C i) in
             record {
-              answer = ap gives (ap deliveryOf (v .tests ∙ ap countsBy walked) ∙ counted (walkOf o l x)) ∙ sym (ap (with-value (λ y. framesBy (walkOf o l y))) e);
+              answer = ap gives (ap deliveryOf (v .dispositions ∙ ap countsBy walked) ∙ counted (walkOf o l x)) ∙ sym (ap (with-value (λ y. framesBy (walkOf o l y))) e);
               lists-left =
                   v .lists-left ∙ (λ i. bothListed (sym (budget-same k) i) (C i) ranges)
                   ∙ sym (ap (λ a. stored (λ y before. bothListed (budgetOf (y .budget)) (cover y) before) a ranges) e);

@@ -24,14 +24,14 @@ use Rattle.index.specs.Exposures.{OwnerCapacity, only}
 use Rattle.index.specs.Entries.{isOwned, entriesIn}
 use Rattle.frames.specs.Walk.{entriesOf, walk, deliveredBy}
 use Rattle.frames_walk.specs.declared.Lists.{Lists}
-use Rattle.frames_walk.specs.declared.Tests.{Tests}
+use Rattle.frames_walk.specs.declared.DispositionCounts.{DispositionCounts}
 use Rattle.frames_walk.specs.Steps.{countsBy, Lent, Walks}
-use Rattle.frames_walk.proofs.MetLaws.{few-counted}
-use Rattle.frames_calls.specs.Searches.{walkBeside, Leaves}
+use Rattle.frames_walk.proofs.StepLaws.{few-counted}
+use Rattle.frames_calls.specs.Searches.{walkBeside, Searches}
 
--- ---- few entries are met
+-- ---- few entries are visited
 
-abbrev counting : Tests → ℕ
+abbrev counting : DispositionCounts → ℕ
 counting t = t .unchecked + t .held + t .discarded
 
 walk-length : (d : ℕ) (held : _) (os ns : List Range) (es : List Entry) → length (walk d held os ns es) ≡ length es
@@ -39,8 +39,8 @@ unfolding walk
 walk-length d held os ns [] = refl
 walk-length d held os ns (e ∷ es) = ap suc (walk-length d held _ _ es)
 
-few-met : (d : ℕ) (held : Vec3 → _) (os ns : List Range) (o : ℕ) (l : List ℤ) → counting (countsBy (walk d held os ns (entriesOf o l))) ≤ OwnerCapacity
-few-met d held os ns o l =
+few-visited : (d : ℕ) (held : Vec3 → _) (os ns : List Range) (o : ℕ) (l : List ℤ) → counting (countsBy (walk d held os ns (entriesOf o l))) ≤ OwnerCapacity
+few-visited d held os ns o l =
     let es = only (isOwned o) (entriesIn l) in
     let ms = walk d held os ns (entriesOf o l) in
     omega (arith, few-counted ms, walk-length d held os ns (entriesOf o l), length-take OwnerCapacity es, min-le-left OwnerCapacity (length es))
@@ -78,8 +78,8 @@ module _ (d b : ℕ) (g : Region) (one : 1 ≤ b) (ranges lists : List ℕ) (spa
   inner-list : rangesIn (c .inner) (drop (2 * b) lists) ≡ C .inner
   inner-list = (λ i. rangesIn (counts i .inner) (drop (2 * b) (list i))) ∙ inner-back b C ranges space outer-short
 
-  pub searched : (o : ℕ) (l : List ℤ) (n : ℕ) (rs : List ℤ) → RowsOf g n rs → (span : ℕ) → span ≡ 4 ^ (12 - d) → (numbers left : List ℕ) (t : Tests)
-      → Walks o l (listsOf c b span) lists rs n numbers t left → Leaves o l d b g ranges numbers (record { counts = c; tests = t }) lists left
+  pub searched : (o : ℕ) (l : List ℤ) (n : ℕ) (rs : List ℤ) → RowsOf g n rs → (span : ℕ) → span ≡ 4 ^ (12 - d) → (numbers left : List ℕ) (t : DispositionCounts)
+      → Walks o l (listsOf c b span) lists rs n numbers t left → Searches o l d b g ranges numbers (record { counts = c; dispositions = t }) lists left
   searched o l n rs k span e numbers left t w =
       let v = w d e in
       let same : walk d (λ p. rowsHold p n rs) (rangesIn (c .outer) lists) (rangesIn (c .inner) (drop (2 * b) lists)) (entriesOf o l) ≡ walkBeside o l d g C =
@@ -87,7 +87,7 @@ module _ (d b : ℕ) (g : Region) (one : 1 ≤ b) (ranges lists : List ℕ) (spa
       record {
         counts = counts;
         lists-left = list;
-        tests = v .tests ∙ ap countsBy same;
+        dispositions = v .dispositions ∙ ap countsBy same;
         numbers-left = v .numbers ∙ ap (λ ms. put 0 (deliveredBy ms) numbers) same;
-        few = subst (λ q. counting q ≤ OwnerCapacity) (sym (v .tests ∙ ap countsBy same)) (few-met d (holds g) (C .outer) (C .inner) o l);
+        few = subst (λ q. counting q ≤ OwnerCapacity) (sym (v .dispositions ∙ ap countsBy same)) (few-visited d (holds g) (C .outer) (C .inner) o l);
       }

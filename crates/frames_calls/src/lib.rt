@@ -5,8 +5,8 @@ use answer::SPACE;
 use covering::Counts;
 use frames::Frames;
 use frames::FramesOf;
+use frames_walk::DispositionCounts;
 use frames_walk::Lists;
-use frames_walk::Tests;
 use index::INDEX_LENGTH;
 use index::OWNER_CAPACITY;
 use index::OWNERS;
@@ -27,9 +27,9 @@ ghost use Rattle.covering_calls.specs.Decoded.{Decoded};
 ghost use Rattle.frames_calls.specs.Searches.{SearchesRows, FileIs, deliveryOf};
 
 // What a search gives: the counts of the cover, and what became of the entries.
-pub struct Searched {
+pub struct SearchResult {
     pub counts: Counts,
-    pub tests: Tests,
+    pub dispositions: DispositionCounts,
 }
 
 // The cover of the region of `count` rows in the range list, and the walk over an owner's entries beside it, with the numbers delivered.
@@ -42,7 +42,7 @@ pub fn search(
     count: usize,
     ranges: &mut [u64],
     numbers: &mut [u32],
-) -> Searched
+) -> SearchResult
     requires { ⌜ (1 ≤ depth) × (depth ≤ 12) × SomeRows count (now rows) ⌝ }
     requires { ⌜ (1 ≤ budget) × (4 * budget ≤ length (now ranges)) ⌝ }
     requires { ⌜ (IndexLength ≤ length (now index)) × (OwnerCapacity ≤ length (now numbers)) ⌝ }
@@ -56,15 +56,15 @@ pub fn search(
         from: 2 * budget,
         span: covering_calls::power(MAX_DEPTH - depth),
     };
-    let tests = frames_walk::walk(index, owner, ranges, lists, rows, count, numbers);
-    Searched {
+    let dispositions = frames_walk::walk(index, owner, ranges, lists, rows, count, numbers);
+    SearchResult {
         counts: counts,
-        tests: tests,
+        dispositions: dispositions,
     }
 }
 
 // How many numbers were delivered, and how many tests made.
-fn delivery(t: Tests) -> Frames
+fn delivery(t: DispositionCounts) -> Frames
     requires { ⌜ t .unchecked + t .held + t .discarded ≤ OwnerCapacity ⌝ }
     ensures { λ r. ⌜ r ≡ deliveryOf t ⌝ }
 {
@@ -109,7 +109,7 @@ fn frames_in(
         ranges,
         numbers,
     );
-    FramesOf::Gives(delivery(made.tests))
+    FramesOf::Gives(delivery(made.dispositions))
 }
 
 // The numbers of an owner's entries that the region of a file holds, from element 0 of `numbers` on, and the cover's lists in `ranges`; refusals 18,

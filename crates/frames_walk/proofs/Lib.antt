@@ -1,4 +1,4 @@
 pub mod NumberLaws
 pub mod RangeLaws
-pub mod MetLaws
+pub mod StepLaws
 pub mod WalkLaws

@@ -18,7 +18,7 @@ ghost use Rattle.index.specs.Entries.{IndexLength};
 ghost use Rattle.region_points.specs.Points.{rowsHold};
 ghost use Rattle.frames.specs.Walk as rule;
 ghost use Rattle.frames.specs.Walk.{dispositionOf, isDelivered, numberOf};
-ghost use Rattle.frames_walk.specs.Steps.{noted, Lent, Fits, Meets, Goes, Walks};
+ghost use Rattle.frames_walk.specs.Steps.{withDisposition, Lent, Fits, VisitsEntry, VisitsIfOwned, Walks};
 
 // The two lists of a cover in a lent list: how many ranges the outer and the inner one have, the element at which the inner one begins, and how many
 // identifiers of depth 12 are one of theirs.
@@ -30,23 +30,23 @@ pub struct Lists {
 }
 
 // How many entries were delivered unchecked, tested and held, and tested and discarded.
-pub struct Tests {
+pub struct DispositionCounts {
     pub unchecked: u64,
     pub held: u64,
     pub discarded: u64,
 }
 
-// How far a walk is: how many of the owner's entries it has met, how many ranges of each list it has left behind, and what it has counted.
+// How far a walk is: how many of the owner's entries it has visited, how many ranges of each list it has left behind, and what it has counted.
 pub struct WalkState {
-    pub met: usize,
+    pub visited: usize,
     pub outer: usize,
     pub inner: usize,
-    pub tests: Tests,
+    pub dispositions: DispositionCounts,
 }
 
 // A number that is not below 0; 0 for any other.
-fn whole(z: i64) -> u64
-    ensures { λ r. ⌜ (r ≡ rule.whole z) × (r < 2 ^ 63) ⌝ }
+fn natural(z: i64) -> u64
+    ensures { λ r. ⌜ (r ≡ rule.natural z) × (r < 2 ^ 63) ⌝ }
 {
     if z < 0 { 0 } else { z as u64 }
 }
@@ -54,19 +54,19 @@ fn whole(z: i64) -> u64
 // The identifier of an entry at a depth of which one is `span` of depth 12.
 fn shortened(e: Entry, span: u64) -> u64
     requires { ⌜ 0 < span ⌝ }
-    ensures { λ r. ⌜ r ≡ rule.whole (e .id) / span ⌝ }
+    ensures { λ r. ⌜ r ≡ rule.natural (e .id) / span ⌝ }
 {
-    whole(e.id) / span
+    natural(e.id) / span
 }
 
-// So many numbers have 32 bits.
+// How many numbers of 32 bits there are.
 const NUMBERS: u64 = 4294967296;
 
 // The number of an entry, where it has 32 bits; else 0.
 fn number_of(e: Entry) -> u32
     ensures { λ r. ⌜ r ≡ numberOf e ⌝ }
 {
-    let n = whole(e.number);
+    let n = natural(e.number);
     if n < NUMBERS { n as u32 } else { 0 }
 }
 
@@ -120,24 +120,24 @@ fn disposition_of(
     }
 }
 
-// One entry more with its disposition.
-fn count_disposition(t: Tests, disposition: Disposition) -> Tests
+// Counts an entry by its disposition.
+fn count_disposition(t: DispositionCounts, disposition: Disposition) -> DispositionCounts
     requires { ⌜ t .unchecked + t .held + t .discarded ≤ OwnerCapacity ⌝ }
-    ensures { λ r. ⌜ r ≡ noted t disposition ⌝ }
+    ensures { λ r. ⌜ r ≡ withDisposition t disposition ⌝ }
 {
     match disposition {
         Disposition::Skipped => t,
-        Disposition::Unchecked => Tests {
+        Disposition::Unchecked => DispositionCounts {
             unchecked: t.unchecked + 1,
             held: t.held,
             discarded: t.discarded,
         },
-        Disposition::Held => Tests {
+        Disposition::Held => DispositionCounts {
             unchecked: t.unchecked,
             held: t.held + 1,
             discarded: t.discarded,
         },
-        Disposition::Discarded => Tests {
+        Disposition::Discarded => DispositionCounts {
             unchecked: t.unchecked,
             held: t.held,
             discarded: t.discarded + 1,
@@ -172,10 +172,10 @@ fn visit_entry(
     count: usize,
     numbers: &mut [u32],
 ) -> WalkState
-    requires { ⌜ Lent lists (now ranges) × Fits lists at × (at .met < OwnerCapacity) × (OwnerCapacity ≤ length (now numbers)) ⌝ }
+    requires { ⌜ Lent lists (now ranges) × Fits lists at × (at .visited < OwnerCapacity) × (OwnerCapacity ≤ length (now numbers)) ⌝ }
     requires { ⌜ 5 * count ≤ 2560 ⌝ }
-    ensures { λ r. ⌜ Meets lists (now (ranges .entry)) (now (rows .entry)) count e at (now (numbers .entry)) r (now (numbers .exit)) ⌝ }
-    ensures { λ r. ⌜ Fits lists r × (r .met ≡ at .met + 1) × (length (now (numbers .exit)) ≡ length (now (numbers .entry))) ⌝ }
+    ensures { λ r. ⌜ VisitsEntry lists (now (ranges .entry)) (now (rows .entry)) count e at (now (numbers .entry)) r (now (numbers .exit)) ⌝ }
+    ensures { λ r. ⌜ Fits lists r × (r .visited ≡ at .visited + 1) × (length (now (numbers .exit)) ≡ length (now (numbers .entry))) ⌝ }
 {
     let id = shortened(e, lists.span);
     let from = lists.from;
@@ -188,22 +188,22 @@ fn visit_entry(
         count,
         e.pointing,
     );
-    let tests = at.tests;
+    let dispositions = at.dispositions;
     deliver(
         numbers,
-        (tests.unchecked + tests.held) as usize,
+        (dispositions.unchecked + dispositions.held) as usize,
         e,
         disposition,
     );
     WalkState {
-        met: at.met + 1,
+        visited: at.visited + 1,
         outer: outer,
         inner: inner,
-        tests: count_disposition(tests, disposition),
+        dispositions: count_disposition(dispositions, disposition),
     }
 }
 
-// The next entry, whoever's it is; the owner's are met, up to an owner's capacity.
+// The next entry, of either owner; the owner's are visited, up to an owner's capacity.
 fn visit_if_owned(
     e: Entry,
     owner: u32,
@@ -216,13 +216,13 @@ fn visit_if_owned(
 ) -> WalkState
     requires { ⌜ Lent lists (now ranges) × Fits lists at × (OwnerCapacity ≤ length (now numbers)) ⌝ }
     requires { ⌜ 5 * count ≤ 2560 ⌝ }
-    ensures { λ r. ⌜ Goes owner lists (now (ranges .entry)) (now (rows .entry)) count e at (now (numbers .entry)) r (now (numbers .exit)) ⌝ }
+    ensures { λ r. ⌜ VisitsIfOwned owner lists (now (ranges .entry)) (now (rows .entry)) count e at (now (numbers .entry)) r (now (numbers .exit)) ⌝ }
     ensures { λ r. ⌜ Fits lists r × (length (now (numbers .exit)) ≡ length (now (numbers .entry))) ⌝ }
 {
     if !index_entries::is_owned(e, owner) {
         return at;
     }
-    if OWNER_CAPACITY <= at.met {
+    if OWNER_CAPACITY <= at.visited {
         return at;
     }
     visit_entry(e, at, ranges, lists, rows, count, numbers)
@@ -237,7 +237,7 @@ pub fn walk(
     rows: &[i32; 5 * HALFSPACES],
     count: usize,
     numbers: &mut [u32],
-) -> Tests
+) -> DispositionCounts
     requires { ⌜ (IndexLength ≤ length (now index)) × Lent lists (now ranges) × (OwnerCapacity ≤ length (now numbers)) ⌝ }
     requires { ⌜ 5 * count ≤ 2560 ⌝ }
     ensures { λ r. ⌜ Walks owner (now (index .entry)) lists (now (ranges .entry)) (now (rows .entry)) count (now (numbers .entry)) r
@@ -245,10 +245,10 @@ pub fn walk(
 {
     let n = index_entries::count_in(index);
     let mut at = WalkState {
-        met: 0,
+        visited: 0,
         outer: 0,
         inner: 0,
-        tests: Tests {
+        dispositions: DispositionCounts {
             unchecked: 0,
             held: 0,
             discarded: 0,
@@ -268,5 +268,5 @@ pub fn walk(
         );
         i += 1;
     }
-    at.tests
+    at.dispositions
 }

@@ -88,7 +88,7 @@ answers-kept p f before c h cov tst =
 
 -- ---- of the calls
 
--- The same of values that meet the contracts, `after` in the lent list: there is an identifier that the lookup gives, and the promise holds of all of them.
+-- As above, for values that meet the contracts, `after` in the lent list: there is an identifier that the lookup gives, and the promise holds of all of them.
 pub calls-kept : (p : Vec3) (f before after : List ℕ) (c : Counts) (held : Bool)
     → coverGiven (CoverOf.Gives c) ≡ coverAnswer f before → after ≡ coverAfter f before → heldGiven (HeldOf.Gives held) ≡ pointTest f p
     → (x : File) × Accepted f x × (i : ℕ) × ((found : Number) → numberOf found ≡ lookup p (x .depth) → found ≡ Number.Gives i)

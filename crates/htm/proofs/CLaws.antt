@@ -33,18 +33,18 @@ use Rattle.covering.specs.declared.Counts.{Counts}
 use Rattle.covering.specs.Cover.{coverCounts, countsList}
 use Rattle.htm.specs.Answers.{coverInto, coverAnswer, coverAfter}
 use Rattle.index.specs.declared.Entry.{Entry}
-use Rattle.index.specs.Entries.{Width, numbers, Placed}
+use Rattle.index.specs.Entries.{Width, numbers, Slot}
 use Rattle.index.specs.Answers.{entryAnswer}
-use Rattle.htm_abi.specs.ShortLists.{refusalOf}
+use Rattle.htm_abi.specs.ShortLists.{fileRefusalOrSpace}
 use Rattle.htm_abi.specs.Values.{foundForC, statusOf, cornersList, headerList}
 use Rattle.htm.specs.CalledFromC.{entryForC, entryAfterC, cornersForC, cornersAfterC, readForC, rowsAfterC, headerAfterC, coverForC, coverAfterC, countsAfterC, inBoth, contentsList, contentsForC, contentsAfterC}
 use Rattle.htm.proofs.RoomLaws.{room-short, room-enough, refused-by, in-any-case}
 
 -- ---- lengths are small: 32 bytes a name, 10508 a file
 
--- a list that has room is the list that was to be written
-roomy : (a : Answer (List ℕ)) (before : List ℕ) (n : ℕ) → with-value length (then a (λ s. room (length s) before s)) ≡ gives n → (s : List ℕ) × (a ≡ gives s) × (length s ≡ n)
-roomy a before n e =
+-- what is given, of a list with room, is the length of what is written
+room-written : (a : Answer (List ℕ)) (before : List ℕ) (n : ℕ) → with-value length (then a (λ s. room (length s) before s)) ≡ gives n → (s : List ℕ) × (a ≡ gives s) × (length s ≡ n)
+room-written a before n e =
     let v = value-gives length (then a (λ s. room (length s) before s)) n e in
     (v .0, room-gives before length a (v .0) (v .1), v .2)
 
@@ -52,7 +52,7 @@ roomy a before n e =
 pub name-short : (i : ℕ) (before : List ℕ) (n : ℕ) → nameAnswer i before ≡ gives n → n ≤ 32
 unfolding nameAnswer nameOf
 name-short i before n e =
-    let t = roomy (nameOf i) before n e in
+    let t = room-written (nameOf i) before n e in
     let s = same-value (nameAt (depthOf i) i) (t .0) (check-gives Name (isIdentifier i) (gives (nameAt (depthOf i) i)) (t .0) (t .1)) in
     omega (arith, t .2, ap length s, digits-length (depthOf i) i, depth-high i)
 
@@ -60,7 +60,7 @@ name-short i before n e =
 pub file-short : (s : Style) (d b : ℕ) (rs : List ℤ) (before : List ℕ) (n : ℕ) → fileAnswer (writeIn s d b rs) before ≡ gives n → n ≤ 10508
 unfolding fileAnswer
 file-short s d b rs before n e =
-    let t = roomy (writeIn s d b rs) before n e in
+    let t = room-written (writeIn s d b rs) before n e in
     let w = write-back s d b rs (t .0) (t .1) in
     omega (arith, t .2, accepted-short (t .0) _ (w .2 .1))
 
@@ -68,7 +68,7 @@ file-short s d b rs before n e =
 pub converted-short : (s : Style) (f before : List ℕ) (n : ℕ) → fileAnswer (convert s f) before ≡ gives n → n ≤ 10508
 unfolding fileAnswer convert
 converted-short s f before n e =
-    let t = roomy (convert s f) before n e in
+    let t = room-written (convert s f) before n e in
     let x = value-gives (inStyle s f) (read f) (t .0) (t .1) in
     omega (arith, t .2, accepted-short (t .0) (x .0) (converted s f (t .0) (t .1) .1 ∙ x .1))
 
@@ -85,20 +85,20 @@ module _ (i : ℕ) (l out : List ℤ) where
   entry-refused n e = (cc, cc)
 
   -- no entry there: nothing is written
-  pub no-entry : gives Placed.nothing ≡ entryAnswer i l → Enters (pos 0) out
+  pub no-entry : gives Slot.nothing ≡ entryAnswer i l → Enters (pos 0) out
   unfolding entryForC entryAfterC
   no-entry e = (cc, cc)
 
-  module _ (x : Entry) (e : gives (Placed.found x) ≡ entryAnswer i l) where
+  module _ (x : Entry) (e : gives (Slot.found x) ≡ entryAnswer i l) where
     -- an entry, and too short a list: 10
     pub no-entry-room : length out < Width → Enters (foundForC (refused Space)) out
     unfolding entryForC entryAfterC
-    no-entry-room h = let short = room-short Width out h (gives (Placed.found x)) in (cc, cc)
+    no-entry-room h = let short = room-short Width out h (gives (Slot.found x)) in (cc, cc)
 
     -- an entry, and a list that is long enough
     pub entry-put : Width ≤ length out → Enters (pos 1) (put 0 (numbers x) out)
     unfolding entryForC entryAfterC
-    entry-put h = let enough = room-enough Width out h (gives (Placed.found x)) in (cc, cc)
+    entry-put h = let enough = room-enough Width out h (gives (Slot.found x)) in (cc, cc)
 
 -- ---- corners
 
@@ -140,10 +140,10 @@ module _ (f : List ℕ) (rs : List ℤ) (header : List ℕ) where
   Reads status xs ns = (status ≡ statusOf (readForC f rs header)) × ((xs ≡ rowsAfterC f rs header) × (ns ≡ headerAfterC f rs header))
 
   -- too short a list for the header: the file's refusal, or 10
-  pub short-header : length header < 3 → Reads (statusOf (refusalOf f)) rs header
+  pub short-header : length header < 3 → Reads (statusOf (fileRefusalOrSpace f)) rs header
   unfolding readForC rowsAfterC headerAfterC
   short-header h =
-      let both = refused-by 3 header h (readInto f rs) (refusalOf f) (simp in-any-case) in
+      let both = refused-by 3 header h (readInto f rs) (fileRefusalOrSpace f) (simp in-any-case) in
       let refuses = both .by-call in
       (ap statusOf (both .by-checks) ∙ (cc), (cc, cc))
 
@@ -195,10 +195,10 @@ module _ (f out counts : List ℕ) where
   Covers status xs ns = (status ≡ statusOf (coverForC f out counts)) × ((xs ≡ coverAfterC f out counts) × (ns ≡ countsAfterC f out counts))
 
   -- too short a list for the counts: the file's refusal, or 10
-  pub short-counts : length counts < coverCounts → Covers (statusOf (refusalOf f)) out counts
+  pub short-counts : length counts < coverCounts → Covers (statusOf (fileRefusalOrSpace f)) out counts
   unfolding coverForC coverAfterC countsAfterC
   short-counts h =
-      let both = refused-by coverCounts counts h (coverInto f out) (refusalOf f) (simp in-any-case) in
+      let both = refused-by coverCounts counts h (coverInto f out) (fileRefusalOrSpace f) (simp in-any-case) in
       let refuses = both .by-call in
       (ap statusOf (both .by-checks) ∙ (cc), (cc, cc))
 

@@ -15,15 +15,15 @@ use Rattle.region.proofs.CallsBack.{file-given}
 use Rattle.covering.specs.Cover.{cover, countsOf, coverCounts, countsList}
 use Rattle.htm.specs.Answers.{coverAnswer, bothLists, coverAfter}
 use Rattle.htm.specs.CalledFromC.{inBoth, coverForC, coverAfterC, countsAfterC}
-use Rattle.htm.specs.EitherForm.{Alike, SameCoverOfCalls}
+use Rattle.htm.specs.EitherForm.{SameAnswers, SameCoverOfCalls}
 use Rattle.region.specs.declared.Style.{Style}
 
 pub same-cover : (s : Style) (f h : List ℕ) → convert s f ≡ gives h → with-value cover (read h) ≡ with-value cover (read f)
 same-cover s f h e = ap (with-value cover) (converted s f h e .1)
 
-alike : (f h : List ℕ) → read h ≡ read f → Alike h f
+same-answers : (f h : List ℕ) → read h ≡ read f → SameAnswers h f
 unfolding coverAnswer coverAfter coverForC coverAfterC countsAfterC pointTest
-alike f h e =
+same-answers f h e =
     let into : List ℕ → Answer File → Answer File = λ out a. then a (λ x. room (4 * budgetOf (x .budget)) out x) in
     let both : List ℕ → List ℕ → Answer File → Answer File = λ out counts a. inBoth coverCounts (into out a) counts in (
       (λ out. (ap (λ a. with-value (λ x. countsOf (cover x)) (into out a)) e, ap (λ a. stored bothLists (into out a) out) e)),
@@ -35,10 +35,10 @@ alike f h e =
       (λ p. ap (λ a. then a (λ x. check Vector (isVector p) (gives (holds (x .region) p)))) e),
     )
 
-pub same-cover-of-answers : (s : Style) (f h : List ℕ) → convert s f ≡ gives h → Alike h f
-same-cover-of-answers s f h e = alike f h (converted s f h e .1)
+pub same-cover-of-answers : (s : Style) (f h : List ℕ) → convert s f ≡ gives h → SameAnswers h f
+same-cover-of-answers s f h e = same-answers f h (converted s f h e .1)
 
 pub same-cover-of-calls : SameCoverOfCalls
 same-cover-of-calls s f lent n e =
     let w = file-given (convert s f) lent n e in
-    subst (λ h. Alike h f) (w .2) (same-cover-of-answers s f (w .0) (w .1))
+    subst (λ h. SameAnswers h f) (w .2) (same-cover-of-answers s f (w .0) (w .1))

@@ -10,17 +10,17 @@ use Rattle.answer.specs.Lent.{put, stored}
 use Rattle.index.specs.Exposures.{isOwner}
 use Rattle.frames.specs.declared.Frames.{Frames}
 use Rattle.frames.specs.Answers.{framesInto, framesList, frameCounts, framesAnswer, rangesAfter, numbersAfter}
-use Rattle.htm_abi.specs.ShortLists.{refusalOf}
+use Rattle.htm_abi.specs.ShortLists.{fileRefusalOrSpace}
 use Rattle.htm_abi.specs.Values.{statusOf}
 use Rattle.htm.specs.CalledFromC.{framesForC, rangesAfterC, numbersAfterC, framesAfterC, FramesCallC}
 use Rattle.htm.proofs.RoomLaws.{room-enough, refused-by, in-any-case}
 
 module _ (o : ℕ) (l : List ℤ) (f ranges numbers counts : List ℕ) where
   -- too short a list for the counts: the refusal of the owner or the file, or 10
-  pub short-frames : length counts < frameCounts → FramesCallC o l f ranges numbers counts (statusOf (check Owner (isOwner o) (refusalOf f))) ranges numbers counts
+  pub short-frames : length counts < frameCounts → FramesCallC o l f ranges numbers counts (statusOf (check Owner (isOwner o) (fileRefusalOrSpace f))) ranges numbers counts
   unfolding framesForC rangesAfterC numbersAfterC framesAfterC
   short-frames h =
-      let both = refused-by frameCounts counts h (framesInto o l f ranges numbers) (check Owner (isOwner o) (refusalOf f)) (simp in-any-case) in
+      let both = refused-by frameCounts counts h (framesInto o l f ranges numbers) (check Owner (isOwner o) (fileRefusalOrSpace f)) (simp in-any-case) in
       let refuses = both .by-call in
       record { status-is = ap statusOf (both .by-checks) ∙ (cc); ranges-left = cc; numbers-left = cc; counts-left = cc }
 

@@ -40,7 +40,7 @@ use Rattle.index.proofs.OrderLaws.{eqZ-eq, only-ascends}
 use Rattle.index.proofs.TallyLaws.{some-tally}
 use Rattle.frames.specs.declared.Disposition.{Disposition}
 use Rattle.frames.specs.declared.Frames as declared
-use Rattle.frames.specs.Walk.{whole, shortened, numberOf, entriesOf, dispositionOf, Met, met, walk, isDelivered, isTested, deliveredBy, testsOf}
+use Rattle.frames.specs.Walk.{natural, shortened, numberOf, entriesOf, dispositionOf, WalkStep, walkStep, walk, isDelivered, isTested, deliveredBy, testsOf}
 use Rattle.frames.specs.Answers.{framesInto, walkOf, framesBy, framesAnswer, rangesAfter, numbersAfter}
 use Rattle.frames.proofs.WalkLaws.{dispositionIn, walk-all, delivered-only, tallied, only-same, tally-same, only-every, only-length}
 use Rattle.htm.specs.Promise.{CoverSound}
@@ -56,9 +56,9 @@ record Filed (e : Entry) : Type 0 where
   vector : isVector (e .pointing) ≡ true
   id : e .id ≡ pos (identifier (e .pointing) 12)
 
-number-whole : (z : ℤ) → leZ (pos 0) z ≡ true → isNumber (natAbs z) ≡ true → pos (cond (isNumber (whole z)) (whole z) 0) ≡ z
-number-whole (pos n) l e = ap (λ t. pos (cond t n 0)) e
-number-whole (negsuc n) l e = absurd (false≢true l)
+number-natural : (z : ℤ) → leZ (pos 0) z ≡ true → isNumber (natAbs z) ≡ true → pos (cond (isNumber (natural z)) (natural z) 0) ≡ z
+number-natural (pos n) l e = ap (λ t. pos (cond t n 0)) e
+number-natural (negsuc n) l e = absurd (false≢true l)
 
 filed : (e : Entry) → isFiled e ≡ true → Filed e
 filed e h =
@@ -70,7 +70,7 @@ filed e h =
     let front = and-left (low && few && own && vec) same h in
     let numbered = and-left (low && few) own (and-left (low && few && own) vec front) in
     record {
-      number = number-whole (e .number) (and-left low few numbered) (and-right low few numbered);
+      number = number-natural (e .number) (and-left low few numbered) (and-right low few numbered);
       vector = and-right (low && few && own) vec front;
       id = eqZ-eq (e .id) (pos (identifier (e .pointing) 12)) (and-right (low && few && own && vec) same h);
     }
@@ -115,7 +115,7 @@ module _ (d b : ℕ) (g : Region) (low : 1 ≤ d) (high : d ≤ 12) where
   by-region e h =
       let f = filed e h in
       let p = e .pointing in
-      let s : shortened d e ≡ identifier p d = ap (λ z. whole z / 4 ^ (12 - d)) (f .id) ∙ shorter p d low high in
+      let s : shortened d e ≡ identifier p d = ap (λ z. natural z / 4 ^ (12 - d)) (f .id) ∙ shorter p d low high in
       let k : CoverSound (shortened d e) os ns (budgetOf b) (holds g p) = subst (λ i. CoverSound i os ns (budgetOf b) (holds g p)) (sym s) (kept d b g p (vector-unit-length p (f .vector))) in
       delivered-held (holds g) p (inSome (shortened d e) ns) (inSome (shortened d e) os) (holds g p) (f .vector) refl (k .inner-held) (λ t. once-some (shortened d e) os (k .held-outer t))
 
@@ -124,7 +124,7 @@ module _ (d b : ℕ) (g : Region) (low : 1 ≤ d) (high : d ≤ 12) where
     abbrev F : Entry → Disposition
     F e = dispositionIn d (holds g) os ns e
 
-    each : walk d (holds g) os ns es ≡ map (λ e. met e (F e)) es
+    each : walk d (holds g) os ns es ≡ map (λ e. walkStep e (F e)) es
     each = walk-all d (holds g) os ns es up (outer-proper d b g .ascends) (inner-proper d b g .ascends)
 
     exactly : map pos (deliveredBy (walk d (holds g) os ns es)) ≡ map (λ e. e .number) (only (λ e. holds g (e .pointing)) es)
@@ -160,7 +160,7 @@ pub delivers : (d b : ℕ) (g : Region) → 1 ≤ d → d ≤ 12 → (l : List �
     → Delivers o l g d (coverOf d b g .outer) (coverOf d b g .inner) (deliveredBy (walk d (holds g) (coverOf d b g .outer) (coverOf d b g .inner) (entriesOf o l)))
     (testsOf (walk d (holds g) (coverOf d b g .outer) (coverOf d b g .inner) (entriesOf o l)))
 delivers d b g low high l i o =
-    let w : List Entry → List Met = λ es. walk d (holds g) (coverOf d b g .outer) (coverOf d b g .inner) es in
+    let w : List Entry → List WalkStep = λ es. walk d (holds g) (coverOf d b g .outer) (coverOf d b g .inner) es in
     record {
       exactly = ap (λ es. map pos (deliveredBy (w es))) (all-own l i o) ∙ exactly d b g low high (entriesBy o l) (own-ascends l i o) (own-filed l i o);
       counted = ap (λ es. testsOf (w es)) (all-own l i o) ∙ counted d b g low high (entriesBy o l) (own-ascends l i o) (own-filed l i o);
@@ -194,13 +194,13 @@ into o l f ranges numbers x e =
     let first : File → Answer File = λ y. check Space (leb (4 * budgetOf (y .budget)) (length ranges)) (second y) in
     let t = then-gives (read f) first x (check-gives Owner (isOwner o) (then (read f) first) x e) in
     let y = t .0 in
-    let room = leb (4 * budgetOf (y .budget)) (length ranges) in
-    let b = check-gives Space room (second y) x (t .2) in
+    let long = leb (4 * budgetOf (y .budget)) (length ranges) in
+    let b = check-gives Space long (second y) x (t .2) in
     let c = check-gives Space (leb OwnerCapacity (length numbers)) (third y) x b in
     let same : y ≡ x = same-value y x (check-gives Space (leb IndexLength (length l)) (gives y) x c) in
     record {
       accepted = t .1 ∙ ap gives same;
-      long = subst (λ z. leb (4 * budgetOf (z .budget)) (length ranges) ≡ true) same (check-passed Space room (second y) x (t .2));
+      long = subst (λ z. leb (4 * budgetOf (z .budget)) (length ranges) ≡ true) same (check-passed Space long (second y) x (t .2));
     }
 
 -- what the cover of that file answers and leaves

@@ -18,17 +18,17 @@ use Rattle.covering.specs.Cover.{cover, bothListed}
 use Rattle.index.specs.declared.Entry.{Entry}
 use Rattle.index.specs.Entries.{IndexLength}
 use Rattle.index.specs.Exposures.{Call, OwnerCapacity, isOwner}
-use Rattle.frames.specs.Walk.{Met, walk, deliveredBy}
+use Rattle.frames.specs.Walk.{WalkStep, walk, deliveredBy}
 use Rattle.frames.specs.Answers.{framesBy, walkOf, framesAnswer, rangesAfter, numbersAfter}
 use Rattle.trial.specs.declared.Setting.{Setting}
 use Rattle.trial.specs.declared.Trial.{Trial}
 use Rattle.trial.specs.Trials.{resultOf, coverBy, walkBy, skyOf, choiceOf, trialOf}
 use Rattle.trial.specs.Answers.{checkSetting, roomFor, listsBy, trialAnswer, firstAfter, secondAfter}
 use Rattle.index.specs.HistoryCorrect.{IsIndex}
-use Rattle.index.specs.Apart.{Ran}
+use Rattle.index.specs.Noninterference.{Ran}
 use Rattle.index.proofs.HistoryKept.{history-kept}
-use Rattle.index.proofs.OwnersApart.{own-entries, same-entries}
-use Rattle.htm.specs.Histories.{FramesOfHistories, TrialsOfHistories, FramesApart, TrialsApart}
+use Rattle.index.proofs.Noninterference.{own-entries, same-entries}
+use Rattle.htm.specs.Histories.{FramesOfHistories, TrialsOfHistories, FramesNoninterference, TrialsNoninterference}
 use Rattle.htm.proofs.FramesKept.{frames-calls}
 use Rattle.htm.proofs.TrialsKept.{trials-answers}
 
@@ -43,34 +43,34 @@ trials-histories o h rs l f s t first second one two r ran c =
     let k = trials-answers o l f s t first second r (sym (c .answer)) in
     (own-entries o h rs l ran, (k .file, k .accepted, k .same-held (left-index h rs l ran)))
 
--- ---- apart
+-- ---- noninterference
 
 -- both lists are long enough to be an index
 both-long : (m n : List ℤ) → IsIndex m → IsIndex n → leb IndexLength (length m) ≡ leb IndexLength (length n)
 both-long m n i j = le-leb IndexLength (length m) (i .long) ∙ sym (le-leb IndexLength (length n) (j .long))
 
-pub frames-apart : FramesApart
+pub frames-noninterference : FramesNoninterference
 unfolding framesAnswer rangesAfter numbersAfter walkOf
-frames-apart o h g rs qs m n r q e f ranges numbers =
+frames-noninterference o h g rs qs m n r q e f ranges numbers =
     let long = both-long m n (left-index h rs m r) (left-index g qs n q) in
     let own = same-entries o h g rs qs m n r q e in
     let into : Bool → Answer File = λ b. check Owner (isOwner o) (then (read f) (λ x.
     check Space (leb (4 * budgetOf (x .budget)) (length ranges)) (check Space (leb OwnerCapacity (length numbers)) (check Space b (gives x))))) in
-    let met : List Entry → File → List Met = λ es x. walk (x .depth) (holds (x .region)) (cover x .outer) (cover x .inner) (take OwnerCapacity es) in
+    let steps : List Entry → File → List WalkStep = λ es x. walk (x .depth) (holds (x .region)) (cover x .outer) (cover x .inner) (take OwnerCapacity es) in
     record {
-      answer = λ i. with-value (λ x. framesBy (met (own i) x)) (into (long i));
+      answer = λ i. with-value (λ x. framesBy (steps (own i) x)) (into (long i));
       lists = λ i. stored (λ x before. bothListed (budgetOf (x .budget)) (cover x) before) (into (long i)) ranges;
-      left = λ i. stored (λ x before. put 0 (deliveredBy (met (own i) x)) before) (into (long i)) numbers;
+      left = λ i. stored (λ x before. put 0 (deliveredBy (steps (own i) x)) before) (into (long i)) numbers;
     }
 
 trial-by : List Entry → Region → Setting → Setting → Trial
 trial-by es g s t =
-    let w : Setting → List Met = λ u. walk (u .depth) (holds g) (coverBy u g .outer) (coverBy u g .inner) (take OwnerCapacity es) in
+    let w : Setting → List WalkStep = λ u. walk (u .depth) (holds g) (coverBy u g .outer) (coverBy u g .inner) (take OwnerCapacity es) in
     record { first = resultOf (coverBy s g) (w s); second = resultOf (coverBy t g) (w t); choice = choiceOf (skyOf s g) (skyOf t g) }
 
-pub trials-apart : TrialsApart
+pub trials-noninterference : TrialsNoninterference
 unfolding trialAnswer firstAfter secondAfter trialOf walkBy trial-by
-trials-apart o h g rs qs m n r q e f s t first second =
+trials-noninterference o h g rs qs m n r q e f s t first second =
     let long = both-long m n (left-index h rs m r) (left-index g qs n q) in
     let own = same-entries o h g rs qs m n r q e in
     let into : Bool → Answer File = λ b. check Owner (isOwner o) (then (read f) (λ x. checkSetting s (checkSetting t (roomFor s first (roomFor t second (check Space b (gives x))))))) in

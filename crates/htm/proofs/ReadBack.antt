@@ -1,5 +1,5 @@
 -- What a trial for C returns and leaves in its list of numbers is read back as what it answered: its numbers as its result, and a status that is not 0 as its
--- refusal, for no refusal has the number 0 (RefusalNumbers). So `htm_chosen` tells the part of that answer. Assumes nothing.
+-- refusal, for no refusal has the number 0 (RefusalNumbers). So `htm_chosen` gives the part of that answer. Assumes nothing.
 use Prim.Native.Nat.{ℕ, zero, suc, _≤_}
 use native.Mathlib.Omega.{arith}
 use mathlib.Core.Path.{_≡_, refl, sym, ap, subst, _∙_}

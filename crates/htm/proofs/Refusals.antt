@@ -1,5 +1,5 @@
--- Number 10 comes last, and a refusal changes no lent element: an answer with its room is the answer's refusal where it has one, and what is stored
--- for a refusal is the list as it was. Assumes nothing.
+-- Number 10 comes last, and a refusal changes no lent element: an answer with the check of a list's length is the answer's refusal where it has one, and
+-- what is stored for a refusal is the list as it was. Assumes nothing.
 use Prim.Native.Nat.{ℕ, _*_}
 use mathlib.Core.Path.{_≡_, refl, ap, _∙_}
 use mathlib.Core.Bool.{Bool, true, false}
@@ -44,7 +44,7 @@ frames-refused o l f ranges numbers n e =
     let rest : File → Answer File = λ x. check Space (leb (4 * budgetOf (x .budget)) (length ranges)) (check Space (leb OwnerCapacity (length numbers)) (inList l (gives x))) in
     check-then (isOwner o) (read f) rest ∙ ap (λ a. then a rest) e
 
--- the same of a trial: the rooms come behind the settings
+-- as above, for a trial: the lengths of the lists are checked behind the settings
 check-setting-then : (f : File → Answer File) (x : File) (a b c d : Bool)
     → check Depth a (check Budget b (check Depth c (check Budget d (f x)))) ≡ then (check Depth a (check Budget b (check Depth c (check Budget d (gives x))))) f
 check-setting-then f x false b c d = refl

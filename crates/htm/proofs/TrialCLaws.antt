@@ -17,7 +17,7 @@ use Rattle.trial.specs.declared.Setting.{Setting}
 use Rattle.trial.specs.declared.Trial.{Trial}
 use Rattle.trial.specs.declared.TrialOf.{TrialOf}
 use Rattle.trial.specs.Answers.{trialInto, trialAnswer, firstAfter, secondAfter, trialList, trialCounts}
-use Rattle.htm_abi.specs.ShortLists.{anywayRefused}
+use Rattle.htm_abi.specs.ShortLists.{trialRefusalOrSpace}
 use Rattle.htm_abi.specs.TrialValues.{trialIn, partList}
 use Rattle.htm_abi.specs.Values.{statusOf}
 use Rattle.htm.specs.TrialFromC.{trialForC, firstAfterC, secondAfterC, trialAfterC, TrialCallC, chosenForC, chosenAfterC}
@@ -28,10 +28,10 @@ use Rattle.htm.proofs.RoomLaws.{room-enough, refused-by, in-any-case}
 module _ (o : ℕ) (l : List ℤ) (f : List ℕ) (s t : Setting) (first second numbers : List ℕ) where
   -- too short a list for the result: the refusal of the other checks
   pub short-numbers : length numbers < trialCounts
-      → (n : ℕ) → anywayRefused o f s t ≡ refused n → TrialCallC o l f s t first second numbers (statusOf {A = File} (refused n)) first second numbers
+      → (n : ℕ) → trialRefusalOrSpace o f s t ≡ refused n → TrialCallC o l f s t first second numbers (statusOf {A = File} (refused n)) first second numbers
   unfolding trialForC firstAfterC secondAfterC trialAfterC
   short-numbers k n e =
-      let both = refused-by trialCounts numbers k (trialInto o l f s t first second) (anywayRefused o f s t) (simp in-any-case) in
+      let both = refused-by trialCounts numbers k (trialInto o l f s t first second) (trialRefusalOrSpace o f s t) (simp in-any-case) in
       let refuses = both .by-call in
       let by-checks = both .by-checks in
       record { status-is = cc; first-left = cc; second-left = cc; numbers-left = cc }
@@ -81,7 +81,7 @@ module _ (z : ℤ) (ns first second part : List ℕ) where
       unfolding chosenForC chosenAfterC
       no-part n =
           let enough = le-leb trialCounts (length ns) h in
-          let roomy = le-leb 2 (length part) k in
+          let long = le-leb 2 (length part) k in
           let other = ne-eqb (natAbs z) 0 n in
           (cc, cc)
 
@@ -90,6 +90,6 @@ module _ (z : ℤ) (ns first second part : List ℕ) where
       unfolding chosenForC chosenAfterC
       some-part n =
           let enough = le-leb trialCounts (length ns) h in
-          let roomy = le-leb 2 (length part) k in
+          let long = le-leb 2 (length part) k in
           let zero = eq-eqb (natAbs z) 0 n in
           (cc, cc)

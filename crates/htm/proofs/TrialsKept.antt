@@ -27,21 +27,21 @@ use Rattle.index.specs.Answers.{inList}
 use Rattle.index.specs.HistoryCorrect.{IsIndex}
 use Rattle.frames.specs.declared.Disposition.{Disposition}
 use Rattle.frames.specs.declared.Disposition.the-variants.{Skipped, Unchecked, Held, Discarded}
-use Rattle.frames.specs.Walk.{Met, isUnchecked, isHeld, isDelivered}
+use Rattle.frames.specs.Walk.{WalkStep, isUnchecked, isHeld, isDelivered}
 use Rattle.trial.specs.declared.Setting.{Setting}
 use Rattle.trial.specs.declared.Choice.the-variants.{First, Second}
 use Rattle.trial.specs.declared.Trial.{Trial}
 use Rattle.trial.specs.declared.TrialOf.{TrialOf}
 use Rattle.trial.specs.Trials.{coverBy, walkBy, skyOf, choiceOf, trialOf, isSetting}
 use Rattle.trial.specs.Answers.{trialInto, trialAnswer, listsBy, firstAfter, secondAfter, fitting, ofChoice, partOf, checkSetting, roomFor}
-use Rattle.htm.specs.Trials.{heldBy, SameHeld, chosenOf, Smaller, Tries, TrialsOfCalls}
+use Rattle.htm.specs.Trials.{heldBy, SameHeld, chosenOf, Smaller, TrialCorrect, TrialsOfCalls}
 use Rattle.htm.proofs.PromiseKept.{outer-proper}
 use Rattle.htm.proofs.FramesKept.{delivered-tally}
 
 -- ---- what is delivered
 
 -- unchecked and held are the ways to be delivered
-both-ways : (ms : List Met) → tally (λ m. isUnchecked (m .disposition)) ms + tally (λ m. isHeld (m .disposition)) ms ≡ tally (λ m. isDelivered (m .disposition)) ms
+both-ways : (ms : List WalkStep) → tally (λ m. isUnchecked (m .disposition)) ms + tally (λ m. isHeld (m .disposition)) ms ≡ tally (λ m. isDelivered (m .disposition)) ms
 unfolding tally
 both-ways [] = refl
 both-ways (m ∷ ms) = by-disposition (m .disposition) (both-ways ms)
@@ -143,7 +143,7 @@ chosen-part s t x first second h k true = front s x first h
 chosen-part s t x first second h k false = front t x second k
 
 pub trials-answers : (o : ℕ) (l : List ℤ) (f : List ℕ) (s t : Setting) (first second : List ℕ) (r : Trial) → trialAnswer o l f s t first second ≡ gives r
-    → Tries o l f s t r (partOf (TrialOf.Gives r) (firstAfter o l f s t first second) (secondAfter o l f s t first second))
+    → TrialCorrect o l f s t r (partOf (TrialOf.Gives r) (firstAfter o l f s t first second) (secondAfter o l f s t first second))
 unfolding trialAnswer firstAfter secondAfter trialOf
 trials-answers o l f s t first second r e =
     let v = value-gives (λ x. trialOf o l (x .region) s t) (trialInto o l f s t first second) r e in
@@ -167,4 +167,4 @@ trials-answers o l f s t first second r e =
 
 pub trials-calls : TrialsOfCalls
 trials-calls o l f s t first second one two part r k c =
-    subst (λ p. Tries o l f s t r p) (sym (c ∙ (λ i. partOf (TrialOf.Gives r) (k .first-left i) (k .second-left i)))) (trials-answers o l f s t first second r (sym (k .answer)))
+    subst (λ p. TrialCorrect o l f s t r p) (sym (c ∙ (λ i. partOf (TrialOf.Gives r) (k .first-left i) (k .second-left i)))) (trials-answers o l f s t first second r (sym (k .answer)))

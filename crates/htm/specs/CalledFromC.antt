@@ -26,7 +26,7 @@ use Rattle.region.specs.Reader.{File, read}
 use Rattle.region.specs.Answers.{headerOf, readInto, rowsInto}
 use Rattle.covering.specs.declared.Counts.{Counts}
 use Rattle.covering.specs.Cover.{cover, countsOf, coverCounts, countsList}
-use Rattle.index.specs.Entries.{Width, numbers, Placed, found, nothing}
+use Rattle.index.specs.Entries.{Width, numbers, Slot, found, nothing}
 use Rattle.index.specs.Answers.{entryAnswer}
 use Rattle.frames.specs.declared.Frames.{Frames}
 use Rattle.frames.specs.Walk.{deliveredBy}
@@ -45,15 +45,15 @@ cornersAfterC i out = stored (λ c before. put 0 (cornersList c) before) (corner
 
 -- ---- an entry of an index
 
-abbrev pub entryRoom : List ℤ → Placed → Answer Placed
+abbrev pub entryRoom : List ℤ → Slot → Answer Slot
 entryRoom out (found e) = room Width out (found e)
 entryRoom out nothing = gives nothing
 
-abbrev pub entryInto : Placed → List ℤ → List ℤ
+abbrev pub entryInto : Slot → List ℤ → List ℤ
 entryInto (found e) before = put 0 (numbers e) before
 entryInto nothing before = before
 
-unfoldable pub entryForC : ℕ → List ℤ → List ℤ → Answer Placed
+unfoldable pub entryForC : ℕ → List ℤ → List ℤ → Answer Slot
 entryForC i l out = then (entryAnswer i l) (entryRoom out)
 
 unfoldable pub entryAfterC : ℕ → List ℤ → List ℤ → List ℤ

@@ -25,7 +25,7 @@ pub record Contents (d : ℕ) (found : Found) (outer : List Range) (c : Counts) 
 abbrev pub ContentsOf : File → List Range → Counts → Type 0
 ContentsOf x outer c = Contents (x .depth) (cutting (x .depth) (x .region)) outer c
 
--- The same by the contract of the call `htm::cover` (src/lib.rt), where it gave c and left `after` in the lent list.
+-- As above, by the contract of the call `htm::cover` (src/lib.rt), where it gave c and left `after` in the lent list.
 abbrev pub CountedOfCalls : Type 0
 CountedOfCalls =
     (f before after : List ℕ) (c : Counts) → coverGiven (CoverOf.Gives c) ≡ coverAnswer f before → after ≡ coverAfter f before

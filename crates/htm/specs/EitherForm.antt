@@ -1,5 +1,5 @@
 -- A cover is the same from either form of one region, and so is the point test. Document 02, F-7. Proved, of the rules and of the answers too: proofs/EitherForm.
---   Alike h f             cover and point test answer the same of two files, and the cover leaves the same in the lent list; with a second list, for C, too
+--   SameAnswers h f       cover and point test answer the same for two files, and the cover leaves the same in the lent list; with a second list, for C, too
 --   SameCoverOfCalls      of the file that a conversion left in a lent list: handed to cover or point test, it is answered as the first file is
 use Prim.Native.Nat.{ℕ}
 use mathlib.Core.Path.{_≡_}
@@ -14,8 +14,8 @@ use Rattle.htm.specs.Answers.{coverAnswer, coverAfter}
 use Rattle.htm.specs.CalledFromC.{coverForC, coverAfterC, countsAfterC}
 
 -- h and f are answered alike, whatever lists are lent and whatever the point is
-abbrev pub Alike : List ℕ → List ℕ → Type 0
-Alike h f =
+abbrev pub SameAnswers : List ℕ → List ℕ → Type 0
+SameAnswers h f =
     ((out : List ℕ) → (coverAnswer h out ≡ coverAnswer f out) × (coverAfter h out ≡ coverAfter f out))
     × ((out counts : List ℕ)
     → (coverForC h out counts ≡ coverForC f out counts)
@@ -23,4 +23,4 @@ Alike h f =
     × ((p : Vec3) → pointTest h p ≡ pointTest f p)
 
 abbrev pub SameCoverOfCalls : Type 0
-SameCoverOfCalls = (s : Style) (f lent : List ℕ) (n : ℕ) → fileAnswer (convert s f) lent ≡ gives n → Alike (take n (fileAfter (convert s f) lent)) f
+SameCoverOfCalls = (s : Style) (f lent : List ℕ) (n : ℕ) → fileAnswer (convert s f) lent ≡ gives n → SameAnswers (take n (fileAfter (convert s f) lent)) f

@@ -4,7 +4,7 @@
 --   outerOnly ..        the entry e, shortened to the depth d, is in a range of os but in none of ns
 --   Delivers ..         these numbers and this count of tests are what is said above, of the owner o, the index l, the region g, and the outer
 --                       and the inner ranges os and ns at the depth d
---   Delivered ..        the same of an answer, and of the two lent lists afterwards
+--   Delivered ..        as above, for an answer and the two lent lists afterwards
 --   FramesOfCalls       of whatever values meet the call's contract, `FramesCall`
 -- Proved, of the rules and of the answers too: proofs/FramesKept.
 use Prim.Native.Nat.{ℕ}

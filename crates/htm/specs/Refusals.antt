@@ -1,6 +1,6 @@
 -- Demand 1, of the rules. Document 01, 'What is sent back': number 10 comes after all other checks, and a refusal changes no lent element. Proved in
 -- proofs/Refusals, for each call that is lent a list to write into. The calls for C that answer a length have the rules of the others.
---   Keeps a b       where a refuses, b refuses with the same number: a is what a call checks before any room, b what it answers
+--   Keeps a b       where a refuses, b refuses with the same number: a is what a call checks before the length of any lent list, b what it answers
 --   Stays a after before   where the call refuses, which answers a, the list stays
 --   SpaceLast       what is refused for another reason keeps its number, whatever list is lent. Of an add and a removal, 10 says that the list is no index, and
 --                   comes before what is asked of one
@@ -37,7 +37,7 @@ Stays a after before = (n : ℕ) → a ≡ refused n → after ≡ before
 
 -- ---- number 10 last
 
--- what is checked before any room: an owner and a file, then two settings; an owner and a vector
+-- what is checked before the length of any lent list: an owner and a file, then two settings; an owner and a vector
 abbrev pub ownFile : ℕ → List ℕ → Answer File
 ownFile o f = check Owner (isOwner o) (read f)
 

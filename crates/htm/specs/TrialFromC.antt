@@ -5,7 +5,7 @@
 --   chosenForC z ns ..  which buffer, and how many of its elements are the part (`partList`), given the status z and the numbers ns of a trial (`answerIn`);
 --                       10 where ns has fewer than eleven elements, or the list for the answer fewer than two; chosenAfterC: that list afterwards
 --   ReadBack            the status and the numbers of `htm_trial` say what the trial answered, a result or a refusal
---   PartForC            so after `htm_trial`, whatever it answered, `htm_chosen` with its status, its numbers and its two buffers tells the part of that answer
+--   PartForC            so after `htm_trial`, whatever it answered, `htm_chosen` with its status, its numbers and its two buffers gives the part of that answer
 use Prim.Native.Nat.{ℕ, _≤_}
 use mathlib.Core.Path.{_≡_}
 use mathlib.Core.List.{List}

@@ -4,7 +4,7 @@
 --   SameHeld n r       under both settings of the trial r, what is delivered unchecked plus what is tested and held is n
 --   chosenOf c s t     the setting of the choice c; Smaller c s t g: its outer list spans no more than either, and the first is chosen if they
 --                      are equal
---   Tries ..           of a trial's answer and the part that the second call hands back: the same, and the part has the chosen setting's outer list
+--   TrialCorrect ..    of a trial's answer and the part that the second call hands back: both, and the part has the chosen setting's outer list
 --   TrialsOfCalls      of whatever values meet the contracts of both calls
 -- Proved, of the rules and of the answers too: proofs/TrialsKept.
 use Prim.Native.Nat.{ℕ, _+_, _≤_}
@@ -45,7 +45,7 @@ pub record Smaller (c : Choice) (s t : Setting) (g : Region) : Type 0 where
 -- ---- of the calls
 
 -- r is what the trial answered, and part is what the second call hands back of the two buffers as the trial left them
-pub record Tries (o : ℕ) (l : List ℤ) (f : List ℕ) (s t : Setting) (r : Trial) (part : List ℕ) : Type 0 where
+pub record TrialCorrect (o : ℕ) (l : List ℤ) (f : List ℕ) (s t : Setting) (r : Trial) (part : List ℕ) : Type 0 where
   pub file : File
   pub accepted : Accepted f file
   pub same-held : IsIndex l → SameHeld (heldBy o l (file .region)) r
@@ -55,4 +55,4 @@ pub record Tries (o : ℕ) (l : List ℤ) (f : List ℕ) (s t : Setting) (r : Tr
 abbrev pub TrialsOfCalls : Type 0
 TrialsOfCalls =
     (o : ℕ) (l : List ℤ) (f : List ℕ) (s t : Setting) (first second one two part : List ℕ) (r : Trial)
-    → TrialCall o l f s t first second (TrialOf.Gives r) one two → part ≡ partOf (TrialOf.Gives r) one two → Tries o l f s t r part
+    → TrialCall o l f s t first second (TrialOf.Gives r) one two → part ≡ partOf (TrialOf.Gives r) one two → TrialCorrect o l f s t r part

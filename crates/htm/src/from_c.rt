@@ -3,6 +3,9 @@
 use crate::CoverOf;
 use answer::SPACE;
 use covering::COVER_COUNTS;
+use htm_abi::CONTENTS_LENGTH;
+use htm_abi::CORNERS_LENGTH;
+use htm_abi::HEADER_LENGTH;
 use limits::HALFSPACES;
 use mesh::CornersOf;
 use mount::Double;
@@ -32,7 +35,7 @@ pub extern "C" fn lookup(x: i32, y: i32, z: i32, depth: u32) -> u64
     htm_abi::or_zero(crate::locate(x, y, z, depth))
 }
 
-// The same lookup: the identifier, or minus the number of the refusal.
+// As above: the identifier, or minus the number of the refusal.
 #[no_mangle]
 pub extern "C" fn htm_lookup(x: i32, y: i32, z: i32, depth: u32) -> i64
     ensures { λ r. ⌜ r ≡ numberForC (mesh_lookup.lookup (vec x y z) depth) ⌝ }
@@ -51,7 +54,7 @@ pub extern "C" fn htm_lookup_f32(x: f32, y: f32, z: f32, depth: u32) -> i64
     ))
 }
 
-// The same in double precision.
+// As above, in double precision.
 #[no_mangle]
 pub extern "C" fn htm_lookup_f64(x: f64, y: f64, z: f64, depth: u32) -> i64
     ensures { λ r. ⌜ r ≡ numberForC (lookupReport (doubleReport x y z) depth) ⌝ }
@@ -97,7 +100,7 @@ pub extern "C" fn htm_corners(id: u64, out: &mut [i32]) -> i64
     let answer = crate::corners(id);
     match answer {
         CornersOf::Gives(c) => {
-            if out.len() < 9 {
+            if out.len() < CORNERS_LENGTH {
                 return htm_abi::minus(SPACE);
             }
             htm_abi::put_corners(out, c);
@@ -116,7 +119,7 @@ pub extern "C" fn htm_write(depth: u32, budget: u32, rows: &[i32], out: &mut [u8
     htm_abi::number_or_minus(crate::write(depth, budget, rows, out))
 }
 
-// The same of the grouped file.
+// As above, for the grouped file.
 #[no_mangle]
 pub extern "C" fn htm_write_grouped(depth: u32, budget: u32, rows: &[i32], out: &mut [u8]) -> i64
     ensures { λ r. ⌜ r ≡ numberForC (fileAnswer (writeGrouped depth budget (now (rows .entry))) (now (out .entry))) ⌝ }
@@ -134,7 +137,7 @@ pub extern "C" fn htm_to_grouped(file: &[u8], out: &mut [u8]) -> i64
     htm_abi::number_or_minus(crate::to_grouped(file, out))
 }
 
-// The same of the plain form.
+// As above, for the plain form.
 #[no_mangle]
 pub extern "C" fn htm_to_plain(file: &[u8], out: &mut [u8]) -> i64
     ensures { λ r. ⌜ r ≡ numberForC (fileAnswer (toPlain (now (file .entry))) (now (out .entry))) ⌝ }
@@ -163,8 +166,8 @@ pub extern "C" fn htm_read(file: &[u8], rows: &mut [i32], header: &mut [u64]) ->
     ensures { λ r. ⌜ now (rows .exit) ≡ rowsAfterC (now (file .entry)) (now (rows .entry)) (now (header .entry)) ⌝ }
     ensures { λ r. ⌜ now (header .exit) ≡ headerAfterC (now (file .entry)) (now (rows .entry)) (now (header .entry)) ⌝ }
 {
-    if header.len() < 3 {
-        return htm_abi::without_room(file);
+    if header.len() < HEADER_LENGTH {
+        return htm_abi::file_refusal_or_space(file);
     }
     let answer = crate::read(file, rows);
     match answer {
@@ -187,7 +190,7 @@ pub extern "C" fn htm_header(file: &[u8], header: &mut [u64]) -> i64
     let said = region_reader::decode(file, &mut rows);
     match said {
         HeaderOf::Gives(h) => {
-            if header.len() < 4 {
+            if header.len() < CONTENTS_LENGTH {
                 return htm_abi::minus(SPACE);
             }
             let convexes = region_reader::convexes_in(&rows, h.count as usize);
@@ -206,7 +209,7 @@ pub extern "C" fn htm_cover(file: &[u8], out: &mut [u64], counts: &mut [u64]) ->
     ensures { λ r. ⌜ now (counts .exit) ≡ countsAfterC (now (file .entry)) (now (out .entry)) (now (counts .entry)) ⌝ }
 {
     if counts.len() < COVER_COUNTS {
-        return htm_abi::without_room(file);
+        return htm_abi::file_refusal_or_space(file);
     }
     let answer = crate::cover(file, out);
     match answer {

@@ -20,7 +20,7 @@ pub extern "C" fn htm_index_begin(index: &mut [i64]) -> i64
     htm_abi::status(crate::index_begin(index))
 }
 
-// One exposure more of an owner: 0, or minus the number of the refusal.
+// Adds an exposure of an owner: 0, or minus the number of the refusal.
 #[no_mangle]
 pub extern "C" fn htm_add(index: &mut [i64], owner: u32, number: u32, x: i32, y: i32, z: i32) -> i64
     ensures { λ r. ⌜ r ≡ statusOf (addAnswer (exposure owner number x y z) (now (index .entry))) ⌝ }
@@ -29,7 +29,7 @@ pub extern "C" fn htm_add(index: &mut [i64], owner: u32, number: u32, x: i32, y:
     htm_abi::status(crate::add(index, owner, number, x, y, z))
 }
 
-// One exposure less of an owner: 0, or minus the number of the refusal.
+// Removes an exposure of an owner: 0, or minus the number of the refusal.
 #[no_mangle]
 pub extern "C" fn htm_remove(index: &mut [i64], owner: u32, number: u32) -> i64
     ensures { λ r. ⌜ r ≡ statusOf (removeAnswer (key owner number) (now (index .entry))) ⌝ }
@@ -82,7 +82,7 @@ pub extern "C" fn htm_frames(
         r (now (ranges .exit)) (now (numbers .exit)) (now (counts .exit)) ⌝ }
 {
     if counts.len() < FRAME_COUNTS {
-        return htm_abi::owner_without_room(owner, file);
+        return htm_abi::owner_refusal_or_space(owner, file);
     }
     let answer = crate::frames(index, owner, file, ranges, numbers);
     match answer {

@@ -53,14 +53,14 @@ pub fn locate(x: i32, y: i32, z: i32, depth: u32) -> Number
     mesh_lookup::lookup(htm_abi::pointing(x, y, z), depth)
 }
 
-// The same of a mount's report, three floats of single or double precision; refusals 5, 12, 8.
+// As above, for a mount's report, three floats of single or double precision; refusals 5, 12, 8.
 pub fn locate_report(report: Report, depth: u32) -> Number
     ensures { λ r. ⌜ numberOf r ≡ lookupReport report depth ⌝ }
 {
     located(mount::pointing(report), depth)
 }
 
-// The same of a catalogue line, its line feed included; refusals 5, 13, 8.
+// As above, for a catalogue line, its line feed included; refusals 5, 13, 8.
 pub fn locate_line(line: &[u8], depth: u32) -> Number
     ensures { λ r. ⌜ numberOf r ≡ locateLine (now (line .entry)) depth ⌝ }
 {
@@ -136,7 +136,7 @@ pub fn to_grouped(file: &[u8], out: &mut [u8]) -> Number
     region_convert::convert(Style::Grouped, file, out)
 }
 
-// The same, with the plain form.
+// As above, with the plain form.
 pub fn to_plain(file: &[u8], out: &mut [u8]) -> Number
     ensures { λ r. ⌜ numberOf r ≡ fileAnswer (toPlain (now (file .entry))) (now (out .entry)) ⌝ }
     ensures { λ r. ⌜ now (out .exit) ≡ fileAfter (toPlain (now (file .entry))) (now (out .entry)) ⌝ }
@@ -179,7 +179,7 @@ pub fn index_begin(index: &mut [i64]) -> Change
     index_calls::begin(index)
 }
 
-// One exposure more of an owner, 0 or 1, in an index, by its number and its pointing; refusals 18, 8, 10, 15, 16.
+// Adds an exposure of an owner, 0 or 1, to an index, by its number and its pointing; refusals 18, 8, 10, 15, 16.
 pub fn add(index: &mut [i64], owner: u32, number: u32, x: i32, y: i32, z: i32) -> Change
     ensures { λ r. ⌜ changeGiven r ≡ addAnswer (exposure owner number x y z) (now (index .entry)) ⌝ }
     ensures { λ r. ⌜ now (index .exit) ≡ addAfter (exposure owner number x y z) (now (index .entry)) ⌝ }
@@ -187,7 +187,7 @@ pub fn add(index: &mut [i64], owner: u32, number: u32, x: i32, y: i32, z: i32) -
     index_calls::add(index, owner, number, htm_abi::pointing(x, y, z))
 }
 
-// One exposure less of an owner, by its number; refusals 18, 10, 17.
+// Removes an exposure of an owner, by its number; refusals 18, 10, 17.
 pub fn remove(index: &mut [i64], owner: u32, number: u32) -> Change
     ensures { λ r. ⌜ changeGiven r ≡ removeAnswer (key owner number) (now (index .entry)) ⌝ }
     ensures { λ r. ⌜ now (index .exit) ≡ removeAfter (key owner number) (now (index .entry)) ⌝ }

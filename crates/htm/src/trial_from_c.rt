@@ -9,8 +9,8 @@ ghost use Rattle.htm_abi.specs.Values.{statusOf};
 ghost use Rattle.htm_abi.specs.TrialValues.{settingOf};
 ghost use Rattle.htm.specs.TrialFromC.{TrialCallC, chosenForC, chosenAfterC};
 
-// How many numbers say a part: which buffer, and how many elements of it.
-const PART: usize = 2;
+// How many numbers give a part: which buffer, and how many elements of it.
+const PART_LENGTH: usize = 2;
 
 // A trial: the two lists of each setting in its buffer, and eleven numbers at the beginning of `numbers`: unchecked, held, discarded, outer and inner count of
 // each setting, and the choice, 1 or 2. 0, or minus the number of the refusal, 10 also where `numbers` has fewer elements.
@@ -39,7 +39,7 @@ pub extern "C" fn htm_trial(
         budget: budget_2,
     };
     if numbers.len() < TRIAL_COUNTS {
-        return htm_abi::minus(htm_abi::trials::refused_anyway(owner, file, s, t));
+        return htm_abi::minus(htm_abi::trials::trial_refusal_or_space(owner, file, s, t));
     }
     let answer = crate::trial(index, owner, file, s, t, first, second);
     match answer {
@@ -68,7 +68,7 @@ pub extern "C" fn htm_chosen<'a>(
     if numbers.len() < TRIAL_COUNTS {
         return htm_abi::minus(SPACE);
     }
-    if part.len() < PART {
+    if part.len() < PART_LENGTH {
         return htm_abi::minus(SPACE);
     }
     if status != 0 {

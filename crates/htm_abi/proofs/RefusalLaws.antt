@@ -9,10 +9,10 @@ use Rattle.region.specs.declared.Header.{Header}
 use Rattle.region.specs.Reader.{File, read}
 use Rattle.region.specs.Answers.{headerOf}
 use Rattle.index.specs.Exposures.{isOwner}
-use Rattle.htm_abi.specs.ShortLists.{refusalOf}
+use Rattle.htm_abi.specs.ShortLists.{fileRefusalOrSpace}
 use Rattle.htm_abi.specs.Values.{statusOf}
 
-pub own-or-space : (f : List ℕ) (a : Answer Header) → a ≡ with-value headerOf (read f) → statusOf {A = File} (then a (λ h. refused Space)) ≡ statusOf (refusalOf f)
+pub own-or-space : (f : List ℕ) (a : Answer Header) → a ≡ with-value headerOf (read f) → statusOf {A = File} (then a (λ h. refused Space)) ≡ statusOf (fileRefusalOrSpace f)
 own-or-space f a e = ap (λ a. statusOf {A = File} (then a (λ h. refused Space))) e ∙ whichever (read f)
   where
     whichever : (a : Answer File) → statusOf {A = File} (then (with-value headerOf a) (λ h. refused Space)) ≡ statusOf {A = File} (then a (λ x. refused Space))
@@ -20,8 +20,8 @@ own-or-space f a e = ap (λ a. statusOf {A = File} (then a (λ h. refused Space)
     whichever (gives x) = refl
 
 -- the owner's refusal, the file's own, or 10
-pub no-owner-c : (o : ℕ) (f : List ℕ) → isOwner o ≡ false → statusOf {A = File} (refused Owner) ≡ statusOf (check Owner (isOwner o) (refusalOf f))
-no-owner-c o f e = sym (ap (λ t. statusOf (check Owner t (refusalOf f))) e)
+pub no-owner-c : (o : ℕ) (f : List ℕ) → isOwner o ≡ false → statusOf {A = File} (refused Owner) ≡ statusOf (check Owner (isOwner o) (fileRefusalOrSpace f))
+no-owner-c o f e = sym (ap (λ t. statusOf (check Owner t (fileRefusalOrSpace f))) e)
 
-pub of-owner-c : (o : ℕ) (f : List ℕ) → isOwner o ≡ true → statusOf (refusalOf f) ≡ statusOf (check Owner (isOwner o) (refusalOf f))
-of-owner-c o f e = sym (ap (λ t. statusOf (check Owner t (refusalOf f))) e)
+pub of-owner-c : (o : ℕ) (f : List ℕ) → isOwner o ≡ true → statusOf (fileRefusalOrSpace f) ≡ statusOf (check Owner (isOwner o) (fileRefusalOrSpace f))
+of-owner-c o f e = sym (ap (λ t. statusOf (check Owner t (fileRefusalOrSpace f))) e)

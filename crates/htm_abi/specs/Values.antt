@@ -15,7 +15,7 @@ use Rattle.answer.specs.Answer.{Answer, refused, gives}
 use Rattle.vector.specs.Vectors.{three}
 use Rattle.mesh.specs.declared.Corners.{Corners}
 use Rattle.region.specs.declared.Header.{Header}
-use Rattle.index.specs.Entries.{Placed, found, nothing}
+use Rattle.index.specs.Entries.{Slot, found, nothing}
 
 -- ---- answers as numbers
 
@@ -31,7 +31,7 @@ abbrev pub heldForC : Answer Bool → ℤ
 heldForC (refused n) = negℤ (pos n)
 heldForC (gives held) = cond held (pos 1) (pos 0)
 
-abbrev pub foundForC : Answer Placed → ℤ
+abbrev pub foundForC : Answer Slot → ℤ
 foundForC (refused n) = negℤ (pos n)
 foundForC (gives nothing) = pos 0
 foundForC (gives (found e)) = pos 1

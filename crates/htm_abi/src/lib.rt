@@ -29,9 +29,18 @@ ghost use Rattle.index.specs.Answers.{changeGiven};
 ghost use Rattle.htm_abi.specs.Values.{orZero, numberForC, statusOf, cornersList, headerList};
 ghost use Rattle.covering.specs.Cover.{countsList, coverCounts};
 ghost use Rattle.frames.specs.Answers.{framesList, frameCounts};
-ghost use Rattle.htm_abi.specs.ShortLists.{refusalOf};
+ghost use Rattle.htm_abi.specs.ShortLists.{fileRefusalOrSpace};
 
 pub mod trials;
+
+// How many numbers three corners are.
+pub const CORNERS_LENGTH: usize = 9;
+
+// How many numbers a header is: count, depth and budget.
+pub const HEADER_LENGTH: usize = 3;
+
+// How many numbers give what a file says without its rows: a header, and the count of convexes.
+pub const CONTENTS_LENGTH: usize = HEADER_LENGTH + 1;
 
 // Three components, as a vector.
 pub fn pointing(x: i32, y: i32, z: i32) -> Vec3
@@ -72,7 +81,7 @@ pub fn number_or_minus(answer: Number) -> i64
     }
 }
 
-// What a call answers that changes the index: 0, or minus the number of the refusal.
+// The answer of a call that changes the index: 0, or minus the number of the refusal.
 pub fn status(answer: Change) -> i64
     ensures { λ r. ⌜ (r ≡ statusOf (changeGiven answer)) × Upto (2 ^ 32) r ⌝ }
 {
@@ -104,9 +113,9 @@ pub fn put_corners(out: &mut [i32], c: Corners)
     put_corner(out, 6, c.v2);
 }
 
-// The refusal of a file for which a lent list is too short: its own, or 10.
-pub fn without_room(file: &[u8]) -> i64
-    ensures { λ r. ⌜ (r ≡ statusOf (refusalOf (now (file .entry)))) × Upto (2 ^ 32) r ⌝ }
+// What a call for C returns where a lent list is too short: the file's own refusal, or 10.
+pub fn file_refusal_or_space(file: &[u8]) -> i64
+    ensures { λ r. ⌜ (r ≡ statusOf (fileRefusalOrSpace (now (file .entry)))) × Upto (2 ^ 32) r ⌝ }
 {
     let mut rows = [0i32; 5 * HALFSPACES];
     let said = region_reader::decode(file, &mut rows);
@@ -126,7 +135,7 @@ pub fn put_header(header: &mut [u64], h: Header)
     header[2] = h.budget as u64;
 }
 
-// The same, and then the count of convexes.
+// As above, and then the count of convexes.
 pub fn put_contents(header: &mut [u64], h: Header, convexes: u64)
     requires { ⌜ 4 ≤ length (now header) ⌝ }
     ensures { λ _. ⌜ now (header .exit) ≡ put 0 (headerList h ++ convexes ∷ []) (now (header .entry)) ⌝ }
@@ -135,14 +144,14 @@ pub fn put_contents(header: &mut [u64], h: Header, convexes: u64)
     header[3] = convexes;
 }
 
-// The refusal of an owner and a file for which a lent list is too short: 18, the file's own, or 10.
-pub fn owner_without_room(owner: u32, file: &[u8]) -> i64
-    ensures { λ r. ⌜ (r ≡ statusOf (check Owner (isOwner owner) (refusalOf (now (file .entry))))) × Upto (2 ^ 32) r ⌝ }
+// As above, with an owner: 18, the file's own refusal, or 10.
+pub fn owner_refusal_or_space(owner: u32, file: &[u8]) -> i64
+    ensures { λ r. ⌜ (r ≡ statusOf (check Owner (isOwner owner) (fileRefusalOrSpace (now (file .entry))))) × Upto (2 ^ 32) r ⌝ }
 {
     if OWNERS <= owner {
         return minus(OWNER);
     }
-    without_room(file)
+    file_refusal_or_space(file)
 }
 
 // The counts, at the beginning of a list.

@@ -18,7 +18,7 @@ ghost use Rattle.answer.specs.Lent.{put};
 ghost use Rattle.trial.specs.Answers.{trialCounts, ofChoice, partBy};
 ghost use Rattle.htm_abi.specs.TrialValues.{choiceIn, resultIn, trialIn};
 ghost use Rattle.trial.specs.Answers.{trialList};
-ghost use Rattle.htm_abi.specs.ShortLists.{settingRefusalOr, anywayRefused};
+ghost use Rattle.htm_abi.specs.ShortLists.{settingRefusalOrSpace, trialRefusalOrSpace};
 
 // The choice that a number stands for.
 fn choice_in(n: u64) -> Choice
@@ -69,9 +69,9 @@ pub fn trial_at(numbers: &[u64]) -> Trial
     }
 }
 
-// The number of the refusal of a trial for which a list is too short: 18, the file's, 5 and 6 of each setting, or 10.
-pub fn refused_anyway(owner: u32, file: &[u8], s: Setting, t: Setting) -> u32
-    ensures { λ r. ⌜ anywayRefused owner (now (file .entry)) s t ≡ refused r ⌝ }
+// The refusal of a trial where a lent list is too short: 18, the file's, 5 and 6 of each setting, or 10.
+pub fn trial_refusal_or_space(owner: u32, file: &[u8], s: Setting, t: Setting) -> u32
+    ensures { λ r. ⌜ trialRefusalOrSpace owner (now (file .entry)) s t ≡ refused r ⌝ }
 {
     if OWNERS <= owner {
         return OWNER;
@@ -86,7 +86,7 @@ pub fn refused_anyway(owner: u32, file: &[u8], s: Setting, t: Setting) -> u32
 
 // 5 or 6 of the first setting that is none; else 10.
 fn setting_refusal_or_space(s: Setting, t: Setting) -> u32
-    ensures { λ r. ⌜ settingRefusalOr s t ≡ refused r ⌝ }
+    ensures { λ r. ⌜ settingRefusalOrSpace s t ≡ refused r ⌝ }
 {
     let one = trial_calls::setting_refusal(s);
     if one != 0 {

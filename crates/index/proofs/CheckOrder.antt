@@ -13,7 +13,7 @@ use Rattle.answer.specs.Answer.{Answer, refused, gives, check, then, Vector, Sp
 use Rattle.vector.specs.Vectors.{isVector}
 use Rattle.index.specs.declared.Entry.{Entry}
 use Rattle.index.specs.Exposures.{isOwner, Exposure, Key, keyOf, answered}
-use Rattle.index.specs.Entries.{IndexLength, entryOf, entriesIn, entering, withdrawing}
+use Rattle.index.specs.Entries.{IndexLength, entryOf, entriesIn, inserting, withdrawing}
 use Rattle.index.specs.Answers.{inList, addable, removable, adding, removing, addAnswer, removeAnswer}
 
 -- ---- two checks, and one, before the rest
@@ -31,20 +31,20 @@ module _ {A : Type 0} (a : Answer A) where
 -- ---- an add
 
 module _ (x : Exposure) (l : List ℤ) where
-  abbrev entered : Answer (List Entry)
-  entered = inList l (entering (keyOf x) (entryOf x) (entriesIn l))
+  abbrev with-entry : Answer (List Entry)
+  with-entry = inList l (inserting (keyOf x) (entryOf x) (entriesIn l))
 
-  add-behind : adding x l ≡ then (addable x) (λ _. entered)
-  add-behind = behind-two entered Owner Vector (isOwner (x .owner)) (isVector (x .pointing))
+  add-behind : adding x l ≡ then (addable x) (λ _. with-entry)
+  add-behind = behind-two with-entry Owner Vector (isOwner (x .owner)) (isVector (x .pointing))
 
   pub add-refused : (n : ℕ) → addable x ≡ refused n → addAnswer x l ≡ refused n
   unfolding addAnswer
-  add-refused n e = ap answered (add-behind ∙ ap (λ a. then a (λ _. entered)) e)
+  add-refused n e = ap answered (add-behind ∙ ap (λ a. then a (λ _. with-entry)) e)
 
   pub add-short : addable x ≡ gives tt → leb IndexLength (length l) ≡ false → addAnswer x l ≡ refused Space
   unfolding addAnswer
   add-short e h =
-      ap answered (add-behind ∙ ap (λ a. then a (λ _. entered)) e ∙ ap (λ t. check Space t (entering (keyOf x) (entryOf x) (entriesIn l))) h)
+      ap answered (add-behind ∙ ap (λ a. then a (λ _. with-entry)) e ∙ ap (λ t. check Space t (inserting (keyOf x) (entryOf x) (entriesIn l))) h)
 
 -- ---- a removal
 

@@ -10,7 +10,7 @@ use Rattle.vector.specs.Vectors.{vec, isVector}
 use Rattle.index.specs.declared.Entry.{Entry}
 use Rattle.index.specs.Exposures.{Exposure, exposure, key, only, Call, adds, removes, contentFrom, answersFrom, contentOf, answersOf}
 use Rattle.index.specs.Entries.{entry, inserted, withdrawn}
-use Rattle.index.specs.Apart.{callsOf, answersTo}
+use Rattle.index.specs.Noninterference.{callsOf, answersTo}
 
 abbrev north : ℕ → ℕ → Exposure
 north o n = exposure o n (pos 0) (pos 0) (pos 1048576)

@@ -23,9 +23,9 @@ use Rattle.index.specs.declared.Change.{Change}
 use Rattle.index.specs.Exposures.{IndexCapacity, OwnerCapacity, isOwner, Exposure, isNumber, Key, key, keyOf, hasOwner, hasKey, hasPlace, Call, adds, removes, without, giving, leaving, answered, contentFrom, contentOf, answersFrom}
 use Rattle.index.specs.Entries.{IndexLength, entryOf, isOwned, isKeyed, countOf, entriesFrom, entriesIn, withEntries, inserted, withdrawn, hasRoom}
 use Rattle.index.specs.Answers.{adding, removing, addAnswer, addAfter, removeAnswer, removeAfter, beginAnswer, beginAfter, countAnswer, changeGiven}
-use Rattle.index.specs.HistoryCorrect.{Holds, isFiled, IsIndex, IsEmpty, callAnswer, callAfter, Runs, numbered, Numbered, ServesAgain, HistoryCorrect}
+use Rattle.index.specs.HistoryCorrect.{EntriesMatch, isFiled, IsIndex, IsEmpty, callAnswer, callAfter, Runs, numbered, Numbered, ServesAgain, HistoryCorrect}
 use Rattle.index.proofs.WrittenLaws.{with-entries-long, entries-with, length-in}
-use Rattle.index.proofs.TallyLaws.{some-tally, tally-all, all-pass, parted, either-passes, both-fewer, only-tally, inserted-tally, inserted-length, withdrawn-tally, withdrawn-fewer}
+use Rattle.index.proofs.TallyLaws.{some-tally, tally-all, all-pass, split-tally, either-passes, both-fewer, only-tally, inserted-tally, inserted-length, withdrawn-tally, withdrawn-fewer}
 use Rattle.index.proofs.OrderLaws.{inserted-ascends, withdrawn-ascends, eqZ-eq, eqZ-refl}
 
 -- ---- exposures and their entries
@@ -41,7 +41,7 @@ abbrev isExposure : Exposure → Bool
 isExposure x = isNumber (x .number) && isOwner (x .owner) && isVector (x .pointing)
 
 pub record Files (xs : List Exposure) (es : List Entry) : Type 0 where
-  pub holds : Holds xs es
+  pub matches : EntriesMatch xs es
   pub few : length es ≤ IndexCapacity
   pub within : (o : ℕ) → tally (hasOwner o) xs ≤ OwnerCapacity
   pub single : (k : Key) → tally (hasKey k) xs ≤ 1
@@ -49,21 +49,21 @@ pub record Files (xs : List Exposure) (es : List Entry) : Type 0 where
 
 module _ (xs : List Exposure) (es : List Entry) (h : Files xs es) where
   as-many : length es ≡ length xs
-  as-many = sym (tally-all es) ∙ h .holds .exactly (λ e. true) ∙ tally-all xs
+  as-many = sym (tally-all es) ∙ h .matches .exactly (λ e. true) ∙ tally-all xs
 
   same-some : (n : Key) → some (isKeyed n) es ≡ some (hasKey n) xs
-  same-some n = some-tally (isKeyed n) es ∙ ap (ltb 0) (h .holds .exactly (isKeyed n)) ∙ sym (some-tally (hasKey n) xs)
+  same-some n = some-tally (isKeyed n) es ∙ ap (ltb 0) (h .matches .exactly (isKeyed n)) ∙ sym (some-tally (hasKey n) xs)
 
-  -- one exposure more, whose key is not there
+  -- an exposure is added whose key is not there
   more : (x : Exposure) → isExposure x ≡ true → some (isKeyed (keyOf x)) es ≡ false → tally (hasOwner (x .owner)) xs < OwnerCapacity → length es < IndexCapacity → Files (x ∷ xs) (inserted (entryOf x) es)
   unfolding tally
   more x u o p f =
       let e = entryOf x in
       let none : tally (hasKey (keyOf x)) xs ≡ 0 = omega (arith, ltb-false 0 (tally (hasKey (keyOf x)) xs) (sym (some-tally (hasKey (keyOf x)) xs) ∙ sym (same-some (keyOf x)) ∙ o)) in
       record {
-        holds = record {
-          ascends = inserted-ascends x es o (h .holds .ascends);
-          exactly = λ g. inserted-tally g e es ∙ ap (λ m. cond (g e) (suc m) m) (h .holds .exactly g);
+        matches = record {
+          ascends = inserted-ascends x es o (h .matches .ascends);
+          exactly = λ g. inserted-tally g e es ∙ ap (λ m. cond (g e) (suc m) m) (h .matches .exactly g);
         };
         few = omega (arith, inserted-length e es);
         within = λ w.
@@ -81,12 +81,12 @@ module _ (xs : List Exposure) (es : List Entry) (h : Files xs es) where
   -- those without a key
   fewer : (n : Key) → Files (without n xs) (withdrawn n es)
   fewer n =
-      let one : tally (isKeyed n) es ≤ 1 = omega (arith, h .holds .exactly (isKeyed n), h .single n) in
+      let one : tally (isKeyed n) es ≤ 1 = omega (arith, h .matches .exactly (isKeyed n), h .single n) in
       let left : (g : Exposure → Bool) → tally g (without n xs) ≤ tally g xs = λ g. omega (arith, only-tally g (λ x. not (hasKey n x)) xs, both-fewer g (λ x. not (hasKey n x)) xs) in
       record {
-        holds = record {
-          ascends = withdrawn-ascends n es (h .holds .ascends);
-          exactly = λ g. withdrawn-tally g n es one ∙ h .holds .exactly (λ e. g e && not (isKeyed n e)) ∙ sym (only-tally (λ x. g (entryOf x)) (λ x. not (hasKey n x)) xs);
+        matches = record {
+          ascends = withdrawn-ascends n es (h .matches .ascends);
+          exactly = λ g. withdrawn-tally g n es one ∙ h .matches .exactly (λ e. g e && not (isKeyed n e)) ∙ sym (only-tally (λ x. g (entryOf x)) (λ x. not (hasKey n x)) xs);
         };
         few = omega (arith, withdrawn-fewer n es, h .few);
         within = λ o. omega (arith, left (hasOwner o), h .within o);
@@ -111,7 +111,7 @@ agree-check n false false a b e f = refl
 agree-passed : (n : ℕ) (t : Bool) (a : Answer (List Entry)) (b : Answer (List Exposure)) → t ≡ true → Agree a b → Agree (check n t a) b
 agree-passed n t a b e h = subst (λ u. Agree (check n u a) b) (sym e) h
 
--- a list that holds the entries of the exposures xs
+-- a list with the entries of the exposures xs
 pub record Stands (xs : List Exposure) (l : List ℤ) : Type 0 where
   pub long : IndexLength ≤ length l
   pub counted : getD l 0 (pos 0) ≡ pos (length (entriesIn l))
@@ -145,10 +145,10 @@ is-index xs l s =
       long = s .long;
       counted = s .counted;
       few = f .few;
-      within = λ o. omega (arith, f .holds .exactly (isOwned o), f .within o);
-      ascends = f .holds .ascends;
-      differ = λ n. omega (arith, f .holds .exactly (isKeyed n), f .single n);
-      filed = all-pass isFiled (entriesIn l) (f .holds .exactly (λ e. not (isFiled e)) ∙ (λ i. tally (λ x. not (filed x i)) xs) ∙ f .proper);
+      within = λ o. omega (arith, f .matches .exactly (isOwned o), f .within o);
+      ascends = f .matches .ascends;
+      differ = λ n. omega (arith, f .matches .exactly (isKeyed n), f .single n);
+      filed = all-pass isFiled (entriesIn l) (f .matches .exactly (λ e. not (isFiled e)) ∙ (λ i. tally (λ x. not (filed x i)) xs) ∙ f .proper);
     }
 
 filed-owner : (e : Entry) → isFiled e ≡ true → (isOwned 0 e || isOwned 1 e) ≡ true
@@ -188,7 +188,7 @@ agrees (adds x) xs l u s =
     agree-check Vector v v _ _ refl (λ p.
     agree-passed Space (leb IndexLength (length l)) _ _ (le-leb IndexLength (length l) (s .long))
     (agree-check Twice (not (some (isKeyed (keyOf x)) es)) (not (some (hasKey (keyOf x)) xs)) _ _ (ap not (same-some xs es f (keyOf x))) (λ q.
-    let same : tally (isOwned (x .owner)) es ≡ tally (hasOwner (x .owner)) xs = f .holds .exactly (isOwned (x .owner)) in
+    let same : tally (isOwned (x .owner)) es ≡ tally (hasOwner (x .owner)) xs = f .matches .exactly (isOwned (x .owner)) in
     agree-check Full (hasPlace OwnerCapacity (isOwned (x .owner)) es) (hasPlace OwnerCapacity (hasOwner (x .owner)) xs) _ _ (ap (λ n. ltb n OwnerCapacity) same) (λ r.
     let room = room-left l (x .owner) (is-index xs l s) o r in
     agree-passed Full (hasRoom es) _ _ room
@@ -276,7 +276,7 @@ module _ (xs : List Exposure) where
       let own : tally (λ y. hasOwner (k .owner) y && hasKey k y) xs ≡ tally (hasKey k) xs =
       λ i. tally (λ y. its-owner (hasOwner (k .owner) y) (eqb (y .number) (k .number)) i) xs in
       let less : tally (hasOwner (k .owner)) (without k xs) < OwnerCapacity =
-      omega (arith, only-tally (hasOwner (k .owner)) (λ y. not (hasKey k y)) xs, parted (hasOwner (k .owner)) (hasKey k) xs, few (k .owner)) in
+      omega (arith, only-tally (hasOwner (k .owner)) (λ y. not (hasKey k y)) xs, split-tally (hasOwner (k .owner)) (hasKey k) xs, few (k .owner)) in
       let f : hasPlace OwnerCapacity (hasOwner (x .owner)) (without k xs) ≡ true =
       subst (λ m. hasPlace OwnerCapacity (hasOwner m) (without k xs) ≡ true) same (lt-ltb (tally (hasOwner (k .owner)) (without k xs)) OwnerCapacity less) in
       rw (w, v, o, f) refl
@@ -303,7 +303,7 @@ serves-again h few =
 
 none-files : Files [] []
 unfolding tally
-none-files = record { holds = record { ascends = tt; exactly = λ g. refl }; few = omega arith; within = λ o. omega arith; single = λ n. omega arith; proper = refl }
+none-files = record { matches = record { ascends = tt; exactly = λ g. refl }; few = omega arith; within = λ o. omega arith; single = λ n. omega arith; proper = refl }
 
 empty-stands : (l : List ℤ) → IndexLength ≤ length l → getD l 0 (pos 0) ≡ pos 0 → Stands [] l
 unfolding entriesIn entriesFrom
@@ -345,6 +345,6 @@ history-kept = record {
   kept = λ l n h rs e u runs.
       let o = run h rs l n [] u (is-empty l e) runs in
       let xs = contentOf OwnerCapacity h in
-      record { answers = o .0; index = is-index xs n (o .1); content = o .1 .files .holds; count = counts xs n (o .1); again = serves-again h (o .1 .files .within) };
+      record { answers = o .0; index = is-index xs n (o .1); content = o .1 .files .matches; count = counts xs n (o .1); again = serves-again h (o .1 .files .within) };
   room = room-left;
 }

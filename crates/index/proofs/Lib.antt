@@ -3,6 +3,6 @@ pub mod TallyLaws
 pub mod OrderLaws
 pub mod HistoryKept
 pub mod OneList
-pub mod OwnersApart
+pub mod Noninterference
 pub mod Examples
 pub mod CheckOrder

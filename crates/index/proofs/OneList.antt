@@ -82,10 +82,10 @@ first-or-behind a b fs c s is-it is-behind = or-cases (same a b) (some (same a) 
 
 -- ---- the same tallies
 
-abbrev Alike : List Entry → List Entry → Type 0
-Alike es fs = (f : Entry → Bool) → tally f es ≡ tally f fs
+abbrev SameTallies : List Entry → List Entry → Type 0
+SameTallies es fs = (f : Entry → Bool) → tally f es ≡ tally f fs
 
-has-first : (a : Entry) (es fs : List Entry) → Alike (a ∷ es) fs → some (same a) fs ≡ true
+has-first : (a : Entry) (es fs : List Entry) → SameTallies (a ∷ es) fs → some (same a) fs ≡ true
 unfolding tally
 has-first a es fs t =
     some-tally (same a) fs ∙ ap (ltb 0) (sym (t (same a)) ∙ ap (λ b. cond b (suc (tally (same a) es)) (tally (same a) es)) (same-self a))
@@ -95,17 +95,17 @@ less : (t : Bool) (m n : ℕ) → cond t (suc m) m ≡ cond t (suc n) n → m �
 less true m n e = omega arith
 less false m n e = e
 
-no-first : (a : Entry) (es : List Entry) {X : Type 0} → Alike (a ∷ es) [] → X
+no-first : (a : Entry) (es : List Entry) {X : Type 0} → SameTallies (a ∷ es) [] → X
 unfolding some
 no-first a es t = absurd (false≢true (has-first a es [] t))
 
-firsts : (a b : Entry) (es fs : List Entry) → Ascends (a ∷ es) → Ascends (b ∷ fs) → Alike (a ∷ es) (b ∷ fs) → a ≡ b
+firsts : (a b : Entry) (es fs : List Entry) → Ascends (a ∷ es) → Ascends (b ∷ fs) → SameTallies (a ∷ es) (b ∷ fs) → a ≡ b
 firsts a b es fs c d t =
     first-or-behind a b fs d (has-first a es (b ∷ fs) t) (λ e. e)
     (λ p. first-or-behind b a es c (has-first b fs (a ∷ es) (λ f. sym (t f))) (λ e. sym e)
     (λ q. absurd (true≢false (sym (goes-on a b a q p) ∙ not-before-itself a))))
 
-pub one-list : (es fs : List Entry) → Ascends es → Ascends fs → Alike es fs → es ≡ fs
+pub one-list : (es fs : List Entry) → Ascends es → Ascends fs → SameTallies es fs → es ≡ fs
 unfolding tally
 one-list [] [] c d t = refl
 one-list [] (b ∷ fs) c d t = no-first b fs (λ f. sym (t f))

@@ -106,7 +106,7 @@ unfolding every
 precedes-all e x [] a p = and-both p refl
 precedes-all e x (y ∷ es) a p = and-both p (precedes-all e y es (a .1) (goes-on e x y p (a .0)))
 
--- ---- one entry more
+-- ---- an entry inserted
 
 -- an entry that e does not precede, with those after it
 module _ (n : Exposure) where
@@ -138,7 +138,7 @@ module _ (n : Exposure) where
       by-test true q r = (every-first (precedes e) x es q, a)
       by-test false q r = r q
 
--- ---- one entry less
+-- ---- an entry withdrawn
 
 pub tail-ascends : (x : Entry) (es : List Entry) → Ascends (x ∷ es) → Ascends es
 tail-ascends x [] a = tt

@@ -1,4 +1,4 @@
--- How many elements pass a test, where one more is inserted, where one is withdrawn, and among those only that pass another. By recursion over the list,
+-- How many elements pass a test, where one is inserted, where one is withdrawn, and among those only that pass another. By recursion over the list,
 -- test by test. Assumes nothing.
 use Prim.Native.Nat.{ℕ, suc, _+_, _≤_}
 use mathlib.Core.Path.{_≡_, sym, ap, _∙_, refl}
@@ -43,10 +43,10 @@ module _ {A : Type 0} where
       by-test false r h = absurd (omega arith)
 
   -- those that pass f pass g too, or fail it
-  pub parted : (f g : A → Bool) (xs : List A) → tally f xs ≡ tally (λ x. f x && g x) xs + tally (λ x. f x && not (g x)) xs
+  pub split-tally : (f g : A → Bool) (xs : List A) → tally f xs ≡ tally (λ x. f x && g x) xs + tally (λ x. f x && not (g x)) xs
   unfolding tally
-  parted f g [] = refl
-  parted f g (x ∷ xs) = by-test (f x) (g x) (parted f g xs)
+  split-tally f g [] = refl
+  split-tally f g (x ∷ xs) = by-test (f x) (g x) (split-tally f g xs)
     where
       by-test : (t u : Bool) → tally f xs ≡ tally (λ y. f y && g y) xs + tally (λ y. f y && not (g y)) xs
           → counting t (tally f xs) ≡ counting (t && u) (tally (λ y. f y && g y) xs) + counting (t && not u) (tally (λ y. f y && not (g y)) xs)

@@ -42,7 +42,7 @@ pub length-in : (l : List ℤ) → length (entriesIn l) ≡ countIn l
 unfolding entriesIn
 length-in l = length-entries (countIn l) (drop 1 l)
 
--- ---- the count of a list is no more than the most
+-- ---- the count of a list is at most the capacity
 
 few : (z : ℤ) → countOf z ≤ IndexCapacity
 few (pos n) = omega arith

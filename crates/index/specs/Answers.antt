@@ -19,7 +19,7 @@ use Rattle.index.specs.declared.Entry.{Entry}
 use Rattle.index.specs.declared.Change.{Change}
 use Rattle.index.specs.declared.EntryOf.{EntryOf}
 use Rattle.index.specs.Exposures.{isOwner, Exposure, Key, keyOf, answered}
-use Rattle.index.specs.Entries.{IndexLength, entryOf, countIn, entriesIn, withEntries, entering, withdrawing, Placed, found, nothing, placed}
+use Rattle.index.specs.Entries.{IndexLength, entryOf, countIn, entriesIn, withEntries, inserting, withdrawing, Slot, found, nothing, slotAt}
 
 -- what is answered on a list that is long enough
 abbrev pub inList : {A : Type 0} → List ℤ → Answer A → Answer A
@@ -32,7 +32,7 @@ abbrev pub removable : Key → Answer (Unit {0})
 removable k = check Owner (isOwner (k .owner)) (gives tt)
 
 abbrev pub adding : Exposure → List ℤ → Answer (List Entry)
-adding x l = check Owner (isOwner (x .owner)) (check Vector (isVector (x .pointing)) (inList l (entering (keyOf x) (entryOf x) (entriesIn l))))
+adding x l = check Owner (isOwner (x .owner)) (check Vector (isVector (x .pointing)) (inList l (inserting (keyOf x) (entryOf x) (entriesIn l))))
 
 abbrev pub removing : Key → List ℤ → Answer (List Entry)
 removing k l = check Owner (isOwner (k .owner)) (inList l (withdrawing k (entriesIn l)))
@@ -61,14 +61,14 @@ beginAfter l = stored withEntries (beginning l) l
 unfoldable pub countAnswer : List ℤ → Answer ℕ
 countAnswer l = inList l (gives (countIn l))
 
-unfoldable pub entryAnswer : ℕ → List ℤ → Answer Placed
-entryAnswer i l = inList l (gives (placed i (entriesIn l)))
+unfoldable pub entryAnswer : ℕ → List ℤ → Answer Slot
+entryAnswer i l = inList l (gives (slotAt i (entriesIn l)))
 
 abbrev pub changeGiven : Change → Answer (Unit {0})
 changeGiven Change.Made = gives tt
 changeGiven (Change.Refused n) = refused n
 
-abbrev pub entryGiven : EntryOf → Answer Placed
+abbrev pub entryGiven : EntryOf → Answer Slot
 entryGiven (EntryOf.Gives e) = gives (found e)
 entryGiven EntryOf.Nothing = gives nothing
 entryGiven (EntryOf.Refused n) = refused n

@@ -1,6 +1,6 @@
 -- The entries of an index, and how they stand in a lent list. Document 02, F-10: ordered by depth-12 identifier and then number; F-11: entries alike in both
--- stand with owner 0 first. In the list, element 0 is the count, and then come the entries, six numbers each: identifier, number, owner, x, y, z. What is
--- said here is said of every list, index or not.
+-- stand with owner 0 first. In the list, element 0 is the count, and then come the entries, six numbers each: identifier, number, owner, x, y, z. The
+-- definitions are for every list, index or not.
 --   entryOf x         the entry of an exposure
 --   below y z t       y is below z or, where they are equal, t: one part of an order, and what the parts after it say
 --   precedes a b      the order of the entries; byNumber a b: of those with one identifier
@@ -10,16 +10,16 @@
 --   IndexLength       the fewest elements of a list that is lent for an index
 --   entryAt l k       the entry whose numbers begin at element k of the list l
 --   entriesFrom n l   the first n entries of a list l without count
---   countIn l         the count that the list l says: none where it is below 0, and no more than IndexCapacity
+--   countIn l         the count in element 0 of the list l: 0 where that is below 0, and at most IndexCapacity
 --   entriesIn l       the entries in the list l
 --   written es l      the list l without count with the entries es at its front; the other elements stay
 --   withEntries es l  the list l with the entries es in the place of its own
 --   inserted e es     e before those entries at the end that it precedes
 --   withdrawn k es    without the first entry that has the key k
---   hasRoom es        one entry more has a place in the list, whoever's it is
---   entering          the entries after an add, or the refusal: 15 twice, 16 full; withdrawing: after a removal, or 17 absent
---   Placed            what stands at a place: an entry, or nothing
---   placed i es       what stands at place i, counted from 0: nothing past the last entry
+--   hasRoom es        the list has room for another entry, of either owner
+--   inserting         the entries after an add, or the refusal: 15 twice, 16 full; withdrawing: after a removal, or 17 absent
+--   Slot              what stands at a place: an entry, or nothing
+--   slotAt i es       what stands at place i, counted from 0: nothing past the last entry
 use Prim.Native.Nat.{ℕ, zero, suc, _+_, _*_, min}
 use mathlib.Core.Bool.{Bool, cond, not, _&&_, _||_}
 use mathlib.Core.List.{List, [], _∷_, _++_}
@@ -94,7 +94,7 @@ written (e ∷ es) l = numbers e ++ written es (drop Width l)
 unfoldable pub withEntries : List Entry → List ℤ → List ℤ
 withEntries es l = pos (length es) ∷ written es (drop 1 l)
 
--- ---- one entry more, one less, one by its place
+-- ---- an entry inserted, withdrawn, found by its place
 
 unfoldable pub inserted : Entry → List Entry → List Entry
 inserted e [] = e ∷ []
@@ -109,18 +109,18 @@ abbrev pub hasRoom : List Entry → Bool
 hasRoom es = ltb (length es) IndexCapacity
 
 -- the entry e of the exposure with the key k
-abbrev pub entering : Key → Entry → List Entry → Answer (List Entry)
-entering k e es =
+abbrev pub inserting : Key → Entry → List Entry → Answer (List Entry)
+inserting k e es =
     check Twice (not (some (isKeyed k) es)) (check Full (hasPlace OwnerCapacity (isOwned (k .owner)) es) (check Full (hasRoom es) (gives (inserted e es))))
 
 abbrev pub withdrawing : Key → List Entry → Answer (List Entry)
 withdrawing k es = check Absent (some (isKeyed k) es) (gives (withdrawn k es))
 
-pub data Placed : Type 0 where
-  found : Entry → Placed
-  nothing : Placed
+pub data Slot : Type 0 where
+  found : Entry → Slot
+  nothing : Slot
 
-unfoldable pub placed : ℕ → List Entry → Placed
-placed i [] = nothing
-placed zero (e ∷ es) = found e
-placed (suc i) (e ∷ es) = placed i es
+unfoldable pub slotAt : ℕ → List Entry → Slot
+slotAt i [] = nothing
+slotAt zero (e ∷ es) = found e
+slotAt (suc i) (e ∷ es) = slotAt i es

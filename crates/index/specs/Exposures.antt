@@ -5,11 +5,11 @@
 --   isOwner o         0 or 1
 --   Exposure          an owner, a number and a pointing; exposed o n p, exposure o n x y z: the one of these
 --   isNumber n        an unsigned 32-bit number
---   Key, key o n      what exposures are told apart by: owner and number; keyOf x: the key of x
+--   Key, key o n      owner and number, which identify an exposure; keyOf x: the key of x
 --   hasOwner o x      x is an exposure of the owner o
 --   hasKey k x        x is the exposure with the key k
 --   only f xs         the elements of xs that pass the test f, in their order
---   hasPlace m f xs   one more that passes the test f has a place beside xs, where m is the most of such
+--   hasPlace m f xs   fewer than m of xs pass the test f, so that another one has a place beside them
 --   Call              one exposure is added, or the one with a key removed; a history is a list of calls
 --   without k xs      the exposures xs without the one with the key k
 --   giving m c xs     the exposures after the call c, where xs are there and m is the most of one owner, or the call's refusal

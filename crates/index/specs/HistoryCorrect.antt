@@ -1,15 +1,15 @@
 -- The theorem of the index. Document 02, F-10: over every list of adds and removes from an empty index, the content is the set that the accepted ones leave,
 -- and a withdrawn place serves again; F-11: with two owners, each of whom may have 1024 entries.
 --   Ascends es        each entry precedes the next
---   Holds xs es       es are the entries of the exposures xs, each once, in ascending order: of es as many pass every test as of xs
+--   EntriesMatch xs es   es are the entries of the exposures xs, each once, in ascending order: of es as many pass every test as of xs
 --   isFiled e         e is the entry of a number of 32 bits, an owner and a vector
 --   IsIndex l         the list l is an index; IsEmpty l: one without entries
 --   Does ..           the call c, as its contract has it, gave r and left the list `after` of `before`
 --   Runs l h rs n     the calls h one after the other give rs, from the list l on, and leave the list n
 --   Numbered h        the numbers of the exposures that h adds have 32 bits
 --   IsNew x h         after the history h, x may be added as far as its owner, its pointing and its number go
---   ServesAgain h     after the history h, one more of an owner that has 1024 is refused as full; and when one is withdrawn, whether there were 1024 or fewer,
---                     any other of the same owner is taken
+--   ServesAgain h     after the history h, another exposure of an owner that has 1024 is refused as full; and when one is withdrawn, whether there were 1024 or
+--                     fewer, any other of the same owner is accepted
 --   Leaves h rs n     the answers rs and the list n are what the rule says of the history h
 --   HistoryCorrect    the statement: lists of zeros, and lists that `begin` leaves, are empty indexes; from one every history leaves what it should; and in
 --                     an index there is room wherever an owner has a place
@@ -39,7 +39,7 @@ Ascends [] = Unit {0}
 Ascends (a ∷ []) = Unit {0}
 Ascends (a ∷ b ∷ rest) = (precedes a b ≡ true) × Ascends (b ∷ rest)
 
-pub record Holds (xs : List Exposure) (es : List Entry) : Type 0 where
+pub record EntriesMatch (xs : List Exposure) (es : List Entry) : Type 0 where
   pub ascends : Ascends es
   pub exactly : (f : Entry → Bool) → tally f es ≡ tally (λ x. f (entryOf x)) xs
 
@@ -104,7 +104,7 @@ pub record ServesAgain (h : List Call) : Type 0 where
 pub record Leaves (h : List Call) (rs : List Change) (n : List ℤ) : Type 0 where
   pub answers : map changeGiven rs ≡ answersOf OwnerCapacity h
   pub index : IsIndex n
-  pub content : Holds (contentOf OwnerCapacity h) (entriesIn n)
+  pub content : EntriesMatch (contentOf OwnerCapacity h) (entriesIn n)
   pub count : countAnswer n ≡ gives (length (contentOf OwnerCapacity h))
   pub again : ServesAgain h
 

@@ -2,4 +2,4 @@ pub mod Exposures
 pub mod Entries
 pub mod Answers
 pub mod HistoryCorrect
-pub mod Apart
+pub mod Noninterference

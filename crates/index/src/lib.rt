@@ -24,7 +24,7 @@ pub struct Entry {
     pub pointing: Vec3,
 }
 
-// What a call answers that changes the index: that it was done, or the number of the first check that failed.
+// The answer of a call that changes the index: that it was done, or the number of the first check that failed.
 pub enum Change {
     Made,
     Refused(u32),

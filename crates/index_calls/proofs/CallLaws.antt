@@ -20,7 +20,7 @@ use Rattle.index.specs.declared.Entry.{Entry}
 use Rattle.index.specs.declared.Change.{Change}
 use Rattle.index.specs.declared.Change.the-variants.{Made, Refused}
 use Rattle.index.specs.Exposures.{IndexCapacity, OwnerCapacity, Exposure, Key, hasPlace}
-use Rattle.index.specs.Entries.{Width, IndexLength, numbers, entryAt, precedes, isOwned, isKeyed, countIn, entriesFrom, entriesIn, written, withEntries, inserted, withdrawn, hasRoom, entering, withdrawing, Placed, nothing, placed}
+use Rattle.index.specs.Entries.{Width, IndexLength, numbers, entryAt, precedes, isOwned, isKeyed, countIn, entriesFrom, entriesIn, written, withEntries, inserted, withdrawn, hasRoom, inserting, withdrawing, Slot, nothing, slotAt}
 use Rattle.index.specs.Answers.{inList, beginning, adding, removing, beginAnswer, beginAfter, addAnswer, addAfter, removeAnswer, removeAfter, countAnswer, entryAnswer, changeGiven}
 use Rattle.index.proofs.WrittenLaws.{length-entries}
 use Rattle.algebra.proofs.Moves.{lowered}
@@ -82,7 +82,7 @@ module _ (l : List ℤ) (n : ℕ) (long : IndexLength ≤ length l) (is : n ≡ 
       (λ j. ltb (p j) (sym entries j)) ∙ found (isKeyed k) (entriesIn l)
 
   module _ (k : Key) (i : ℕ) (s : i ≡ leading (λ e. not (isKeyed k e)) (entriesFrom n (drop 1 l))) where
-    pub is-twice : (e : Entry) → i < n → Done (inList l (entering k e (entriesIn l))) l l (Refused Twice)
+    pub is-twice : (e : Entry) → i < n → Done (inList l (inserting k e (entriesIn l))) l l (Refused Twice)
     is-twice e h =
         let a : leb IndexLength (length l) ≡ true = le-leb IndexLength (length l) long in
         let b : some (isKeyed k) (entriesIn l) ≡ true = sym (searched k i s) ∙ lt-ltb i n h in
@@ -99,7 +99,7 @@ module _ (l : List ℤ) (n : ℕ) (long : IndexLength ≤ length l) (is : n ≡ 
       owned : tally (isOwned (k .owner)) (entriesIn l) ≡ w
       owned = ap (tally (isOwned (k .owner))) (sym read) ∙ sym c
 
-      pub is-full : OwnerCapacity ≤ w → Done (inList l (entering k e (entriesIn l))) l l (Refused Full)
+      pub is-full : OwnerCapacity ≤ w → Done (inList l (inserting k e (entriesIn l))) l l (Refused Full)
       is-full f =
           let g : hasPlace OwnerCapacity (isOwned (k .owner)) (entriesIn l) ≡ false = ap (λ m. ltb m OwnerCapacity) owned ∙ le-ltb w OwnerCapacity f in
           record { answer = rw (a, b, g) refl; list = rw (a, b, g) refl }
@@ -108,16 +108,16 @@ module _ (l : List ℤ) (n : ℕ) (long : IndexLength ≤ length l) (is : n ≡ 
         place : hasPlace OwnerCapacity (isOwned (k .owner)) (entriesIn l) ≡ true
         place = ap (λ m. ltb m OwnerCapacity) owned ∙ lt-ltb w OwnerCapacity f
 
-        pub no-room : IndexCapacity ≤ n → Done (inList l (entering k e (entriesIn l))) l l (Refused Full)
+        pub no-room : IndexCapacity ≤ n → Done (inList l (inserting k e (entriesIn l))) l l (Refused Full)
         no-room h =
             let g : hasRoom (entriesIn l) ≡ false = le-ltb (length (entriesIn l)) IndexCapacity (omega (arith, entries)) in
             record { answer = rw (a, b, place, g) refl; list = rw (a, b, place, g) refl }
 
-        pub is-entered : (p : ℕ) (u v : List ℤ) → n < IndexCapacity → p ≡ staying (precedes e) (entriesFrom n (drop 1 l)) → p ≤ n
+        pub is-inserted : (p : ℕ) (u v : List ℤ) → n < IndexCapacity → p ≡ staying (precedes e) (entriesFrom n (drop 1 l)) → p ≤ n
             → u ≡ raised (1 + Width * p) l (Width * (n - p)) → v ≡ put (1 + Width * p) (numbers e) u
-            → Done (inList l (entering k e (entriesIn l))) l (set v 0 (toZ w64 (n + 1))) Made
+            → Done (inList l (inserting k e (entriesIn l))) l (set v 0 (toZ w64 (n + 1))) Made
         unfolding withEntries
-        is-entered p u v h q g x y =
+        is-inserted p u v h q g x y =
             let r : hasRoom (entriesIn l) ≡ true = lt-ltb (length (entriesIn l)) IndexCapacity (omega (arith, entries)) in
             let es = entriesFrom n (drop 1 l) in
             let t : take p es ++ e ∷ drop p es ≡ inserted e (entriesIn l) = ap (λ j. take j es ++ e ∷ drop j es) q ∙ inserted-at e es ∙ ap (inserted e) read in
@@ -155,19 +155,19 @@ module _ (l : List ℤ) (n : ℕ) (long : IndexLength ≤ length l) (is : n ≡ 
 
 -- ---- how many entries there are, and one by its place
 
-placed-at : (n : ℕ) (l : List ℤ) (a i : ℕ) → i < n → placed i (entriesFrom n (drop a l)) ≡ Placed.found (entryAt l (a + Width * i))
-unfolding placed entriesFrom
-placed-at zero l a i h = absurd (omega arith)
-placed-at (suc n) l a zero h = let e : a ≡ a + Width * 0 = omega arith in ap Placed.found (entry-drop a l ∙ ap (entryAt l) e)
-placed-at (suc n) l a (suc i) h =
+slot-at : (n : ℕ) (l : List ℤ) (a i : ℕ) → i < n → slotAt i (entriesFrom n (drop a l)) ≡ Slot.found (entryAt l (a + Width * i))
+unfolding slotAt entriesFrom
+slot-at zero l a i h = absurd (omega arith)
+slot-at (suc n) l a zero h = let e : a ≡ a + Width * 0 = omega arith in ap Slot.found (entry-drop a l ∙ ap (entryAt l) e)
+slot-at (suc n) l a (suc i) h =
     let e : a + Width + Width * i ≡ a + Width * suc i = omega arith in
-    ap (λ m. placed i (entriesFrom n m)) (drop-drop Width a l) ∙ placed-at n l (a + Width) i (omega arith) ∙ ap (λ k. Placed.found (entryAt l k)) e
+    ap (λ m. slotAt i (entriesFrom n m)) (drop-drop Width a l) ∙ slot-at n l (a + Width) i (omega arith) ∙ ap (λ k. Slot.found (entryAt l k)) e
 
-placed-past : (n : ℕ) (l : List ℤ) (i : ℕ) → n ≤ i → placed i (entriesFrom n l) ≡ nothing
-unfolding placed entriesFrom
-placed-past zero l i h = refl
-placed-past (suc n) l zero h = absurd (omega arith)
-placed-past (suc n) l (suc i) h = placed-past n (drop Width l) i (omega arith)
+slot-past : (n : ℕ) (l : List ℤ) (i : ℕ) → n ≤ i → slotAt i (entriesFrom n l) ≡ nothing
+unfolding slotAt entriesFrom
+slot-past zero l i h = refl
+slot-past (suc n) l zero h = absurd (omega arith)
+slot-past (suc n) l (suc i) h = slot-past n (drop Width l) i (omega arith)
 
 module _ (l : List ℤ) where
   pub none-counted : length l < IndexLength → refused Space ≡ countAnswer l
@@ -179,19 +179,19 @@ module _ (l : List ℤ) where
   is-counted h n is = let e : leb IndexLength (length l) ≡ true = le-leb IndexLength (length l) h in rw e (ap gives is)
 
   module _ (i : ℕ) where
-    pub none-placed : length l < IndexLength → refused Space ≡ entryAnswer i l
+    pub entry-short : length l < IndexLength → refused Space ≡ entryAnswer i l
     unfolding entryAnswer
-    none-placed h = let e : leb IndexLength (length l) ≡ false = lt-leb IndexLength (length l) h in rw e refl
+    entry-short h = let e : leb IndexLength (length l) ≡ false = lt-leb IndexLength (length l) h in rw e refl
 
     module _ (long : IndexLength ≤ length l) (n : ℕ) (is : n ≡ countIn l) where
       pub is-past : n ≤ i → gives nothing ≡ entryAnswer i l
       unfolding entryAnswer entriesIn
       is-past h =
           let e : leb IndexLength (length l) ≡ true = le-leb IndexLength (length l) long in
-          rw e (ap gives (sym (placed-past (countIn l) (drop 1 l) i (omega arith))))
+          rw e (ap gives (sym (slot-past (countIn l) (drop 1 l) i (omega arith))))
 
-      pub is-placed : i < n → gives (Placed.found (entryAt l (1 + Width * i))) ≡ entryAnswer i l
+      pub has-entry : i < n → gives (Slot.found (entryAt l (1 + Width * i))) ≡ entryAnswer i l
       unfolding entryAnswer entriesIn
-      is-placed h =
+      has-entry h =
           let e : leb IndexLength (length l) ≡ true = le-leb IndexLength (length l) long in
-          rw e (ap gives (sym (placed-at (countIn l) l 1 i (omega arith))))
+          rw e (ap gives (sym (slot-at (countIn l) l 1 i (omega arith))))

@@ -13,7 +13,7 @@ use Rattle.index.specs.declared.Entry.{Entry}
 use Rattle.index.specs.declared.Change.{Change}
 use Rattle.index.specs.declared.Change.the-variants.{Refused}
 use Rattle.index.specs.Exposures.{isOwner, Exposure, keyOf}
-use Rattle.index.specs.Entries.{entryOf, entriesIn, entering}
+use Rattle.index.specs.Entries.{entryOf, entriesIn, inserting}
 use Rattle.index.specs.Answers.{inList, adding}
 use Rattle.index_calls.specs.Done.{Done}
 use Rattle.index_calls.proofs.CallLaws.{of-owner}
@@ -28,5 +28,5 @@ unfolding lookup
 not-added x l n o e = of-owner o (no-vector x l n _ (isVector (x .pointing)) e)
 
 pub added : (x : Exposure) (e : Entry) (l m : List ℤ) (r : Change) → isOwner (x .owner) ≡ true → isVector (x .pointing) ≡ true → e ≡ entryOf x
-    → Done (inList l (entering (keyOf x) e (entriesIn l))) l m r → Done (adding x l) l m r
+    → Done (inList l (inserting (keyOf x) e (entriesIn l))) l m r → Done (adding x l) l m r
 added x e l m r o v f d = rw (o, v) (rw f at d)

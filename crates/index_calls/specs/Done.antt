@@ -1,4 +1,4 @@
--- A call that changes the index, as its contract has it.
+-- A call that changes the index, as its contract has it. Document 02, F-10 and F-11.
 --   Done a before after r   the call gave r by the answer a, and `after` is the list `before` with the entries that a gives; a refusal leaves it
 use mathlib.Core.Path.{_≡_}
 use mathlib.Core.List.{List}

@@ -1,5 +1,5 @@
 // The calls on an index: it is begun, exposures are added and removed, the entries counted, and one read by its place. The rules stand in
-// index/specs/Answers; they say what is done of every list, index or not.
+// index/specs/Answers; they say what is done with every list, index or not.
 use answer::ABSENT;
 use answer::FULL;
 use answer::Number;
@@ -19,7 +19,7 @@ use vector::Vec3;
 ghost use mathlib.Core.Path.{_≡_};
 ghost use Rattle.answer.specs.Calls.{numberOf};
 ghost use Rattle.index.specs.Exposures.{key, exposed};
-ghost use Rattle.index.specs.Entries.{entriesIn, entering};
+ghost use Rattle.index.specs.Entries.{entriesIn, inserting};
 ghost use Rattle.index.specs.Answers.{inList, beginAnswer, beginAfter, addAnswer, addAfter, removeAnswer, removeAfter, countAnswer, entryAnswer};
 ghost use Rattle.index.specs.Answers.{changeGiven, entryGiven};
 ghost use Rattle.index_calls.specs.Done.{Done};
@@ -36,7 +36,7 @@ pub fn begin(index: &mut [i64]) -> Change
     Change::Made
 }
 
-// One exposure more of an owner, by its number and its pointing; refusals 18, 8, 10, 15, 16.
+// Adds an exposure of an owner, by its number and its pointing; refusals 18, 8, 10, 15, 16.
 pub fn add(index: &mut [i64], owner: u32, number: u32, p: Vec3) -> Change
     ensures { λ r. ⌜ changeGiven r ≡ addAnswer (exposed owner number p) (now (index .entry)) ⌝ }
     ensures { λ r. ⌜ now (index .exit) ≡ addAfter (exposed owner number p) (now (index .entry)) ⌝ }
@@ -61,9 +61,9 @@ pub fn add(index: &mut [i64], owner: u32, number: u32, p: Vec3) -> Change
     }
 }
 
-// The entry of the exposure with this owner and number, in its place; refusals 10, 15, 16. In an index there is room wherever the owner has a place.
+// Inserts the entry of the exposure with this owner and number; refusals 10, 15, 16. In an index there is room wherever the owner has a place.
 fn insert(index: &mut [i64], e: Entry, owner: u32, number: u32) -> Change
-    ensures { λ r. ⌜ Done (inList (now (index .entry)) (entering (key owner number) e (entriesIn (now (index .entry)))))
+    ensures { λ r. ⌜ Done (inList (now (index .entry)) (inserting (key owner number) e (entriesIn (now (index .entry)))))
         (now (index .entry)) (now (index .exit)) r ⌝ }
 {
     if index.len() < INDEX_LENGTH {
@@ -86,7 +86,7 @@ fn insert(index: &mut [i64], e: Entry, owner: u32, number: u32) -> Change
     Change::Made
 }
 
-// One exposure less of an owner, by its number; refusals 18, 10, 17.
+// Removes an exposure of an owner, by its number; refusals 18, 10, 17.
 pub fn remove(index: &mut [i64], owner: u32, number: u32) -> Change
     ensures { λ r. ⌜ changeGiven r ≡ removeAnswer (key owner number) (now (index .entry)) ⌝ }
     ensures { λ r. ⌜ now (index .exit) ≡ removeAfter (key owner number) (now (index .entry)) ⌝ }

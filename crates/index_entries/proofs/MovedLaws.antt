@@ -39,7 +39,7 @@ front (suc p) l m h =
     ∙ append-assoc e a (drop (Width * p) (drop Width m))
     ∙ ap (λ x. e ++ x) (front p (drop Width l) (drop Width m) (omega (arith, length-drop Width l)))
 
--- ---- one entry more
+-- ---- an entry inserted
 
 more′ : (i q n : ℕ) (e : Entry) (l : List ℤ) → n ≡ i + q → Width * n ≤ length l
     → take (Width * i) l ++ (numbers e ++ (take (Width * q) (drop (Width * i) l) ++ drop (Width * suc n) l)) ≡ written (take i (entriesFrom n l) ++ e ∷ drop i (entriesFrom n l)) l
@@ -55,7 +55,7 @@ more′ (suc i) q (suc n) e l s h =
     ∙ append-assoc f (take (Width * i) m) (numbers e ++ (take (Width * q) (drop (Width * i) m) ++ drop (Width * suc n) m))
     ∙ ap (λ x. f ++ x) (more′ i q n e m (omega arith) (omega (arith, length-drop Width l)))
 
--- the same in an index of n entries, whose count stands before them
+-- as above, in an index of n entries, whose count stands before them
 pub one-more : (n i m : ℕ) (e : Entry) (l : List ℤ) (v : ℤ) → i ≤ n → m ≡ Width * (n - i) → 1 + Width + Width * n ≤ length l
     → set (put (1 + Width * i) (numbers e) (raised (1 + Width * i) l m)) 0 v ≡ v ∷ written (take i (entriesFrom n (drop 1 l)) ++ e ∷ drop i (entriesFrom n (drop 1 l))) (drop 1 l)
 one-more n i m e [] v h s f = absurd (omega arith)
@@ -66,7 +66,7 @@ one-more n i m e (c ∷ l) v h s f =
     ∙ (λ j. take (a j) (c ∷ l) ++ (numbers e ++ (take (s j) (drop (a j) (c ∷ l)) ++ drop (d j) (c ∷ l)))))
     ∙ ap (λ x. v ∷ x) (more′ i (n - i) n e l (omega arith) (omega arith))
 
--- ---- one entry less
+-- ---- an entry removed
 
 less′ : (i q n : ℕ) (l : List ℤ) → n ≡ i + q → Width * suc n ≤ length l
     → take (Width * i) l ++ (take (Width * q) (drop (Width * suc i) l) ++ drop (Width * n) l) ≡ written (take i (entriesFrom (suc n) l) ++ drop (suc i) (entriesFrom (suc n) l)) l

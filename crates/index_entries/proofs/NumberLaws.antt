@@ -57,15 +57,15 @@ pub none-below : (z : ℤ) → mag z < 2 ^ 63 → less z (pos 0) ≡ true → 0 
 none-below (pos n) h e = absurd (omega (arith, ltb-true n 0 (sym (same-less (pos n) (pos 0) h (omega arith)) ∙ e)))
 none-below (negsuc n) h e = refl
 
--- a number that is not below 0 fits the cast to one without a sign, and is the count, up to the most
-pub record Counts (z y : ℤ) : Type 0 where
+-- a number that is not below 0 fits the cast to one without a sign, and is the count, up to the capacity
+pub record CountCast (z y : ℤ) : Type 0 where
   pub sign : T (nonNeg z)
   pub fits : Fits w64 (natAbs z)
   pub same : min (natAbs z) IndexCapacity ≡ countOf y
 
-counts′ : (z : ℤ) → mag z < 2 ^ 63 → ltZ z (pos 0) ≡ false → Counts z z
-counts′ (pos n) h e = record { sign = tt; fits = record { fits = omega arith }; same = refl }
-counts′ (negsuc n) h e = absurd (true≢false e)
+count-cast′ : (z : ℤ) → mag z < 2 ^ 63 → ltZ z (pos 0) ≡ false → CountCast z z
+count-cast′ (pos n) h e = record { sign = tt; fits = record { fits = omega arith }; same = refl }
+count-cast′ (negsuc n) h e = absurd (true≢false e)
 
-pub counts : (z : ℤ) → mag z < 2 ^ 63 → less z (pos 0) ≡ false → Counts (toZ w64 (ofZ w64 z)) z
-counts z h e = subst (λ x. Counts x z) (sym (stored-same z h)) (counts′ z h (sym (same-less z (pos 0) h (omega arith)) ∙ e))
+pub count-cast : (z : ℤ) → mag z < 2 ^ 63 → less z (pos 0) ≡ false → CountCast (toZ w64 (ofZ w64 z)) z
+count-cast z h e = subst (λ x. CountCast x z) (sym (stored-same z h)) (count-cast′ z h (sym (same-less z (pos 0) h (omega arith)) ∙ e))

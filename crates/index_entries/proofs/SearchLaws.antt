@@ -77,7 +77,7 @@ module _ (f : Entry → Bool) where
       ap suc (rest ∙ ap (λ m. staying f (entriesFrom n m)) (sym (drop-drop Width a l)))
       ∙ sym (ap (λ t. cond t 0 (suc (staying f (entriesFrom n (drop Width (drop a l)))))) e)
 
--- ---- what is counted on the way: one entry more
+-- ---- what is counted on the way, entry by entry
 
 pub counted-more : (f : Entry → Bool) (i : ℕ) (l : List ℤ) (a : ℕ)
     → tally f (entriesFrom (suc i) (drop a l)) ≡ cond (f (entryAt l (a + Width * i))) (suc (tally f (entriesFrom i (drop a l)))) (tally f (entriesFrom i (drop a l)))

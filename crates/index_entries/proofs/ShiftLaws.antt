@@ -59,7 +59,7 @@ module _ (k : ℕ) (l : List ℤ) (m : ℕ) (fits : k + Width + m + Width ≤ le
       ∙ ap (λ x. a ++ (x ++ drop (k + Width + (Width + m)) l)) (sym (take-add Width m (drop k l)))
       ∙ sym (append-assoc a (take (Width + m) (drop k l)) (drop (k + Width + (Width + m)) l))
 
--- the same as a loop has it: of n entries i are left, and then one fewer
+-- as above, for a loop: of n entries i are left, and then one fewer
 module _ (n i : ℕ) (l m : List ℤ) (is : m ≡ raised (1 + Width * i) l (Width * (n - i))) (some : 0 < i) (few : i ≤ n) (fits : 1 + Width + Width * n ≤ length l) where
   k : ℕ
   k = 1 + Width * (i - 1)

@@ -1,4 +1,4 @@
--- The steps of the code on the entries of a list.
+-- The steps of the code on the entries of a list, for the rules of index/specs. Document 02, F-10.
 --   leading f xs    how many elements at the front of xs pass the test f
 --   staying f xs    how many elements stand before those at the end of xs that pass the test f
 --   raised at l k   the list l, where k elements, from number `at` on, have moved up by the width of an entry

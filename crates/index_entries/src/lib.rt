@@ -1,5 +1,5 @@
-// The entries of an index, in lent memory: reading, storing, their order, searches, and the moving of entries for one more and for one less. The rules
-// stand in index/specs, the steps of the code in specs/Steps. Each function says what it does of every list, index or not.
+// The entries of an index, in lent memory: reading, storing, their order, searches, and how entries move when one is inserted or removed. The rules
+// stand in index/specs, the steps of the code in specs/Steps. Each contract holds of every list, index or not.
 use index::Entry;
 use index::INDEX_CAPACITY;
 use index::WIDTH;
@@ -15,8 +15,8 @@ ghost use Rattle.index.specs.Entries as rule;
 ghost use Rattle.index_entries.specs.Steps.{leading, staying, raised};
 ghost use Rattle.algebra.proofs.Moves.{lowered};
 
-// What a search for a key ends with: the place of the first entry that has it, or how many entries there are; and then, how many of them are the owner's.
-pub struct Found {
+// The result of a search for a key: the place of the first entry that has it; or how many entries there are, and then how many of them are the owner's.
+pub struct KeySearch {
     pub place: usize,
     pub owned: usize,
 }
@@ -100,8 +100,8 @@ pub fn count_in(index: &[i64]) -> usize
     }
 }
 
-// One more, where the entry is one of this owner.
-fn counted(count: usize, e: Entry, owner: u32) -> usize
+// Counts an entry where it is one of this owner.
+fn count_if_owned(count: usize, e: Entry, owner: u32) -> usize
     requires { ⌜ count ≤ IndexCapacity ⌝ }
     ensures { λ r. ⌜ (r ≡ cond (isOwned owner e) (count + 1) count) × (r ≤ count + 1) ⌝ }
 {
@@ -109,7 +109,7 @@ fn counted(count: usize, e: Entry, owner: u32) -> usize
 }
 
 // Goes over n entries for the one with this owner and number, and counts the owner's on the way. Two entries a turn: one takes half as long again.
-pub fn find(index: &[i64], n: usize, owner: u32, number: u32) -> Found
+pub fn find(index: &[i64], n: usize, owner: u32, number: u32) -> KeySearch
     requires { ⌜ (1 + Width * n ≤ length (now index)) × (n ≤ IndexCapacity) ⌝ }
     ensures { λ r. ⌜ (r .place ≡ leading (λ e. not (isKeyed (key owner number) e)) (entriesFrom n (drop 1 (now (index .entry))))) × (r .place ≤ n) ⌝ }
     ensures { λ r. ⌜ (n ≤ r .place → r .owned ≡ tally (isOwned owner) (entriesFrom n (drop 1 (now (index .entry))))) ⌝ }
@@ -119,37 +119,37 @@ pub fn find(index: &[i64], n: usize, owner: u32, number: u32) -> Found
     while i + 1 < n {
         let e = entry_at(index, 1 + WIDTH * i);
         if is_keyed(e, owner, number) {
-            return Found {
+            return KeySearch {
                 place: i,
                 owned: owned,
             };
         }
         let f = entry_at(index, 1 + WIDTH * (i + 1));
         if is_keyed(f, owner, number) {
-            return Found {
+            return KeySearch {
                 place: i + 1,
                 owned: owned,
             };
         }
-        owned = counted(counted(owned, e, owner), f, owner);
+        owned = count_if_owned(count_if_owned(owned, e, owner), f, owner);
         i += 2;
     }
     if n <= i {
-        return Found {
+        return KeySearch {
             place: n,
             owned: owned,
         };
     }
     let e = entry_at(index, 1 + WIDTH * i);
     if is_keyed(e, owner, number) {
-        return Found {
+        return KeySearch {
             place: i,
             owned: owned,
         };
     }
-    Found {
+    KeySearch {
         place: n,
-        owned: counted(owned, e, owner),
+        owned: count_if_owned(owned, e, owner),
     }
 }
 

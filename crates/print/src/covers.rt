@@ -10,19 +10,20 @@ ghost use Rattle.answer.specs.Answer.{gives};
 ghost use Rattle.region.specs.Reader.{File, Accepted};
 ghost use Rattle.region.specs.Answers.{headerGiven};
 
-// Two lists of pairs, each within the largest budget.
-const ELEMENTS: usize = 4 * MAX_BUDGET as usize;
+// The elements of two lists of pairs, each within the largest budget.
+pub const RANGES_LENGTH: usize = 4 * MAX_BUDGET as usize;
 
-// What is printed of a range: a byte that parts it from what is before, a letter and its first and last name; or `|` and its first and last identifier.
+// What is printed of a range: a separator, a letter and its first and last name; or `|` and its first and last identifier.
 pub enum RangeShape {
-    Names { part: u8, letter: u8 },
+    Names { separator: u8, letter: u8 },
     Identifiers,
 }
 
-pub fn lines(out: &mut Buffer, at: usize, file: &[u8], part: u8) -> usize {
-    let mut lists = [0u64; ELEMENTS];
+// The lines of the cover of a file, with the byte `separator` between them; or its refusal.
+pub fn lines(out: &mut Buffer, at: usize, file: &[u8], separator: u8) -> usize {
+    let mut lists = [0u64; RANGES_LENGTH];
     match htm::cover(file, &mut lists) {
-        CoverOf::Gives(counts) => accepted(out, at, file, counts, &lists, part),
+        CoverOf::Gives(counts) => accepted(out, at, file, counts, &lists, separator),
         CoverOf::Refused(n) => crate::refused(out, at, n),
     }
 }
@@ -33,11 +34,11 @@ fn accepted(
     at: usize,
     file: &[u8],
     counts: Counts,
-    lists: &[u64; ELEMENTS],
-    part: u8,
+    lists: &[u64; RANGES_LENGTH],
+    separator: u8,
 ) -> usize {
     match header_of(file) {
-        HeaderOf::Gives(header) => covered(out, at, header, counts, lists, part),
+        HeaderOf::Gives(header) => covered(out, at, header, counts, lists, separator),
         HeaderOf::Refused(n) => crate::refused(out, at, n),
     }
 }
@@ -55,18 +56,29 @@ fn covered(
     at: usize,
     header: Header,
     counts: Counts,
-    lists: &[u64; ELEMENTS],
-    part: u8,
+    lists: &[u64; RANGES_LENGTH],
+    separator: u8,
 ) -> usize {
     let end = first_line(out, at, header.depth, counts);
     let inner = pairs(lists, inner_start(header.budget), counts.inner);
     let end = ranges(
         out,
         end,
-        RangeShape::Names { part, letter: b'o' },
+        RangeShape::Names {
+            separator,
+            letter: b'o',
+        },
         pairs(lists, 0, counts.outer),
     );
-    let end = ranges(out, end, RangeShape::Names { part, letter: b'i' }, inner);
+    let end = ranges(
+        out,
+        end,
+        RangeShape::Names {
+            separator,
+            letter: b'i',
+        },
+        inner,
+    );
     crate::byte(out, end, b'\n')
 }
 
@@ -87,10 +99,10 @@ fn labelled(out: &mut Buffer, at: usize, label: &[u8], n: u64) -> usize {
 
 // The element of the lent list at which the inner list begins: twice the budget.
 fn inner_start(budget: u32) -> usize {
-    crate::least(limits::budget_of(budget) as u64 * 2, ELEMENTS)
+    crate::least(limits::budget_of(budget) as u64 * 2, RANGES_LENGTH)
 }
 
-// The pairs of so many ranges from an element on.
+// The pairs of `count` ranges, from element `from` on.
 fn pairs(lists: &[u64], from: usize, count: u64) -> &[u64] {
     if lists.len() < from {
         return &lists[..0];
@@ -110,13 +122,13 @@ pub fn ranges(out: &mut Buffer, at: usize, shape: RangeShape, pairs: &[u64]) -> 
 
 fn range(out: &mut Buffer, at: usize, shape: RangeShape, low: u64, high: u64) -> usize {
     match shape {
-        RangeShape::Names { part, letter } => names(out, at, part, letter, low, high),
+        RangeShape::Names { separator, letter } => names(out, at, separator, letter, low, high),
         RangeShape::Identifiers => identifiers(out, at, low, high),
     }
 }
 
-fn names(out: &mut Buffer, at: usize, part: u8, letter: u8, low: u64, high: u64) -> usize {
-    let end = crate::byte(out, at, part);
+fn names(out: &mut Buffer, at: usize, separator: u8, letter: u8, low: u64, high: u64) -> usize {
+    let end = crate::byte(out, at, separator);
     let end = crate::byte(out, end, letter);
     let end = crate::byte(out, end, b' ');
     let end = crate::name(out, end, low);

@@ -9,7 +9,14 @@ ghost use Rattle.print.specs.Lost.{lost};
 pub mod covers;
 pub mod regions;
 
+// How many bytes a buffer has.
 const SIZE: usize = 65536;
+
+// How many bytes a name has at most: a letter and 31 digits.
+const NAME_BYTES: usize = 32;
+
+// How many digits a number of 64 bits has at most.
+const DIGITS: usize = 20;
 
 pub type Buffer = [u8; SIZE];
 
@@ -45,7 +52,7 @@ pub fn natural(out: &mut Buffer, at: usize, n: u64, then: u8) -> usize {
 }
 
 pub fn digits(out: &mut Buffer, at: usize, n: u64) -> usize {
-    let mut digits = [0u8; 20];
+    let mut digits = [0u8; DIGITS];
     let k = io::decimal(n, &mut digits);
     text(out, at, &digits[..k])
 }
@@ -74,12 +81,12 @@ fn size(n: i64) -> u64
     }
 }
 
-// The name of an identifier, which has at most 32 bytes, or the refusal of a number that is none.
+// The name of an identifier, or the refusal of a number that is none.
 pub fn name(out: &mut Buffer, at: usize, id: u64) -> usize {
-    let mut name = [0u8; 32];
+    let mut name = [0u8; NAME_BYTES];
     match htm::name(id, &mut name) {
         Number::Gives(n) => {
-            let k = least(n, 32);
+            let k = least(n, NAME_BYTES);
             text(out, at, &name[0..k])
         },
         Number::Refused(n) => refusal(out, at, n),
@@ -98,7 +105,7 @@ pub fn located(out: &mut Buffer, at: usize, answer: Number) -> usize {
     }
 }
 
-// A length that is given as a number, up to `most`.
+// The lesser of a length that is given as a number and `most`.
 pub fn least(n: u64, most: usize) -> usize
     ensures { λ r. ⌜ r ≤ most ⌝ }
 {

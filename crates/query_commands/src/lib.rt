@@ -1,8 +1,8 @@
 // Lines of input, each answered as it ends.
 use check::same;
 use command_words::lines;
-use command_words::lines::Found;
 use command_words::lines::LINES;
+use command_words::lines::NextLine;
 use print::Buffer;
 use region::Style;
 
@@ -18,7 +18,7 @@ pub fn answer_lines() {
     let mut out = io::large_buffer();
     let mut state = lines::begin();
     for _ in 0..LINES {
-        let Found::Line(line, after) = lines::next(&mut block, &mut store, state, &out) else {
+        let NextLine::Line(line, after) = lines::next(&mut block, &mut store, state, &out) else {
             return;
         };
         state = after;

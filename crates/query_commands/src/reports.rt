@@ -14,12 +14,12 @@ const DOUBLE_INFINITY: u64 = 2047 << 52;
 
 const DOUBLE_SIGN: u64 = 1 << 63;
 
-// The same in single precision.
+// As above, in single precision.
 const SINGLE_INFINITY: u32 = 255 << 23;
 
 const SINGLE_SIGN: u32 = 1 << 31;
 
-// So many patterns of single precision there are.
+// How many patterns single precision has.
 const SINGLES: u64 = 1 << 32;
 
 enum BitsAt {
@@ -59,7 +59,7 @@ pub fn single(line: &[u8], next: usize, out: &mut Buffer, at: usize) -> usize {
     print::located(out, at, htm::locate_report(Report::Single(report), depth))
 }
 
-// Three floats of so many digits and a depth, to the line's end.
+// Three floats of `digits` digits each and a depth, to the line's end.
 fn report_at(line: &[u8], at: usize, digits: usize) -> ReportAt {
     let BitsAt::Is(x, y_at) = bits_at(line, at, digits) else {
         return ReportAt::Not;

@@ -27,7 +27,7 @@ unfolding identifiers
 identifiers-append [] ys = omega arith
 identifiers-append (r ∷ xs) ys = omega (arith, identifiers-append xs ys)
 
--- a stretch has room for no more identifiers than it is long
+-- ranges in a stretch contain no more identifiers than it has
 pub identifiers-few : (a b : ℕ) (rs : List Range) → Between a b rs → a + identifiers rs ≤ b
 unfolding identifiers
 identifiers-few a b [] p = omega arith

@@ -1,4 +1,4 @@
--- The smallest of some numbers and its place: it is there, one number more at the end changes it only where that is smaller, and a search from
+-- The smallest of some numbers and its place: it is there, a new number at the end changes it only where that is smaller, and a search from
 -- the end finds it. Assumes nothing.
 use Prim.Native.Nat.{ℕ, zero, suc, _+_, _≤_, _<_, min}
 use mathlib.Core.Path.{_≡_, refl, sym, ap, _∙_}
@@ -72,7 +72,7 @@ unfolding earliest
 earliest-inside [] h = absurd (omega arith)
 earliest-inside (x ∷ l) h = place-smallest x l
 
--- ---- one number more
+-- ---- a new number at the end
 
 place-snoc : (m : ℕ) (l : List ℕ) (g : ℕ) → place m l < length l → place m (l ++ g ∷ []) ≡ place m l
 unfolding place
@@ -107,7 +107,7 @@ earliest-snoc (x ∷ l) g =
     at : {m : ℕ} → min (smallest (x ∷ l)) g ≡ m → earliest (x ∷ l ++ g ∷ []) ≡ place m (x ∷ l ++ g ∷ [])
     at e = ap (λ m. place m (x ∷ l ++ g ∷ [])) (smallest-snoc x l g ∙ e)
 
--- ---- the same from the end
+-- ---- the smallest, number by number from the end
 
 pub smallest-one : (x : ℕ) → smallest (x ∷ []) ≡ x
 unfolding smallest

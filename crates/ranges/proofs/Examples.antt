@@ -1,4 +1,4 @@
--- Worked examples of the two lists, by computing: document 01's 'with budget 4 the first two outer ranges become S00 S10', the last range kept,
+-- Worked examples of the two lists, by computing: document 01's 'with budget 4 the first two outer ranges become S00 S10', the last range stays,
 -- the shortest dropped, and the earliest among equals; what gaps and ranges have; and what ranges contain and the outer list swallows. Assumes
 -- nothing.
 use Prim.Native.Nat.{ℕ}
@@ -27,7 +27,7 @@ pub inner-examples : (innerOf 2 (r 1 2 ∷ r 4 5 ∷ r 7 9 ∷ r 11 12 ∷ []) �
 unfolding joined joinedFrom smallest place earliest whileMore without dropShortest innerOf
 inner-examples = (refl, refl)
 
--- 5 and 6 lie between 4 and 7; between ranges that touch lies nothing; a range has both its ends
+-- 5 and 6 lie between 4 and 7; between ranges that touch lies nothing; ranges include both ends
 pub gap-size-examples : (gap (r 1 4) (r 7 9) ≡ 2) × (gap (r 1 4) (r 5 6) ≡ 0) × (size (r 7 9) ≡ 3) × (size (r 4 4) ≡ 1)
 gap-size-examples = (refl, refl, refl, refl)
 

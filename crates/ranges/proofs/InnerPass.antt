@@ -14,7 +14,7 @@ use Rattle.ranges.proofs.Pushing.{below, extend, innerFull, innerClose,
 use Rattle.ranges.proofs.Earliest.{below-without, earliest-inside, earliest-snoc}
 use Rattle.ranges.proofs.OuterPass.{lastHigh-snoc, joinOn, joinedFrom-snoc}
 
--- ---- one range less
+-- ---- a range is left out
 
 pub length-without : (i : ℕ) (xs : List Range) → i < length xs → suc (length (without i xs)) ≡ length xs
 unfolding without
@@ -55,7 +55,7 @@ full-on : (xs : List Range) (r : Range) → Shortest xs r ≡ true → innerFull
 unfolding innerFull Shortest
 full-on xs r t = rw t
 
--- the same without the word
+-- as above, without the name `Shortest`
 pub full-stays : (xs : List Range) (r : Range) → below (size r) (map size xs) ≡ true → innerFull xs r ≡ xs
 unfolding Shortest
 full-stays = full-on
@@ -77,7 +77,7 @@ dropShortest-snoc xs r h =
     at : {i : ℕ} → earliest (map size (xs ++ r ∷ [])) ≡ i → without (earliest (map size (xs ++ r ∷ []))) (xs ++ r ∷ []) ≡ without i (xs ++ r ∷ [])
     at e = ap (λ i. without i (xs ++ r ∷ [])) e
 
--- the same by the place of the shortest, where it is not the new one
+-- as above, by the place of the shortest, where it is not the new one
 pub full-drops : (xs : List Range) (r : Range) (i : ℕ) → i ≡ earliest (map size (xs ++ r ∷ [])) → i < length xs → innerFull xs r ≡ without i xs ++ r ∷ []
 full-drops xs r i e k =
     sym (dropShortest-snoc xs r (omega arith))

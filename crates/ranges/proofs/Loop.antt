@@ -1,4 +1,4 @@
--- The loop `whileMore`, for any step that takes one range away: where it stands still, where it goes on, and one range more at the end.
+-- The loop `whileMore`, for any step that takes one range away: where it stands still, where it goes on, and what a new range at the end changes.
 -- Assumes nothing.
 use Prim.Native.Nat.{ℕ, zero, suc, _≤_, _<_, min}
 use mathlib.Core.Path.{_≡_, refl, sym, ap, _∙_, subst}
@@ -76,7 +76,7 @@ module _ (step : List Range → List Range) (B : ℕ) where
         (λ xs h. reduced-few (f xs) (omega (arith, same xs)))
         (λ xs ys h ih. reduced-more (f xs) (omega (arith, same xs)) ∙ ap (Reduced step B) (along xs (omega arith)) ∙ ih)
 
-    -- One range more at the end of a full list: one step more. It is enough that two steps may leave the new range out of the first
+    -- A new range at the end of a full list: another step. It is enough that two steps may leave the new range out of the first
     pub reduced-snoc : ((xs : List Range) (r : Range) → 1 < length xs → step (step (xs ++ r ∷ [])) ≡ step (step xs ++ r ∷ []))
         → (xs : List Range) (r : Range) → B ≤ length xs → Reduced step B (xs ++ r ∷ []) ≡ step (Reduced step B xs ++ r ∷ [])
     reduced-snoc commutes xs r = reduced-ind P few more xs

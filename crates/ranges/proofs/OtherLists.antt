@@ -1,5 +1,5 @@
 -- What a list contains that contains all identifiers of some ranges, which ascend: these, and gaps between them whole, at least as many as they are more
--- ranges than its own. So it contains beside them what any so many gaps have, or more (`contained-least`).
+-- ranges than its own. So it contains beside them at least what the smallest gaps, as many, have (`contained-least`).
 -- A walk over the ranges shows it. The last identifier of each is in the list. Where the list leaves out an identifier of the gap behind, one of its own
 -- ranges ends before that identifier, and fewer of them reach the next range than reach this one. One at least reaches the last range. So a list of k ranges
 -- leaves at most k − 1 gaps open. Its order plays no part, for its ranges are only counted. Assumes nothing.
@@ -76,7 +76,7 @@ module _ (other : List Range) where
       (λ t. crossed (suc a) n t (λ q. f (rw t (ap suc q))) (λ d. g (rw s (omega (arith, reach-down a (suc a) other (omega arith))))))
       (λ t. g (omega (arith, reach-down (suc a) (a + suc n) other (omega arith), reach-ends a other e t)))
 
-  -- the same of a gap, from a to b
+  -- as above, for a gap, from a to b
   cross : (a b : ℕ) {X : Type 0} → a + 1 ≤ b → contained a ≡ true → (count contained (a + 1) b ≡ b - a - 1 → X) → (reach b other < reach a other → X) → X
   cross a b h e f g =
       let s : suc a ≡ a + 1 = omega arith in

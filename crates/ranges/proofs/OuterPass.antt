@@ -163,7 +163,7 @@ joinSmallest-snoc (a ∷ xs) r h =
     off : Nearest (a ∷ xs) r ≡ false → joinAt (earliest (gaps (a ∷ xs))) (a ∷ xs ++ r ∷ []) ≡ joinSmallest (a ∷ xs) ++ r ∷ []
     off t = unfold joinSmallest in joinAt-snoc (earliest (gaps (a ∷ xs))) a xs r (inside a xs (nearest-alone a xs r t))
 
--- the same by the place of the smallest gap, where it is not the new one
+-- as above, by the place of the smallest gap, where it is not the new one
 pub full-join : (xs : List Range) (r : Range) (i : ℕ) → i ≡ earliest (gaps xs ++ newGap xs r ∷ []) → i + 1 < length xs → outerFull xs r ≡ joinAt i xs ++ r ∷ []
 full-join [] r i e h = absurd (omega arith)
 full-join (a ∷ xs) r i e h =
@@ -195,7 +195,7 @@ commutes xs r h =
     ∙ sym (joinSmallest-snoc (joinSmallest xs) r (omega (arith, joinSmallest-shrinks xs h)) ∙ full-on (joinSmallest xs) r (nearest-stays xs r h t)))
     (λ t. ap joinSmallest (joinSmallest-snoc xs r (omega arith) ∙ full-off xs r t))
 
--- ---- touching ranges, one more
+-- ---- touching ranges, and a new one
 
 unfoldable pub joinOn : List Range → Range → List Range
 joinOn xs r = cond (eqb (lastHigh xs + 1) (r .low)) (extend xs r) (xs ++ r ∷ [])
@@ -218,7 +218,7 @@ joinedFrom-snoc a (b ∷ xs) r =
     (λ t. rw t (joinedFrom-snoc (over a b) xs r))
     (λ t. rw t (ap (λ l. a ∷ l) (joinedFrom-snoc b xs r) ∙ sym (joinOn-cons a (joinedFrom b xs) r (length-joinedFrom b xs))))
 
--- ---- one range more, pushed
+-- ---- a range is pushed
 
 pub push-some : (B : ℕ) (xs : List Range) (r : Range) → 0 < length xs → outerPush B xs r ≡ cond (eqb (lastHigh xs + 1) (r .low)) (extend xs r) (outerNew B xs r)
 unfolding outerPush

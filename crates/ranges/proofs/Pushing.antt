@@ -1,7 +1,7 @@
--- The two lists in one pass, with room for no more ranges than the budget says: each new range is put in as it comes, and the list stays reduced.
+-- The two lists in one pass, in a list of the budget's length: each new range is pushed as it comes, and the list stays within the budget.
 -- Document 01 asks for the lists; that the pass gives them is the statement `OnePass` (proofs/OnePass).
---   outerPush b xs r   the outer list xs, with the range r more
---   innerPush b s r    the inner list and its last range, which may still grow, with the range r more
+--   outerPush b xs r   the outer list xs after the range r is pushed
+--   innerPush b s r    the inner list and its last range, which may still grow, after the range r is pushed
 --   outerPass, innerPass   all of some ranges, one after the other
 use Prim.Native.Nat.{ℕ, _+_, _-_}
 use mathlib.Core.Bool.{Bool, true, cond, _&&_}

@@ -38,7 +38,7 @@ In (a ∷ rest) (suc i) n = In rest i n
 abbrev pub Has : List Range → ℕ → Type 0
 Has xs n = (i : ℕ) × In xs i n
 
--- ---- the same as `SpacedBy`, each range after the first being told where it may begin
+-- ---- as `SpacedBy`, with the number from which each range may begin
 
 From : ℕ → ℕ → List Range → Type 0
 From k f [] = Unit {0}

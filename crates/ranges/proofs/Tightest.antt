@@ -1,7 +1,7 @@
 -- The outer list is the tightest for its budget: no list of at most as many ranges that contains the accepted ones contains fewer identifiers. It swallows
--- one gap for each range beyond the budget, a smallest one each time, and a join leaves the other gaps as they were, so no so many gaps have less (Cheapest
--- of algebra); and any other list contains so many gaps whole (OtherLists). Which of two equal gaps is joined over changes the list, not its size: of the
--- gap only that none is smaller is used. Assumes nothing.
+-- one gap for each range beyond the budget, a smallest one each time, and a join leaves the other gaps as they were, so no other gaps, as many, have less
+-- (Cheapest of algebra); and any other list contains at least as many gaps whole (OtherLists). Which of two equal gaps is joined over changes the list, not
+-- its size: of the gap only that none is smaller is used. Assumes nothing.
 use Prim.Native.Nat.{ℕ, suc, _+_, _-_, _≤_, _<_}
 use mathlib.Core.Path.{_≡_, refl, sym, ap, subst, _∙_}
 use mathlib.Core.Bool.{true, false, true≢false}
@@ -28,17 +28,17 @@ use Rattle.ranges.proofs.OtherLists.{contained-least}
 -- ---- the smallest of some gaps is there, and none is smaller
 
 -- what stands before it and behind it
-record Parted (gs : List ℕ) : Type 0 where
+record SplitAtSmallest (gs : List ℕ) : Type 0 where
   front : List ℕ
   back : List ℕ
   whole : gs ≡ front ++ smallest gs ∷ back
   others : without (earliest gs) gs ≡ front ++ back
 
-parted : (gs : List ℕ) → 0 < length gs → Parted gs
+split-at-smallest : (gs : List ℕ) → 0 < length gs → SplitAtSmallest gs
 unfolding without
-parted [] h = absurd (omega arith)
-parted (g ∷ []) h = record { front = []; back = []; whole = rw (smallest-one g) refl; others = rw (earliest-one g) refl }
-parted (g ∷ k ∷ gs) h =
+split-at-smallest [] h = absurd (omega arith)
+split-at-smallest (g ∷ []) h = record { front = []; back = []; whole = rw (smallest-one g) refl; others = rw (earliest-one g) refl }
+split-at-smallest (g ∷ k ∷ gs) h =
     let m = smallest (k ∷ gs) in
     split (leb g m)
     (λ e.
@@ -48,7 +48,7 @@ parted (g ∷ k ∷ gs) h =
     (λ e.
     let lt = leb-false g m e in
     let s : smallest (g ∷ k ∷ gs) ≡ m = omega (arith, smallest-cons g k gs) in
-    let p = parted (k ∷ gs) (omega arith) in
+    let p = split-at-smallest (k ∷ gs) (omega arith) in
     record {
       front = g ∷ p .front;
       back = p .back;
@@ -66,7 +66,7 @@ none-smaller (g ∷ k ∷ gs) =
 -- any n + 1 of the gaps have at least what the smallest has and what any n of the others have
 with-smallest : (gs : List ℕ) (v n : ℕ) → 0 < length gs → Costs v n (without (earliest gs) gs) → Costs (smallest gs + v) (suc n) gs
 with-smallest gs v n h s =
-    let p = parted gs h in
+    let p = split-at-smallest gs h in
     subst (Costs (smallest gs + v) (suc n)) (sym (p .whole))
     (cheapest-first (smallest gs) (p .front) (p .back) v n
     (subst (NoneBelow (smallest gs)) (p .whole) (none-smaller gs)) (subst (Costs v n) (p .others) s))

@@ -1,8 +1,8 @@
 -- What ranges contain, in identifiers. Document 02, F-4 and F-9.
 --   identifiers rs     the sizes of the ranges, summed
 --   different ns rs    how many of the identifiers ns are in a range of the list rs; one that is in several ranges counts once
---   Contains ids rs n  of the identifiers ids the ranges contain n, each in one range only, and no other number: their sizes sum to n, and so many
---                      of ids are in a range
+--   Contains ids rs n  the ranges contain n of the identifiers ids, each in one range only, and no other number: their sizes sum to n, and n of ids
+--                      are in a range
 --   Feasible b rs other   the list `other` has at most b ranges and contains all identifiers of the ranges rs. Its ranges may stand in any order, overlap,
 --                      and be reversed, low above high, which contains nothing
 --   swallowedOf b rs   the gaps that the outer list of rs is joined over, summed, step by step as `outerOf` joins; touching ranges have none

@@ -1,4 +1,4 @@
--- Ranges of identifiers, and what is said of a list of them. Document 01, 'The two lists'.
+-- Ranges of identifiers, and properties of a list of them. Document 01, 'The two lists'.
 --   Range            low and high
 --   isIn i r         the identifier i is in the range r: neither below low nor above high
 --   inSome i rs      the identifier i is in a range of the list rs

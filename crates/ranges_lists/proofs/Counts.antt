@@ -1,4 +1,4 @@
--- How many ranges a list has after one range more: never fewer than before, since a list that is full keeps its count. Assumes nothing.
+-- How many ranges a list has after a push: never fewer than before, since a list that is full keeps its count. Assumes nothing.
 use Prim.Native.Nat.{ℕ, _+_, _≤_}
 use mathlib.Core.Path.{_≡_, refl}
 use mathlib.Core.Bool.{Bool, true, false}

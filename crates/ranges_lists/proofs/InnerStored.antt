@@ -1,4 +1,4 @@
--- The inner list in lent memory, with the last range beside it, one range more: what each branch of the code writes is what `innerFull`, `innerClose`,
+-- The inner list in lent memory, with the last range beside it, when a range is pushed: what each branch of the code writes is what `innerFull`, `innerClose`,
 -- `innerPush` and `innerEnd` say. Assumes nothing.
 use Prim.Native.Nat.{ℕ, suc, _+_, _*_, _-_, _≤_, _<_}
 use mathlib.Core.Path.{_≡_, refl, sym, ap, ap₂, subst, _∙_}
@@ -52,15 +52,15 @@ module _ (n : ℕ) (l : List ℕ) (low high s : ℕ) (fits : 2 * n ≤ length l)
         subst (λ ys. Hinted h (differences 0 ys)) (sym f) (hinted-drop h xs (range low high) p (omega (arith, long))),
       )
 
--- ---- a range grows no more
+-- ---- a range is closed
 
-close-room : (B : ℕ) (xs : List Range) (r : Range) → length xs < B → innerClose B xs r ≡ xs ++ r ∷ []
+close-append : (B : ℕ) (xs : List Range) (r : Range) → length xs < B → innerClose B xs r ≡ xs ++ r ∷ []
 unfolding innerClose
-close-room B xs r h = rw (lt-ltb (length xs) B h)
+close-append B xs r h = rw (lt-ltb (length xs) B h)
 
-close-none : (B : ℕ) (xs : List Range) (r : Range) → B ≤ length xs → innerClose B xs r ≡ innerFull xs r
+close-at-budget : (B : ℕ) (xs : List Range) (r : Range) → B ≤ length xs → innerClose B xs r ≡ innerFull xs r
 unfolding innerClose
-close-none B xs r h = rw (le-ltb (length xs) B h)
+close-at-budget B xs r h = rw (le-ltb (length xs) B h)
 
 module _ (B n : ℕ) (l : List ℕ) (low high : ℕ) (fits : 2 * n ≤ length l) where
   stored : length (rangesIn n l) ≡ n
@@ -68,21 +68,21 @@ module _ (B n : ℕ) (l : List ℕ) (low high : ℕ) (fits : 2 * n ≤ length l)
 
   pub close-appends : n < B → 2 * B ≤ length l → Writes (innerClose B (rangesIn n l) (range low high)) l (set (set l (2 * n) low) (2 * n + 1) high) (n + 1)
   close-appends h k =
-      writes (close-room B (rangesIn n l) (range low high) (omega (arith, stored)))
+      writes (close-append B (rangesIn n l) (range low high) (omega (arith, stored)))
       (omega (arith, stored, length-snoc (rangesIn n l) (range low high)))
       (ap (λ m. set (set m (2 * n) low) (2 * n + 1) high) (sym (written-in n l fits))
       ∙ write-append (rangesIn n l) l low high (2 * n) (2 * n + 1) (omega (arith, stored)) (omega (arith, stored)) (omega (arith, stored)))
 
   pub close-full : (m : List ℕ) → 1 ≤ n → B ≤ n → m ≡ written (innerFull (rangesIn n l) (range low high)) l → Writes (innerClose B (rangesIn n l) (range low high)) l m n
   close-full m one h e =
-      writes (close-none B (rangesIn n l) (range low high) (omega (arith, stored)))
+      writes (close-at-budget B (rangesIn n l) (range low high) (omega (arith, stored)))
       (sym (length-innerFull (rangesIn n l) (range low high) (omega (arith, stored)) ∙ stored))
       e
 
   pub close-hint : (h : MinHint) → B ≤ n → Hinted h (differences 0 (innerFull (rangesIn n l) (range low high))) → Hinted h (differences 0 (innerClose B (rangesIn n l) (range low high)))
-  close-hint h k p = subst (λ ys. Hinted h (differences 0 ys)) (sym (close-none B (rangesIn n l) (range low high) (omega (arith, stored)))) p
+  close-hint h k p = subst (λ ys. Hinted h (differences 0 ys)) (sym (close-at-budget B (rangesIn n l) (range low high) (omega (arith, stored)))) p
 
--- ---- one range more
+-- ---- a range is pushed
 
 pub state-none : (p : Pending) (l : List ℕ) → p .some ≡ false → stateOf p l ≡ empty
 unfolding stateOf

@@ -1,4 +1,4 @@
--- The outer list in lent memory, one range more: what each branch of the code writes is what `outerFull` and `outerPush` say. Assumes nothing.
+-- The outer list in lent memory, when a range is pushed: what each branch of the code writes is what `outerFull` and `outerPush` say. Assumes nothing.
 use Prim.Native.Nat.{ℕ, _+_, _*_, _-_, _≤_, _<_}
 use mathlib.Core.Path.{_≡_, refl, sym, ap, subst, _∙_}
 use mathlib.Core.Bool.{Bool, true, false}
@@ -25,7 +25,7 @@ writes {l = l} e c w = record { count = c ∙ ap length (sym e); list = w ∙ ap
 
 -- ---- the list is full
 
--- range number i and the next join, and one more comes behind
+-- range number i and the next join, and a new one stands behind the last
 pub joins : (n i end : ℕ) (l : List ℕ) (low high : ℕ) → i + 1 < n → 2 * n ≤ length l → end + 1 ≡ 2 * n → (m : List ℕ) → m ≡ lowered 2 (2 * i + 1) l (end - 1 - (2 * i + 1))
     → set (set m (end - 1) low) end high ≡ written (joinAt i (rangesIn n l) ++ range low high ∷ []) l
 joins n i end l low high h fits last m e =
@@ -64,7 +64,7 @@ module _ (n : ℕ) (l : List ℕ) (low high g end : ℕ) (fits : 2 * n ≤ lengt
       let e : outerFull xs (range low high) ≡ joinAt (h .from) xs ++ range low high ∷ [] = outer-points h xs (range low high) p d in
       (w ∙ ap (λ ys. written ys l) (sym e), subst (λ ys. Hinted h (gaps ys)) (sym e) (hinted-join h xs (range low high) p d))
 
--- ---- one range more
+-- ---- a range is pushed
 
 push-touching : (B : ℕ) (xs : List Range) (r : Range) → 0 < length xs → eqb (lastHigh xs + 1) (r .low) ≡ true → outerPush B xs r ≡ extend xs r
 push-touching B xs r h t = push-some B xs r h ∙ rw t
@@ -72,9 +72,9 @@ push-touching B xs r h t = push-some B xs r h ∙ rw t
 push-apart : (B : ℕ) (xs : List Range) (r : Range) → 0 < length xs → eqb (lastHigh xs + 1) (r .low) ≡ false → outerPush B xs r ≡ outerNew B xs r
 push-apart B xs r h t = push-some B xs r h ∙ rw t
 
-new-room : (B : ℕ) (xs : List Range) (r : Range) → length xs < B → outerNew B xs r ≡ xs ++ r ∷ []
+new-append : (B : ℕ) (xs : List Range) (r : Range) → length xs < B → outerNew B xs r ≡ xs ++ r ∷ []
 unfolding outerNew
-new-room B xs r h = rw (lt-ltb (length xs) B h)
+new-append B xs r h = rw (lt-ltb (length xs) B h)
 
 new-full : (B : ℕ) (xs : List Range) (r : Range) → B ≤ length xs → outerNew B xs r ≡ outerFull xs r
 unfolding outerNew
@@ -110,7 +110,7 @@ module _ (B n : ℕ) (l : List ℕ) (low high end : ℕ) (some : 0 < n) (fits : 
 
     pub push-appends : n < B → 2 * B ≤ length l → Writes (outerPush B (rangesIn n l) (range low high)) l (set (set l (end + 1) low) (end + 2) high) (n + 1)
     push-appends h k =
-        writes (push-apart B (rangesIn n l) (range low high) (omega (arith, stored)) (at-end t) ∙ new-room B (rangesIn n l) (range low high) (omega (arith, stored)))
+        writes (push-apart B (rangesIn n l) (range low high) (omega (arith, stored)) (at-end t) ∙ new-append B (rangesIn n l) (range low high) (omega (arith, stored)))
         (omega (arith, stored, length-snoc (rangesIn n l) (range low high)))
         (ap (λ m. set (set m (end + 1) low) (end + 2) high) (sym (written-in n l fits))
         ∙ write-append (rangesIn n l) l low high (end + 1) (end + 2) (omega (arith, stored)) (omega (arith, stored)) (omega (arith, stored)))

@@ -10,13 +10,13 @@ ghost use Rattle.ranges.proofs.Pushing.{outerPush, outerFull, innerFull, innerC
 ghost use Rattle.ranges.specs.Ranges.{range, rangesIn};
 ghost use Rattle.ranges_stored.specs.Stored.{differences, differencesIn, written, Writes, Hinted, stateOf, Stores};
 
-// How many ranges stand in a list, and what is known of their gaps, or of their sizes less one.
-pub struct Pushed {
+// What a push leaves: how many ranges stand in the list, and what is known of their gaps, or of their sizes less one.
+pub struct PushResult {
     pub n: usize,
     pub hint: MinHint,
 }
 
-// Range number i of n and the next join, and one more stands behind the last.
+// Joins range number i of n and the next, and stores a range behind the last.
 fn join_at(list: &mut [u64], n: usize, i: usize, low: u64, high: u64)
     requires { ⌜ (i + 1 < n) × (2 * n ≤ length (now list)) ⌝ }
     ensures { λ _. ⌜ now (list .exit) ≡ written (joinAt i (rangesIn n (now (list .entry))) ++ range low high ∷ []) (now (list .entry)) ⌝ }
@@ -28,8 +28,8 @@ fn join_at(list: &mut [u64], n: usize, i: usize, low: u64, high: u64)
     list[end] = high;
 }
 
-// One range more, which does not touch the last, where the list is full, n being the budget: it joins on to the last one, if its gap is the smallest,
-// or two others join and it stands behind them. The answer is what is known of the gaps then.
+// Pushes a range that does not touch the last onto a full list, where n is the budget. If its gap is the smallest, the range joins on to the last one; else
+// two others join, and it stands behind them. The answer is what is known of the gaps then.
 fn outer_full(list: &mut [u64], n: usize, low: u64, high: u64, hint: MinHint) -> MinHint
     requires { ⌜ (1 ≤ n) × (2 * n ≤ length (now list)) ⌝ }
     requires { ⌜ Hinted hint (gaps (rangesIn n (now list))) ⌝ }
@@ -53,7 +53,7 @@ fn outer_full(list: &mut [u64], n: usize, low: u64, high: u64, hint: MinHint) ->
     next
 }
 
-// One range more for the outer list, whose n ranges stand at the front of the lent list. The answer has how many stand there then: not fewer, and at
+// Pushes a range onto the outer list, whose n ranges stand at the front of the lent list. The answer has how many stand there then: not fewer, and at
 // most the budget.
 pub fn outer_push(
     list: &mut [u64],
@@ -62,7 +62,7 @@ pub fn outer_push(
     low: u64,
     high: u64,
     hint: MinHint,
-) -> Pushed
+) -> PushResult
     requires { ⌜ (1 ≤ budget) × (n ≤ budget) × (2 * budget ≤ length (now list)) ⌝ }
     requires { ⌜ Hinted hint (gaps (rangesIn n (now list))) ⌝ }
     ensures { λ r. ⌜ Writes (outerPush budget (rangesIn n (now (list .entry))) (range low high)) (now (list .entry)) (now (list .exit)) (r .n) ⌝ }
@@ -72,7 +72,7 @@ pub fn outer_push(
     if n == 0 {
         list[0] = low;
         list[1] = high;
-        return Pushed {
+        return PushResult {
             n: 1,
             hint: ranges_stored::no_hint(),
         };
@@ -80,22 +80,22 @@ pub fn outer_push(
     let last = 2 * n - 1;
     if ranges_stored::touches(list[last], low) {
         list[last] = high;
-        return Pushed { n: n, hint: hint };
+        return PushResult { n: n, hint: hint };
     }
     if n < budget {
         list[last + 1] = low;
         list[last + 2] = high;
-        return Pushed {
+        return PushResult {
             n: n + 1,
             hint: ranges_stored::no_hint(),
         };
     }
     let next = outer_full(list, n, low, high, hint);
-    Pushed { n: n, hint: next }
+    PushResult { n: n, hint: next }
 }
 
-// One range more, which grows no more, where the list is full, n being the budget: the shortest is dropped, the new one or another. The answer is
-// what is known of the sizes less one then.
+// Stores a closed range in a full list, where n is the budget: the shortest is dropped, the new one or another. The answer is what is known of the
+// sizes less one then.
 fn inner_full(list: &mut [u64], n: usize, low: u64, high: u64, hint: MinHint) -> MinHint
     requires { ⌜ (1 ≤ n) × (2 * n ≤ length (now list)) ⌝ }
     requires { ⌜ Hinted hint (differencesIn 0 0 n (now list)) ⌝ }
@@ -117,7 +117,7 @@ fn inner_full(list: &mut [u64], n: usize, low: u64, high: u64, hint: MinHint) ->
     next
 }
 
-// A range that grows no more is stored behind the n that are. The answer has how many are stored then, at most the budget.
+// Stores a closed range behind the n that are stored. The answer has how many are stored then, at most the budget.
 fn inner_close(
     list: &mut [u64],
     n: usize,
@@ -125,7 +125,7 @@ fn inner_close(
     low: u64,
     high: u64,
     hint: MinHint,
-) -> Pushed
+) -> PushResult
     requires { ⌜ (1 ≤ budget) × (n ≤ budget) × (2 * budget ≤ length (now list)) ⌝ }
     requires { ⌜ Hinted hint (differencesIn 0 0 n (now list)) ⌝ }
     ensures { λ r. ⌜ Writes (innerClose budget (rangesIn n (now (list .entry))) (range low high)) (now (list .entry)) (now (list .exit)) (r .n) ⌝ }
@@ -134,16 +134,16 @@ fn inner_close(
 {
     if n == budget {
         let next = inner_full(list, n, low, high, hint);
-        return Pushed { n: n, hint: next };
+        return PushResult { n: n, hint: next };
     }
     list[2 * n] = low;
     list[2 * n + 1] = high;
     let m = n + 1;
     let none = ranges_stored::no_hint();
-    Pushed { n: m, hint: none }
+    PushResult { n: m, hint: none }
 }
 
-// One range more for the inner list: the last one grows, or is closed and the new one is the last.
+// Pushes a range onto the inner list: the last one grows, or is closed and the new one is the last.
 pub fn inner_push(list: &mut [u64], p: Pending, budget: usize, low: u64, high: u64) -> Pending
     requires { ⌜ (1 ≤ budget) × (p .n ≤ budget) × (2 * budget ≤ length (now list)) ⌝ }
     requires { ⌜ Hinted (p .hint) (differencesIn 0 0 (p .n) (now list)) ⌝ }
@@ -185,7 +185,7 @@ pub fn inner_push(list: &mut [u64], p: Pending, budget: usize, low: u64, high: u
     }
 }
 
-// No more ranges come: the last one is closed. The answer is how many are stored then, at most the budget.
+// Closes the inner list: its last range is stored too. The answer is how many are stored then, at most the budget.
 pub fn inner_end(list: &mut [u64], p: Pending, budget: usize) -> usize
     requires { ⌜ (1 ≤ budget) × (p .n ≤ budget) × (2 * budget ≤ length (now list)) ⌝ }
     requires { ⌜ Hinted (p .hint) (differencesIn 0 0 (p .n) (now list)) ⌝ }

@@ -55,7 +55,7 @@ place-first m (x ∷ l) (suc i) h k e =
     (λ t. omega (arith, place-here m x l (eqb-true m x t)))
     (λ t. place-first m l i (omega (arith, place-later m x l (eqb-false m x t))) (omega arith) e)
 
--- one more number that is not below one of them
+-- with a new number at the end, which is not below one of them
 earliest-keeps : (l : List ℕ) (g i : ℕ) → i < length l → getD l i 0 ≤ g → earliest (l ++ g ∷ []) ≡ earliest l
 earliest-keeps l g i h k = split (below g l) (λ t. absurd (omega (arith, below-at g l i t h))) (λ t. earliest-snoc l g ∙ rw t)
 
@@ -117,7 +117,7 @@ points-earliest h (x ∷ l) p =
     (λ u. absurd (omega (arith, p .hinted .before (e x l) (ltb-true (e x l) (h .from) u) (e-inside x l), e-is x l)))
     (λ u. omega (arith, ltb-false (h .from) (e x l) t, ltb-false (e x l) (h .from) u)))
 
--- also with one number more, which is not below it
+-- also with a new number at the end, which is not below it
 points-snoc : (h : MinHint) (l : List ℕ) (g : ℕ) → PointsAt h l → h .floor ≤ g → h .from ≡ earliest (l ++ g ∷ [])
 points-snoc h l g p k = points-earliest h l p ∙ sym (earliest-keeps l g (h .from) (p .inside) (omega (arith, p .is)))
 

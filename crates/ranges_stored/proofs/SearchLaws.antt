@@ -1,4 +1,4 @@
--- The search for the smallest of some differences and one number more, from the end: `Least` says what is known of those from place j on, and one
+-- The search for the smallest of some differences and a number behind them, from the end: `Least` says what is known of those from place j on, and one
 -- turn of the search keeps it. Read one element later, the differences are the gaps. Assumes nothing.
 use Prim.Native.Nat.{ℕ, zero, suc, _+_, _*_, _-_, _≤_, _<_}
 use mathlib.Core.Path.{_≡_, refl, sym, ap, ap₂, _∙_}

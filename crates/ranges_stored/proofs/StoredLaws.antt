@@ -1,6 +1,6 @@
 -- Ranges in a list of numbers: what is written is read back, what is written over is gone, and the elements behind it stay, so the list keeps its
--- length. And how single elements change the ranges: two more behind the last are one more range, and a new number
--- in the place of the last high extends the last range. By recursion over the ranges, two elements each. Assumes nothing.
+-- length. And how single elements change the ranges: two behind the last are a new range, and a new number in the place
+-- of the last high extends the last range. By recursion over the ranges, two elements each. Assumes nothing.
 use Prim.Native.Nat.{ℕ, zero, suc, _+_, _*_, _≤_}
 use mathlib.Core.Path.{_≡_, refl, sym, ap, ap₂, _∙_}
 use mathlib.Core.List.{List, [], _∷_, _++_}

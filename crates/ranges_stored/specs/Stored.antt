@@ -1,8 +1,8 @@
 -- The two lists as one pass stores them, in lent memory. Document 01, 'The two lists': pairs low, high, one range after the other.
 --   difference less r   high − low − less, and 0 where that is below 0
---   differences less rs   those of some ranges. Less 0 they are the sizes less one, and the place of the smallest is the same
+--   differences less rs   those of some ranges. Where less is 0 they are the sizes less one, of which the smallest stands at the same place
 --   differencesIn start less n l   those of n pairs low, high, from element `start` of the list l on. From element 1 on a pair is a high and the
---                    next low, and less 1 they are the gaps
+--                    next low, and where less is 1 they are the gaps
 --   written xs l     the list l with the ranges xs at its front, as pairs; the other elements stay
 --   Writes ..        `after` is `before` with the ranges xs, n of them, at its front
 -- Where the smallest gap of the outer list is, or the shortest range of the inner list, as far as it is known: a `MinHint`.
@@ -13,10 +13,9 @@
 -- The inner list's last range may still grow, so it stands beside the lent list, with the count of those in it and what is known of their sizes
 -- less one: a `Pending`.
 --   nothingYet       where there is no range yet
---   closed s         the ranges of the inner list s that grow no more
---   stateOf p l      the inner list that p and the lent list l say
---   Stores ..        p and `after` say s, and `after` is `before` with the closed ranges of s, as many as p counts, at its front
--- And for one step of the code:
+--   closed s         the closed ranges of the inner list s: all but the last, which may still grow
+--   stateOf p l      the inner list that p and the lent list l stand for
+--   Stores ..        p and `after` stand for s, and `after` is `before` with the closed ranges of s, as many as p counts, at its front
 use Prim.Native.Nat.{ℕ, _-_, _≤_, _<_}
 use mathlib.Core.Path.{_≡_}
 use mathlib.Core.Bool.{false, cond}

@@ -56,7 +56,7 @@ fn difference_at(list: &[u64], start: usize, less: u64, i: usize) -> u64
     difference(list[start + 2 * i], list[start + 2 * i + 1], less)
 }
 
-// The place of the smallest of count differences and of one number more, last; the earliest among equals.
+// The place of the smallest of count differences and the number `last` behind them; the earliest among equals.
 fn smallest(list: &[u64], start: usize, less: u64, count: usize, last: u64) -> usize
     requires { ⌜ start + 2 * count ≤ length (now list) ⌝ }
     ensures { λ r. ⌜ r ≡ earliest (differencesIn start less count (now (list .entry)) ++ last ∷ []) ⌝ }
@@ -88,7 +88,7 @@ pub fn shift_down(list: &mut [u64], at: usize, count: usize)
     }
 }
 
-// What is known of every list.
+// The hint that is true of every list.
 pub fn no_hint() -> MinHint
     ensures { λ r. ⌜ r ≡ noHint ⌝ }
 {
@@ -113,7 +113,7 @@ fn first_at(list: &[u64], start: usize, less: u64, count: usize, from: usize, fl
     count
 }
 
-// The smallest of count differences, the earliest among equals. The first, once more behind them all, is never the one.
+// The smallest of count differences, the earliest among equals. `last` is the first difference again, which is never the earliest.
 fn search_all(list: &[u64], start: usize, less: u64, count: usize) -> MinHint
     requires { ⌜ (1 ≤ count) × (start + 2 * count ≤ length (now list)) ⌝ }
     ensures { λ r. ⌜ PointsAt r (differencesIn start less count (now (list .entry))) ⌝ }
@@ -127,7 +127,7 @@ fn search_all(list: &[u64], start: usize, less: u64, count: usize) -> MinHint
     }
 }
 
-// The same, by what is known: on from where the hint is, and through the whole list only where no difference is its floor any more.
+// As above, by the hint: the search begins where it points, and goes through the whole list only where no difference is its floor any more.
 pub fn at_smallest(list: &[u64], start: usize, less: u64, count: usize, hint: MinHint) -> MinHint
     requires { ⌜ (1 ≤ count) × (start + 2 * count ≤ length (now list)) ⌝ }
     requires { ⌜ Hinted hint (differencesIn start less count (now list)) ⌝ }

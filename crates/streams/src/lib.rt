@@ -6,13 +6,13 @@ use libc::STDERR_FILENO;
 use libc::STDIN_FILENO;
 use libc::STDOUT_FILENO;
 ghost use mathlib.Core.Path.{_≡_};
-ghost use Rattle.streams.specs.Input.{Within};
+ghost use Rattle.streams.specs.Input.{BytesIn};
 ghost use Rattle.streams.specs.declared.Input.{Input};
 
 // A loop must end, and no run is interrupted so often.
 const CALLS: u64 = u64::MAX;
 
-// So many bytes were read, none at the input's end; or a read has failed.
+// How many bytes were read, 0 at the input's end; or a read has failed.
 pub enum Input {
     Bytes(usize),
     Failed,
@@ -20,7 +20,7 @@ pub enum Input {
 
 // One read, to the beginning of `to`.
 pub fn read(to: &mut [u8]) -> Input
-    ensures { λ r. ⌜ Within (now (to .exit)) r ⌝ }
+    ensures { λ r. ⌜ BytesIn (now (to .exit)) r ⌝ }
 {
     for _ in 0..CALLS {
         let got = libc::read(STDIN_FILENO, to);
@@ -43,7 +43,7 @@ fn failed() -> Input
 
 // Reads to the end of the input, or until `to` is full.
 pub fn read_all(to: &mut [u8]) -> Input
-    ensures { λ r. ⌜ Within (now (to .exit)) r ⌝ }
+    ensures { λ r. ⌜ BytesIn (now (to .exit)) r ⌝ }
 {
     let mut done = 0;
     while done < to.len() {

@@ -1,8 +1,8 @@
 -- Worked examples of a trial, by computing: a bent rule is refused here. Document 02, F-13. Assumes nothing.
 --   sky-examples       the share of the sky of some ranges at two depths, in identifiers of depth 12
 --   choice-examples    the smaller share, and the first of equal ones
---   result-example     what a setting comes to: the counts of a walk and of the two lists
---   list-example       what two settings come to, as numbers
+--   result-example     the result of a setting: the counts of a walk and of the two lists
+--   list-example       the results of two settings, as numbers
 --   part-examples      the part: nothing of a shorter buffer, all of an exact one, the front of a longer one; nothing after a refusal
 --   buffer-examples    which buffer the part is of
 --   check-examples     18, the file, 5 and 6 of the first setting, those of the second, then 10 for each buffer
@@ -25,7 +25,7 @@ use Rattle.covering.specs.Cover.{Cover}
 use Rattle.index.specs.Entries.{entry}
 use Rattle.frames.specs.declared.Disposition.{Disposition}
 use Rattle.frames.specs.declared.Disposition.the-variants.{Skipped, Unchecked, Held, Discarded}
-use Rattle.frames.specs.Walk.{Met, met}
+use Rattle.frames.specs.Walk.{WalkStep, walkStep}
 use Rattle.trial.specs.declared.Setting.{Setting}
 use Rattle.trial.specs.declared.SettingResult.{SettingResult}
 use Rattle.trial.specs.declared.Choice.{Choice}
@@ -53,12 +53,12 @@ pub choice-examples : (choiceOf 5 5 ≡ First) × (choiceOf 4 5 ≡ First) × (c
 unfolding identifiers
 choice-examples = (refl, refl, refl, refl, refl, refl)
 
--- ---- what a setting comes to
+-- ---- the result of a setting
 
-abbrev m : Disposition → Met
-m f = met (entry (pos 33554432) (pos 1) (pos 0) (vec (pos 0) (pos 0) K)) f
+abbrev m : Disposition → WalkStep
+m f = walkStep (entry (pos 33554432) (pos 1) (pos 0) (vec (pos 0) (pos 0) K)) f
 
-abbrev walked : List Met
+abbrev walked : List WalkStep
 walked = m Skipped ∷ m Held ∷ m Unchecked ∷ m Unchecked ∷ m Discarded ∷ m Unchecked ∷ m Skipped ∷ m Held ∷ m Unchecked ∷ m Skipped ∷ []
 
 abbrev lists : Cover

@@ -7,10 +7,10 @@
 --   trialGiven r       what the call gave
 --   TrialCall ..       it gave r and left both buffers, all by these definitions: the contract of the call
 --   trialList t        both results and the choice, as numbers, `trialCounts` of them: the five of the first, those of the second, and the choice, 1 or 2
---   fitting n l        the first n elements of l, where it has so many; else none
+--   fitting n l        the first n elements of l; none where it has fewer
 --   ofChoice c a b     a where the choice c is the first, b where it is the second
 --   partBy t ..        of the two buffers the chosen one's first 2 × outer count elements; none where it is shorter
---   partOf r ..        the same of what a trial answered; none after a refusal
+--   partOf r ..        as above, for what a trial answered; none after a refusal
 --   bufferOf r ..      of two things, one for each buffer, that of the buffer which the part is of: of the first unless the second is chosen
 --   IsPart r first second part   a reference to that part, itself and not a copy: its elements, and where it points
 use Prim.Native.Nat.{ℕ, _*_}

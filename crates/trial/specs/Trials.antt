@@ -22,7 +22,7 @@ use Rattle.region.specs.Budgets.{isBudget}
 use Rattle.ranges.specs.Ranges.{Range}
 use Rattle.ranges.specs.Contents.{identifiers}
 use Rattle.covering.specs.Cover.{Cover, coverOf}
-use Rattle.frames.specs.Walk.{entriesOf, Met, walk, isUnchecked, isHeld, isDiscarded}
+use Rattle.frames.specs.Walk.{entriesOf, WalkStep, walk, isUnchecked, isHeld, isDiscarded}
 use Rattle.trial.specs.declared.Setting.{Setting}
 use Rattle.trial.specs.declared.SettingResult.{SettingResult}
 use Rattle.trial.specs.declared.Choice.{Choice}
@@ -35,10 +35,10 @@ isSetting s = isDepth (s .depth) && isBudget (s .budget)
 abbrev pub coverBy : Setting → Region → Cover
 coverBy s g = coverOf (s .depth) (s .budget) g
 
-unfoldable pub walkBy : ℕ → List ℤ → Region → Setting → List Met
+unfoldable pub walkBy : ℕ → List ℤ → Region → Setting → List WalkStep
 walkBy o l g s = walk (s .depth) (holds g) (coverBy s g .outer) (coverBy s g .inner) (entriesOf o l)
 
-abbrev pub resultOf : Cover → List Met → SettingResult
+abbrev pub resultOf : Cover → List WalkStep → SettingResult
 resultOf c ms = record {
   unchecked = tally (λ m. isUnchecked (m .disposition)) ms;
   held = tally (λ m. isHeld (m .disposition)) ms;

@@ -24,14 +24,14 @@ pub enum Choice {
     Second,
 }
 
-// What both come to, and the choice.
+// The results of both settings, and the choice.
 pub struct Trial {
     pub first: SettingResult,
     pub second: SettingResult,
     pub choice: Choice,
 }
 
-// The same, or the number of the first check that failed.
+// A trial's result, or the number of the first check that failed.
 pub enum TrialOf {
     Gives(Trial),
     Refused(u32),

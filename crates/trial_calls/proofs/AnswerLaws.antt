@@ -19,7 +19,7 @@ use Rattle.trial.specs.declared.TrialOf.{TrialOf}
 use Rattle.trial.specs.Trials.{choiceOf, trialOf}
 use Rattle.trial.specs.Answers.{TrialCall, checkSetting, trialInto, trialAnswer, listsBy, firstAfter, secondAfter}
 use Rattle.trial_calls.specs.declared.ScoredSetting.{ScoredSetting}
-use Rattle.trial_calls.specs.Tries.{roomy, Checks, trialBy, Tries}
+use Rattle.trial_calls.specs.Tries.{checkLengths, Checks, trialBy, Tries}
 use Rattle.trial_calls.proofs.CheckLaws.{passing-none, passing-some}
 
 module _ (o : ℕ) (l : List ℤ) (f : List ℕ) (s t : Setting) (first second : List ℕ) where
@@ -33,7 +33,7 @@ module _ (o : ℕ) (l : List ℤ) (f : List ℕ) (s t : Setting) (first second :
 
   -- behind the owner's check and the file's
   abbrev rest : File → Answer File
-  rest x = checkSetting s (checkSetting t (roomy (length l) s t (length first) (length second) (gives x)))
+  rest x = checkSetting s (checkSetting t (checkLengths (length l) s t (length first) (length second) (gives x)))
 
   pub no-owner : isOwner o ≡ false → TrialCall o l f s t first second (TrialOf.Refused Owner) first second
   no-owner e = refuses Owner (ap (λ b. check Owner b (then (read f) rest)) e)

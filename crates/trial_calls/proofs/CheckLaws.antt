@@ -14,7 +14,7 @@ use Rattle.region.specs.Reader.{File}
 use Rattle.index.specs.Entries.{IndexLength}
 use Rattle.trial.specs.declared.Setting.{Setting}
 use Rattle.trial.specs.Answers.{checkSetting}
-use Rattle.trial_calls.specs.Tries.{passing, SettingRefusal, roomy, Checks}
+use Rattle.trial_calls.specs.Tries.{passing, SettingRefusal, checkLengths, Checks}
 
 pub passing-none : {n : ℕ} {A : Type 0} (a : Answer A) → n ≡ 0 → passing n a ≡ a
 passing-none a e = ap (λ m. passing m a) e
@@ -40,7 +40,7 @@ module _ (k : ℕ) (s t : Setting) (m n : ℕ) where
 
   pub by-lengths : ((a : Answer File) → checkSetting s (checkSetting t a) ≡ a) → {x y z : Bool}
       → leb (4 * budgetOf (s .budget)) m ≡ x → leb (4 * budgetOf (t .budget)) n ≡ y → leb IndexLength k ≡ z
-      → (a : Answer File) → checkSetting s (checkSetting t (roomy k s t m n a)) ≡ check Space x (check Space y (check Space z a))
+      → (a : Answer File) → checkSetting s (checkSetting t (checkLengths k s t m n a)) ≡ check Space x (check Space y (check Space z a))
   by-lengths g p q r a = g _ ∙ (λ i. check Space (p i) (check Space (q i) (check Space (r i) a)))
 
 -- ---- what they say where none fails
@@ -63,8 +63,8 @@ module _ (k : ℕ) (s t : Setting) (m n : ℕ) where
       let p = leb (4 * budgetOf (s .budget)) m in
       let q = leb (4 * budgetOf (t .budget)) n in
       let u = leb IndexLength k in
-      let a = checked-depth s (checkSetting t (roomy k s t m n (gives x))) x (e (gives x) ∙ passing-none (gives x) z) in
-      let b = checked-depth t (roomy k s t m n (gives x)) x (a .1) in
+      let a = checked-depth s (checkSetting t (checkLengths k s t m n (gives x))) x (e (gives x) ∙ passing-none (gives x) z) in
+      let b = checked-depth t (checkLengths k s t m n (gives x)) x (a .1) in
       let c = check-gives Space p (check Space q (check Space u (gives x))) x (b .1) in
       let d = check-gives Space q (check Space u (gives x)) x c in
       record {

@@ -1,4 +1,4 @@
--- The first pairs of a list, where it has so many, else none: by half the length, which does not overflow. Assumes nothing.
+-- The first pairs of a list, or none where it has fewer: by half the length, which does not overflow. Assumes nothing.
 use Prim.Native.Nat.{ℕ, _*_, _/_, _≤_, _<_}
 use native.Mathlib.Omega.{arith}
 use mathlib.Core.Path.{_≡_, sym, ap}

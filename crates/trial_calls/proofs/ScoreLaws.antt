@@ -13,13 +13,13 @@ use Rattle.region.proofs.BudgetLaws.{budget-one}
 use Rattle.covering.specs.Cover.{coverOf}
 use Rattle.covering.proofs.ContentsLaws.{outer-counted, counts-small}
 use Rattle.covering_walk.specs.Walk.{RowsOf}
-use Rattle.frames_calls.specs.declared.Searched.{Searched}
-use Rattle.frames_calls.specs.Searches.{Leaves, SearchesRows}
+use Rattle.frames_calls.specs.declared.SearchResult.{SearchResult}
+use Rattle.frames_calls.specs.Searches.{Searches, SearchesRows}
 use Rattle.trial.specs.declared.Setting.{Setting}
 use Rattle.trial.specs.Trials.{walkBy}
 use Rattle.trial_calls.specs.Tries.{scoreOf, Tries}
 
-abbrev spanned : Searched → ℕ
+abbrev spanned : SearchResult → ℕ
 spanned r = r .counts .full + r .counts .partial + r .counts .swallowed
 
 -- at depth 12
@@ -29,13 +29,13 @@ sky-fits d m p h e low =
     mul-le-mul h (subst (λ q. q ≤ 4 ^ 11) (sym e) k)
 
 -- of a search with the budget b that the setting s counts with
-module _ (s : Setting) {o b n : ℕ} {l rs : List ℤ} {before numbers lists left : List ℕ} {r : Searched} (e : b ≡ budgetOf (s .budget))
+module _ (s : Setting) {o b n : ℕ} {l rs : List ℤ} {before numbers lists left : List ℕ} {r : SearchResult} (e : b ≡ budgetOf (s .budget))
     (w : SearchesRows o l (s .depth) b rs n before numbers r lists left) (g : Region) (k : RowsOf g n rs) where
   abbrev B : ℕ
   B = budgetOf (s .budget)
 
-  leaves : Leaves o l (s .depth) B g before numbers r lists left
-  leaves = subst (λ m. Leaves o l (s .depth) m g before numbers r lists left) e (w g k)
+  leaves : Searches o l (s .depth) B g before numbers r lists left
+  leaves = subst (λ m. Searches o l (s .depth) m g before numbers r lists left) e (w g k)
 
   pub spanned-few : s .depth ≤ 12 → spanned r ≤ 2 ^ 25
   spanned-few h = subst (λ c. c .full + c .partial + c .swallowed ≤ 2 ^ 25) (sym (leaves .counts)) (counts-small g (s .depth) B (budget-one (s .budget)) h)
@@ -46,9 +46,9 @@ module _ (s : Setting) {o b n : ℕ} {l rs : List ℤ} {before numbers lists lef
       let v = leaves in
       record {
         result = λ i. record {
-          unchecked = v .tests i .unchecked;
-          held = v .tests i .held;
-          discarded = v .tests i .discarded;
+          unchecked = v .dispositions i .unchecked;
+          held = v .dispositions i .held;
+          discarded = v .dispositions i .discarded;
           outer = v .counts i .outer;
           inner = v .counts i .inner;
         };

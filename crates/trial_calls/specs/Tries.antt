@@ -1,4 +1,4 @@
--- What the parts of a trial give. The rules are those of trial/specs.
+-- What the parts of a trial give. Document 02, F-13; the rules are those of trial/specs.
 --   passing n a        the answer a, or the refusal n; 0 is none
 --   SettingRefusal s r r is what the setting s is refused with, 0 for a good one
 --   Checks ..          r is the first check that fails behind the file's, 0 for none, where the index has k elements and the buffers have m and n:
@@ -18,7 +18,7 @@ use Rattle.region.specs.Reader.{File}
 use Rattle.covering.specs.Cover.{bothListed}
 use Rattle.covering_walk.specs.Walk.{RowsOf}
 use Rattle.index.specs.Entries.{IndexLength}
-use Rattle.frames_calls.specs.declared.Searched.{Searched}
+use Rattle.frames_calls.specs.declared.SearchResult.{SearchResult}
 use Rattle.trial.specs.declared.Setting.{Setting}
 use Rattle.trial.specs.declared.Trial.{Trial}
 use Rattle.trial.specs.Trials.{coverBy, resultBy, skyOf, choiceOf}
@@ -34,20 +34,20 @@ abbrev pub SettingRefusal : Setting → ℕ → Type 0
 SettingRefusal s r = (a : Answer File) → checkSetting s a ≡ passing r a
 
 -- those of the lists, by their lengths
-abbrev pub roomy : {A : Type 0} → ℕ → Setting → Setting → ℕ → ℕ → Answer A → Answer A
-roomy k s t m n a = check Space (leb (4 * budgetOf (s .budget)) m) (check Space (leb (4 * budgetOf (t .budget)) n) (check Space (leb IndexLength k) a))
+abbrev pub checkLengths : {A : Type 0} → ℕ → Setting → Setting → ℕ → ℕ → Answer A → Answer A
+checkLengths k s t m n a = check Space (leb (4 * budgetOf (s .budget)) m) (check Space (leb (4 * budgetOf (t .budget)) n) (check Space (leb IndexLength k) a))
 
 abbrev pub Checks : ℕ → Setting → Setting → ℕ → ℕ → ℕ → Type 0
-Checks k s t m n r = (a : Answer File) → checkSetting s (checkSetting t (roomy k s t m n a)) ≡ passing r a
+Checks k s t m n r = (a : Answer File) → checkSetting s (checkSetting t (checkLengths k s t m n a)) ≡ passing r a
 
 -- ---- one setting
 
-abbrev pub scoreOf : ℕ → Searched → ScoredSetting
+abbrev pub scoreOf : ℕ → SearchResult → ScoredSetting
 scoreOf d r = record {
   result = record {
-    unchecked = r .tests .unchecked;
-    held = r .tests .held;
-    discarded = r .tests .discarded;
+    unchecked = r .dispositions .unchecked;
+    held = r .dispositions .held;
+    discarded = r .dispositions .discarded;
     outer = r .counts .outer;
     inner = r .counts .inner;
   };

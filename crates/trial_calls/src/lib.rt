@@ -4,7 +4,7 @@ use answer::BUDGET;
 use answer::DEPTH;
 use answer::OWNER;
 use answer::SPACE;
-use frames_calls::Searched;
+use frames_calls::SearchResult;
 use index::INDEX_LENGTH;
 use index::OWNER_CAPACITY;
 use index::OWNERS;
@@ -88,16 +88,16 @@ fn refusal(index: usize, s: Setting, t: Setting, first: usize, second: usize) ->
 }
 
 // The result and the share of the sky of a search at a depth.
-fn score_of(depth: u32, made: Searched) -> ScoredSetting
+fn score_of(depth: u32, made: SearchResult) -> ScoredSetting
     requires { ⌜ (1 ≤ depth) × (depth ≤ 12) × (made .counts .full + made .counts .partial + made .counts .swallowed ≤ 2 ^ 25) ⌝ }
     ensures { λ r. ⌜ r ≡ scoreOf depth made ⌝ }
 {
     let span = covering_calls::power(MAX_DEPTH - depth);
     ScoredSetting {
         result: SettingResult {
-            unchecked: made.tests.unchecked,
-            held: made.tests.held,
-            discarded: made.tests.discarded,
+            unchecked: made.dispositions.unchecked,
+            held: made.dispositions.held,
+            discarded: made.dispositions.discarded,
             outer: made.counts.outer,
             inner: made.counts.inner,
         },
@@ -205,7 +205,7 @@ pub fn trial(
     }
 }
 
-// The first n pairs of a list, where it has so many; else none.
+// The first n pairs of a list; none where it has fewer.
 fn front<'a>(n: u64, list: &'a [u64]) -> &'a [u64]
     ensures { λ r. ⌜ (now r ≡ fitting (2 * n) (now (list .entry))) × (ptr r ≡ ptr (list .entry)) ⌝ }
 {

@@ -2,7 +2,7 @@
 use borrow.Author.Needs.{needs}
 use mathlib.Core.Path.{subst}
 use Rattle.io.specs.Counts.{Counts}
-use Rattle.streams.specs.Input.{Within}
+use Rattle.streams.specs.Input.{BytesIn}
 use Rattle.cover.proofs.main.Statement.{statement}
 use Rattle.cover.proofs.main.Tie as tie
 
@@ -11,7 +11,7 @@ abbrev read-all-before-n : tie.After-n → tie.After-read-all
 read-all-before-n c = c .before .before .before
 
 within : (c : tie.After-known-told) → Counts (c .before .n .given .0 .0) (read-all-before-n (c .before) .read-all .last .0)
-within c = subst (Within _) (c .before .n .given .1) (read-all-before-n (c .before) .read-all .ensures)
+within c = subst (BytesIn _) (c .before .n .given .1) (read-all-before-n (c .before) .read-all .ensures)
 
 pub main-spec : {M : Type 1} → statement M
 main-spec =

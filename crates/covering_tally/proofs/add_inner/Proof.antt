@@ -1,6 +1,6 @@
 -- `covering_tally::add_inner` pushes the range by what the tally knows, and notes what it knows then. Assumes nothing.
 use borrow.Author.Needs.{needs}
-use Rattle.covering_tally.proofs.TallyLaws.{inner-known, inside}
+use Rattle.covering_tally.proofs.TallyLaws.{inner-known, inner-added}
 use Rattle.covering_tally.proofs.add_inner.Statement.{statement}
 use Rattle.covering_tally.proofs.add_inner.Tie as tie
 
@@ -20,4 +20,4 @@ add-inner-spec =
     (λ c. search needs)
     (λ c.
     let p = push-inner-before-note-inner (c .before .before) in
-    inside (p .push-inner .ensures) (p .before .before .before .budget-of .ensures) (p .before .pending .ensures) (c .before .before .note-inner .ensures)))
+    inner-added (p .push-inner .ensures) (p .before .before .before .budget-of .ensures) (p .before .pending .ensures) (c .before .before .note-inner .ensures)))

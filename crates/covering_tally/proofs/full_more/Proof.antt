@@ -1,4 +1,4 @@
--- `covering_tally::full_more` counts one more, and the identifiers of a full trixel. Assumes nothing.
+-- `covering_tally::full_more` counts a trixel as seen, and its identifiers as full. Assumes nothing.
 use native.Mathlib.Omega.{arith}
 use borrow.Author.Needs.{needs}
 use Rattle.covering_tally.proofs.TallyLaws.{noted-full}

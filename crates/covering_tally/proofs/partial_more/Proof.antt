@@ -1,4 +1,4 @@
--- `covering_tally::partial_more` counts one more, and one more that is partial. Assumes nothing.
+-- `covering_tally::partial_more` counts a trixel as seen, and as partial. Assumes nothing.
 use native.Mathlib.Omega.{arith}
 use borrow.Author.Needs.{needs}
 use Rattle.covering_tally.proofs.TallyLaws.{noted-partial}

@@ -1,4 +1,4 @@
--- `covering_tally::seen_more` counts one more. Assumes nothing.
+-- `covering_tally::seen_more` counts a trixel as seen. Assumes nothing.
 use borrow.Author.Needs.{needs}
 use Rattle.covering_tally.proofs.TallyLaws.{noted-seen}
 use Rattle.covering_tally.proofs.seen_more.Statement.{statement}

@@ -28,31 +28,31 @@ start-before-search-arg2 c = start-before-else3 (c .before .before .before)
 abbrev search-before-numbers : tie.After-numbers → tie.After-search
 search-before-numbers c = c .before .before .before
 
--- the budget in the range list's test
-room : {r b n : ℕ} → r ≡ b → (n < 4 * r → n < 4 * b) × (4 * r ≤ n → 4 * b ≤ n)
-room e = (λ h. omega arith, λ h. omega arith)
+-- the bounds of the range list's test, by the budget that was read
+budget-bounds : {r b n : ℕ} → r ≡ b → (n < 4 * r → n < 4 * b) × (4 * r ≤ n → 4 * b ≤ n)
+budget-bounds e = (λ h. omega arith, λ h. omega arith)
 
 -- the range list is long enough
-roomy : (c : tie.Else1) → 4 * budgetOf (start-before-budget-of (c .before) .args .h .budget) ≤ length (now (start-before-budget-of (c .before) .args .ranges))
-roomy c = room (c .before .budget-of .ensures .0) .1 (omega (arith, c .if1 .left))
+long-ranges : (c : tie.Else1) → 4 * budgetOf (start-before-budget-of (c .before) .args .h .budget) ≤ length (now (start-before-budget-of (c .before) .args .ranges))
+long-ranges c = budget-bounds (c .before .budget-of .ensures .0) .1 (omega (arith, c .if1 .left))
 
 short-ranges : tie.Need-returns
 short-ranges c f k =
     let s = start-before-budget-of (c .before) in
     let a = s .args in
-    no-ranges (a .owner) (now (a .index)) f (now (a .ranges)) (now (a .numbers)) (s .pre .1) (a .h) (now (a .rows)) k (room (c .before .budget-of .ensures .0) .0 (omega (arith, c .if1 .taken)))
+    no-ranges (a .owner) (now (a .index)) f (now (a .ranges)) (now (a .numbers)) (s .pre .1) (a .h) (now (a .rows)) k (budget-bounds (c .before .budget-of .ensures .0) .0 (omega (arith, c .if1 .taken)))
 
 short-numbers : tie.Need-returns-2
 short-numbers c f k =
     let s = start-before-budget-of (c .before .before) in
     let a = s .args in
-    no-numbers (a .owner) (now (a .index)) f (now (a .ranges)) (now (a .numbers)) (s .pre .1) (a .h) (now (a .rows)) k (roomy (c .before)) (omega (arith, c .if2 .taken))
+    no-numbers (a .owner) (now (a .index)) f (now (a .ranges)) (now (a .numbers)) (s .pre .1) (a .h) (now (a .rows)) k (long-ranges (c .before)) (omega (arith, c .if2 .taken))
 
 short-index : tie.Need-returns-3
 short-index c f k =
     let s = start-before-budget-of (c .before .before .before) in
     let a = s .args in
-    no-index (a .owner) (now (a .index)) f (now (a .ranges)) (now (a .numbers)) (s .pre .1) (a .h) (now (a .rows)) k (roomy (c .before .before)) (omega (arith, c .before .if2 .left)) (omega (arith, c .if3 .taken))
+    no-index (a .owner) (now (a .index)) f (now (a .ranges)) (now (a .numbers)) (s .pre .1) (a .h) (now (a .rows)) k (long-ranges (c .before .before)) (omega (arith, c .before .if2 .left)) (omega (arith, c .if3 .taken))
 
 wants : tie.Need-search-requires
 wants c κs =
@@ -90,7 +90,7 @@ given c f k =
     let numbers = now (a .numbers) in
     let w = subst (λ n. SearchesRows (a .owner) l (a .h .depth) n (now (a .rows)) (a .h .count) ranges numbers (v .search .result) lists left) (b .budget-of .ensures .0) (v .search .ensures) in
     subst (λ t. FramesCall (a .owner) l f ranges numbers (FramesOf.Gives t) lists left) (sym (c .delivery .ensures))
-    (delivered (a .owner) l f ranges numbers (s .pre .1) (a .h) (now (a .rows)) k (roomy i) (omega (arith, e .before .if2 .left)) (omega (arith, e .if3 .left)) (v .search .result) lists left w)
+    (delivered (a .owner) l f ranges numbers (s .pre .1) (a .h) (now (a .rows)) k (long-ranges i) (omega (arith, e .before .if2 .left)) (omega (arith, e .if3 .left)) (v .search .result) lists left w)
 
 pub frames-in-spec : {M : Type 1} → statement M
 frames-in-spec =

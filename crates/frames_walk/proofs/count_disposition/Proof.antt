@@ -2,7 +2,7 @@
 use mathlib.Core.Path.{sym, ap}
 use native.Mathlib.Omega.{arith}
 use borrow.Author.Needs.{needs}
-use Rattle.frames_walk.specs.Steps.{noted}
+use Rattle.frames_walk.specs.Steps.{withDisposition}
 use Rattle.frames_walk.proofs.count_disposition.Statement.{statement}
 use Rattle.frames_walk.proofs.count_disposition.Tie as tie
 
@@ -17,7 +17,7 @@ count-disposition-spec =
     (λ c. omega arith)
     (λ c. search needs)
     (λ c. omega arith)
-    (λ c. sym (ap (noted (c .before .before .args .t)) (c .enum-told .given .1)))
-    (λ c. sym (ap (noted (c .before .before .before .args .t)) (c .before .enum-told2 .given .1)))
-    (λ c. sym (ap (noted (c .before .before .before .args .t)) (c .before .enum-told3 .given .1)))
-    (λ c. sym (ap (noted (c .before .before .before .args .t)) (c .before .enum-told4 .given .1))))
+    (λ c. sym (ap (withDisposition (c .before .before .args .t)) (c .enum-told .given .1)))
+    (λ c. sym (ap (withDisposition (c .before .before .before .args .t)) (c .before .enum-told2 .given .1)))
+    (λ c. sym (ap (withDisposition (c .before .before .before .args .t)) (c .before .enum-told3 .given .1)))
+    (λ c. sym (ap (withDisposition (c .before .before .before .args .t)) (c .before .enum-told4 .given .1))))

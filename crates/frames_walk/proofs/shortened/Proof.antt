@@ -15,4 +15,4 @@ shortened-spec =
     (λ c. omega arith)
     (λ c.
     let v = c .before .before .args in
-    ap (λ n. n / v .span) (c .whole .ensures .0 ∙ ap rule.whole (stored-same (v .e .id) (c .before .struct-told .given .0 .1)))))
+    ap (λ n. n / v .span) (c .natural .ensures .0 ∙ ap rule.natural (stored-same (v .e .id) (c .before .struct-told .given .0 .1)))))

@@ -7,7 +7,7 @@ use Rattle.ranges.specs.Ranges.{rangesIn}
 use Rattle.frames.specs.Walk.{ahead, begins}
 use Rattle.frames_walk.specs.declared.WalkState.{WalkState}
 use Rattle.frames_walk.proofs.RangeLaws.{tail}
-use Rattle.frames_walk.proofs.MetLaws.{noted-most}
+use Rattle.frames_walk.proofs.StepLaws.{with-disposition-most}
 use Rattle.frames_walk.proofs.WalkLaws.{Turn, turned}
 use Rattle.frames_walk.proofs.visit_entry.Statement.{statement}
 use Rattle.frames_walk.proofs.visit_entry.Tie as tie
@@ -46,7 +46,7 @@ returns c =
     let v = start (c .before) .args in
     let id = s .shortened .result in
     let t = tail (v .lists .from) (v .ranges .now) in
-    let b : WalkState = record { met = v .at .met + 1; outer = o₁ .ahead .result; inner = n₁ .ahead2 .result; tests = c .count-disposition .result } in
+    let b : WalkState = record { visited = v .at .visited + 1; outer = o₁ .ahead .result; inner = n₁ .ahead2 .result; dispositions = c .count-disposition .result } in
     let turn : Turn (v .lists) (v .ranges .now) (v .rows .now) (v .count) (v .e) (v .at) (v .numbers .now) b (d .deliver .last .0) id (n .begins .result) (o .begins2 .result) (f .disposition-of .result) =
     record {
       id = s .shortened .ensures;
@@ -55,14 +55,14 @@ returns c =
       in-inner = subst (λ xs. n .begins .result ≡ begins id (drop (b .inner) (rangesIn (v .lists .inner) xs))) t (n .begins .ensures);
       in-outer = o .begins2 .ensures;
       disposition = f .disposition-of .ensures;
-      met = refl;
-      tests = c .count-disposition .ensures;
+      visited = refl;
+      dispositions = c .count-disposition .ensures;
       numbers = d .deliver .ensures;
     } in
-    let few = subst (λ t. t .unchecked + t .held + t .discarded ≤ v .at .met + 1) (sym (c .count-disposition .ensures))
-    (omega (arith, noted-most (v .at .tests) (f .disposition-of .result), p .0 .1 .tests)) in (
+    let few = subst (λ t. t .unchecked + t .held + t .discarded ≤ v .at .visited + 1) (sym (c .count-disposition .ensures))
+    (omega (arith, with-disposition-most (v .at .dispositions) (f .disposition-of .result), p .0 .1 .dispositions)) in (
       turned (v .lists) (v .ranges .now) (v .rows .now) (v .count) (v .e) (v .at) (v .numbers .now) b (d .deliver .last .0) id (n .begins .result) (o .begins2 .result) (f .disposition-of .result) turn,
-      (record { outer = o₁ .ahead .ensures .1; inner = n₁ .ahead2 .ensures .1; tests = few; met = omega (arith, p .0 .2) }, refl, d .deliver .kept .0),
+      (record { outer = o₁ .ahead .ensures .1; inner = n₁ .ahead2 .ensures .1; dispositions = few; visited = omega (arith, p .0 .2) }, refl, d .deliver .kept .0),
     )
 
 pub visit-entry-spec : {M : Type 1} → statement M
@@ -86,6 +86,6 @@ visit-entry-spec =
     (λ c. omega arith)
     (λ c κs. omega arith)
     (λ c. record { fits = omega (arith, start c .pre .0 .2) })
-    (λ c κs. omega (arith, start c .pre .0 .1 .tests, start c .pre .0 .2))
+    (λ c κs. omega (arith, start c .pre .0 .1 .dispositions, start c .pre .0 .2))
     (λ c. omega arith)
     returns)

@@ -1,8 +1,8 @@
--- `frames_walk::visit_if_owned` leaves alone what the walk does not meet. Assumes nothing.
+-- `frames_walk::visit_if_owned` passes over what the walk does not visit. Assumes nothing.
 use mathlib.Core.Path.{refl, sym, _∙_}
 use native.Mathlib.Omega.{arith}
 use borrow.Author.Tests.{not-true, not-false}
-use Rattle.frames_walk.proofs.WalkLaws.{passes-other, passes-full, passes-own}
+use Rattle.frames_walk.proofs.WalkLaws.{visits-other, visits-full, visits-own}
 use Rattle.frames_walk.proofs.visit_if_owned.Statement.{statement}
 use Rattle.frames_walk.proofs.visit_if_owned.Tie as tie
 
@@ -19,13 +19,13 @@ visit-if-owned-spec =
     let i = c .before in
     let s = i .before .before .before in
     let v = s .args in (
-      passes-other (v .owner) (v .lists) (v .ranges .now) (v .rows .now) (v .count) (v .e) (v .at) (v .numbers .now) (sym (i .is-owned .ensures) ∙ not-true (i .is-owned .result) (c .if1 .taken)),
+      visits-other (v .owner) (v .lists) (v .ranges .now) (v .rows .now) (v .count) (v .e) (v .at) (v .numbers .now) (sym (i .is-owned .ensures) ∙ not-true (i .is-owned .result) (c .if1 .taken)),
       (s .pre .0 .1, refl),
     ))
     (λ c.
     let s = start-before-is-owned (c .before .before .before) in
     let v = s .args in
-    (passes-full (v .owner) (v .lists) (v .ranges .now) (v .rows .now) (v .count) (v .e) (v .at) (v .numbers .now) (omega arith), (s .pre .0 .1, refl)))
+    (visits-full (v .owner) (v .lists) (v .ranges .now) (v .rows .now) (v .count) (v .e) (v .at) (v .numbers .now) (omega arith), (s .pre .0 .1, refl)))
     (λ c κs. omega arith)
     (λ c. omega arith)
     (λ c.
@@ -35,7 +35,7 @@ visit-if-owned-spec =
     let i = q .before in
     let s = i .before .before .before in
     let v = s .args in (
-      passes-own (v .owner) (v .lists) (v .ranges .now) (v .rows .now) (v .count) (v .e) (v .at) (v .numbers .now) (m .visit-entry .result) _
+      visits-own (v .owner) (v .lists) (v .ranges .now) (v .rows .now) (v .count) (v .e) (v .at) (v .numbers .now) (m .visit-entry .result) _
           (sym (i .is-owned .ensures) ∙ not-false (i .is-owned .result) (q .if1 .left)) (omega (arith, e .if2 .left)) (m .visit-entry .ensures .1 .1) (m .visit-entry .ensures .0),
       (m .visit-entry .ensures .1 .0, m .visit-entry .ensures .1 .2),
     )))

@@ -26,7 +26,7 @@ walk-spec =
     (λ c.
     let v = c .before .before .before .args in (
       omega arith,
-      record { outer = omega arith; inner = omega arith; tests = omega arith; met = omega arith },
+      record { outer = omega arith; inner = omega arith; dispositions = omega arith; visited = omega arith },
       refl,
       past-none (v .owner) (v .index .now) (v .lists) (v .ranges .now) (v .rows .now) (v .count) (v .numbers .now),
     ))

@@ -23,9 +23,9 @@ start-before-said c = start-before-rows (c .before .before .before)
 abbrev start-before-said2 : tie.After-said2 → tie.Start
 start-before-said2 c = start-before-rows (c .before .before .before)
 
--- the budget in the lent list's test
-room : {r b n : ℕ} → r ≡ b → (n < 4 * r → n < 4 * b) × (4 * r ≤ n → 4 * b ≤ n)
-room e = (λ h. omega arith, λ h. omega arith)
+-- the bounds of the lent list's test, by the budget that was read
+budget-bounds : {r b n : ℕ} → r ≡ b → (n < 4 * r → n < 4 * b) × (4 * r ≤ n → 4 * b ≤ n)
+budget-bounds e = (λ h. omega arith, λ h. omega arith)
 
 -- the file is decoded
 file : (c : tie.After-known-told) → Decoded (now (start-before-said (c .before) .args .file)) (c .before .said .given .0 .0) (c .before .before .before .decode .last .1 .0)
@@ -38,7 +38,7 @@ short : tie.Need-returns
 short c =
     let t = c .before .before in
     let a = start-before-said (t .before) .args in
-    no-room (now (a .file)) (now (a .out)) _ _ (file t) (room (c .before .budget-of .ensures .0) .0 (omega (arith, c .if1 .taken)))
+    no-room (now (a .file)) (now (a .out)) _ _ (file t) (budget-bounds (c .before .budget-of .ensures .0) .0 (omega (arith, c .if1 .taken)))
 
 wants : tie.Need-cover-requires
 wants c κs =
@@ -57,7 +57,7 @@ given c =
     let a = start-before-said (t .before) .args in
     let d = t .before .said .given .0 .0 in
     let rs = t .before .before .before .decode .last .1 .0 in
-    covered (now (a .file)) (now (a .out)) d rs (file t) (room (b .budget-of .ensures .0) .1 (omega (arith, i .if1 .left)))
+    covered (now (a .file)) (now (a .out)) d rs (file t) (budget-bounds (b .budget-of .ensures .0) .1 (omega (arith, i .if1 .left)))
     (subst (λ n. CoversRows (d .count) rs n (d .depth) (now (a .out)) (v .cover .result) (v .cover .last .1 .1 .1 .1 .0)) (b .budget-of .ensures .0) (v .cover .ensures))
 
 refused : tie.Need-returns-3

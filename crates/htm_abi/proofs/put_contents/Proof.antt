@@ -1,4 +1,4 @@
--- `htm_abi::put_contents` puts the header's three numbers, and stores one more behind them. Assumes nothing.
+-- `htm_abi::put_contents` puts the header's three numbers, and stores the fourth behind them. Assumes nothing.
 use Prim.Native.Nat.{ℕ, _<_}
 use native.Mathlib.Omega.{arith}
 use borrow.Author.Needs.{needs}

@@ -1,4 +1,4 @@
--- `index_calls::add` tests the owner, looks the identifier up, and enters the entry where it gets one. Assumes nothing.
+-- `index_calls::add` tests the owner, looks the identifier up, and inserts the entry where it gets one. Assumes nothing.
 use Prim.Native.Nat.{_≤_, _^_}
 use native.Mathlib.Omega.{arith}
 use mathlib.Core.Path.{_≡_, sym, ap, _∙_}
@@ -37,8 +37,8 @@ sent-back c =
     by-add _ _ _ _
     (not-added (exposed (v .owner) (v .number) (v .p)) (now (v .index)) (f .found .given .0 .0) (lt-ltb (v .owner) 2 (omega arith)) (sym (ap numberOf (f .found .given .1)) ∙ f .before .before .lookup .ensures))
 
-entered : tie.Need-returns-3
-entered c =
+is-added : tie.Need-returns-3
+is-added c =
     let f = c .before .before .before .before in
     let v = start-before-at-match-keys2 (f .before) .args in
     let l = lookup-is (v .p) 12 _ (given f) in
@@ -63,4 +63,4 @@ add-spec =
     (λ c κs. tt)
     sent-back
     (λ c. c .before .insert .kept .0)
-    entered)
+    is-added)

@@ -1,4 +1,4 @@
--- `index_calls::begin` says that there are no entries. Assumes nothing.
+-- `index_calls::begin` stores the count 0, so there are no entries. Assumes nothing.
 use native.Mathlib.Omega.{arith}
 use lib.ListN.{length-set}
 use Rattle.index_calls.proofs.CallLaws.{by-begin, too-short, begun}

@@ -3,7 +3,7 @@ use mathlib.Core.Path.{_∙_}
 use native.Mathlib.Omega.{arith}
 use lib.ListN.{length-set}
 use Rattle.index.specs.Exposures.{key}
-use Rattle.index_calls.proofs.CallLaws.{too-short, is-twice, is-full, no-room, is-entered}
+use Rattle.index_calls.proofs.CallLaws.{too-short, is-twice, is-full, no-room, is-inserted}
 use Rattle.index_calls.proofs.insert.Statement.{statement}
 use Rattle.index_calls.proofs.insert.Tie as tie
 
@@ -39,8 +39,8 @@ crowded c =
     no-room (v .index .now) (h .count-in .result) (e .if1 .left) (h .count-in .ensures .0) (key (v .owner) (v .number)) (f .result .place) (f .ensures .0 .0) (v .e) (f .result .owned)
     (omega arith) (f .ensures .1 (omega arith)) (omega arith) (omega arith)
 
-entered : tie.Need-returns-5
-entered c =
+is-added : tie.Need-returns-5
+is-added c =
     let st = c .before in
     let r = st .before .before .before in
     let o = r .before .before in
@@ -50,7 +50,7 @@ entered c =
     let e = h .before .before in
     let v = e .before .args in
     let f = a .find in
-    is-entered (v .index .now) (h .count-in .result) (e .if1 .left) (h .count-in .ensures .0) (key (v .owner) (v .number)) (f .result .place) (f .ensures .0 .0) (v .e) (f .result .owned)
+    is-inserted (v .index .now) (h .count-in .result) (e .if1 .left) (h .count-in .ensures .0) (key (v .owner) (v .number)) (f .result .place) (f .ensures .0 .0) (v .e) (f .result .owned)
     (omega (arith, q .if2 .left)) (f .ensures .1 (omega (arith, q .if2 .left))) (omega (arith, o .before .if3 .left)) (r .make-gap .result) _ _
     (omega arith) (r .make-gap .ensures .0 .0) (r .make-gap .ensures .0 .1) (r .make-gap .ensures .1) (st .store-entry .ensures)
 
@@ -75,4 +75,4 @@ insert-spec =
     (λ c. record { sfits = omega arith })
     (λ c. omega arith)
     (λ c. simp length-set (c .before .store-entry .kept .0 ∙ c .before .before .before .before .make-gap .kept .0))
-    entered)
+    is-added)

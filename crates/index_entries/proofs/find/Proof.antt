@@ -41,7 +41,7 @@ module _ (l : List ℤ) (k : Key) where
   none : (n i : ℕ) → n ≡ i → Others i → (n ≡ leading (λ e. not (isKeyed k e)) (entriesFrom n (drop 1 l))) × (n ≤ n)
   none n i e all = ends n n (omega arith) (λ j b. all j (omega arith)) (λ b. absurd (omega arith))
 
-  -- of the entries before number i so many are the owner's
+  -- how many of the entries before number i are the owner's
   record Owned (i w : ℕ) : Type 0 where
     few : w ≤ i
     same : w ≡ tally (isOwned (k .owner)) (entriesFrom i (drop 1 l))
@@ -54,11 +54,11 @@ module _ (l : List ℤ) (k : Key) where
   unfolding entriesFrom tally
   none-owned = record { few = omega arith; same = refl }
 
-  -- one entry more, as it is counted
-  abbrev Counted : ℕ → ℕ → Entry → Type 0
-  Counted w r e = (r ≡ cond (isOwned (k .owner) e) (w + 1) w) × (r ≤ w + 1)
+  -- the next entry, as it is counted
+  abbrev CountsIfOwned : ℕ → ℕ → Entry → Type 0
+  CountsIfOwned w r e = (r ≡ cond (isOwned (k .owner) e) (w + 1) w) × (r ≤ w + 1)
 
-  one-owned : (i w r : ℕ) (e : Entry) → e ≡ entryAt l (1 + Width * i) → Counted w r e → Owned i w → Owned (i + 1) r
+  one-owned : (i w r : ℕ) (e : Entry) → e ≡ entryAt l (1 + Width * i) → CountsIfOwned w r e → Owned i w → Owned (i + 1) r
   one-owned i w r e is c h =
       let o = isOwned (k .owner) in
       let m : ℕ = tally o (entriesFrom i (drop 1 l)) in
@@ -67,7 +67,7 @@ module _ (l : List ℤ) (k : Key) where
         same = c .0 ∙ counts (o e) w m (h .same) ∙ ap (λ x. cond (o x) (suc m) m) is ∙ sym (counted-more o i l 1) ∙ ap (λ j. tally o (entriesFrom j (drop 1 l))) (sym (add-one i));
       }
 
-  two-owned : (i w r : ℕ) (e : Entry) → e ≡ entryAt l (1 + Width * (i + 1)) → Counted w r e → Owned (i + 1) w → Owned (i + 2) r
+  two-owned : (i w r : ℕ) (e : Entry) → e ≡ entryAt l (1 + Width * (i + 1)) → CountsIfOwned w r e → Owned (i + 1) w → Owned (i + 2) r
   two-owned i w r e is c h = let s : i + 1 + 1 ≡ i + 2 = omega arith in subst (λ j. Owned j r) s (one-owned (i + 1) w r e is c h)
 
   all-owned : (n i w : ℕ) → n ≡ i → Owned i w → n ≤ n → w ≡ tally (isOwned (k .owner)) (entriesFrom n (drop 1 l))
@@ -133,10 +133,10 @@ again c =
     let e = f .before .before .before in
     let k = e .before in
     let l = k .before .before .before in
-    let one = one-owned (list l) (asked l) (l .loop .i) (l .loop .owned) (o .counted .result) (k .before .entry-at .result) (k .before .entry-at .ensures) (o .counted .ensures) (l .loop .inv .2) in (
+    let one = one-owned (list l) (asked l) (l .loop .i) (l .loop .owned) (o .count-if-owned .result) (k .before .entry-at .result) (k .before .entry-at .ensures) (o .count-if-owned .ensures) (l .loop .inv .2) in (
       omega arith,
       two-more (list l) (asked l) (l .loop .i) (passed e) (second (f .before) ∙ f .if2 .left),
-      two-owned (list l) (asked l) (l .loop .i) (o .counted .result) (c .counted2 .result) (f .before .before .entry-at2 .result) (f .before .before .entry-at2 .ensures) (c .counted2 .ensures) one,
+      two-owned (list l) (asked l) (l .loop .i) (o .count-if-owned .result) (c .count-if-owned2 .result) (f .before .before .entry-at2 .result) (f .before .before .entry-at2 .ensures) (c .count-if-owned2 .ensures) one,
     )
 
 at-end : tie.Need-returns-3 Inv-loop μ-loop
@@ -157,9 +157,9 @@ nowhere c =
     let l = at-loop-before-entry-at3 (k .before) in
     let v = l .before .args in
     let e : v .n ≡ l .loop .i + 1 = omega arith in
-    let one = one-owned (list l) (asked l) (l .loop .i) (l .loop .owned) (c .counted3 .result) (k .before .entry-at3 .result) (k .before .entry-at3 .ensures) (c .counted3 .ensures) (l .loop .inv .2) in (
+    let one = one-owned (list l) (asked l) (l .loop .i) (l .loop .owned) (c .count-if-owned3 .result) (k .before .entry-at3 .result) (k .before .entry-at3 .ensures) (c .count-if-owned3 .ensures) (l .loop .inv .2) in (
       none (list l) (asked l) (v .n) (l .loop .i + 1) e (one-more (list l) (asked l) (l .loop .i) (l .loop .inv .1) (last k ∙ f .if4 .left)),
-      all-owned (list l) (asked l) (v .n) (l .loop .i + 1) (c .counted3 .result) e one,
+      all-owned (list l) (asked l) (v .n) (l .loop .i + 1) (c .count-if-owned3 .result) e one,
     )
 
 pub find-spec : {M : Type 1} → statement M
@@ -185,7 +185,7 @@ find-spec =
     (λ c. omega arith)
     next
     (λ c κs. omega (arith, at-loop-before-is-keyed2 (c .before) .loop .inv .2 .few))
-    (λ c κs. omega (arith, at-loop-before-is-keyed2 (c .before .before) .loop .inv .2 .few, c .counted .ensures .1))
+    (λ c κs. omega (arith, at-loop-before-is-keyed2 (c .before .before) .loop .inv .2 .few, c .count-if-owned .ensures .1))
     (λ c. omega arith)
     (λ c. omega arith)
     again

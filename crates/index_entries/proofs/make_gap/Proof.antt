@@ -34,7 +34,7 @@ at-loop-before-entry-at c = c .before .before .before
 abbrev at-loop-before-store-entry-arg : tie.After-store-entry-arg Inv-loop μ-loop → tie.At-loop Inv-loop μ-loop
 at-loop-before-store-entry-arg c = at-loop-before-entry-at (c .before .before .before)
 
--- the entry at hand has not moved, and is put to the test
+-- the entry at hand has not moved, and is tested
 unmoved : (c : tie.After-entry-at Inv-loop μ-loop) → c .entry-at .result ≡ entryAt (start-before-entry-at-arg (c .before) .args .index .now) (1 + Width * (c .before .before .before .loop .i - 1))
 unmoved c =
     let l = c .before .before .before in

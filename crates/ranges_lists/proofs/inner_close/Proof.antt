@@ -1,4 +1,4 @@
--- `ranges_lists::inner_close` is the two cases of `innerClose`: room for one more, and a full list. Assumes nothing.
+-- `ranges_lists::inner_close` is the two cases of `innerClose`: fewer ranges than the budget, and a full list. Assumes nothing.
 use native.Mathlib.Omega.{arith}
 use lib.ListN.{length-set}
 use Rattle.ranges_stored.specs.Stored.{differences}

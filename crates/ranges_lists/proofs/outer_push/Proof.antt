@@ -1,4 +1,4 @@
--- `ranges_lists::outer_push` is the four cases of `outerPush`: the first range, a touching one, one more, and a full list. Assumes nothing.
+-- `ranges_lists::outer_push` is the four cases of `outerPush`: the first range, a touching one, fewer than the budget, and a full list. Assumes nothing.
 use Prim.Native.Nat.{_*_, _-_}
 use mathlib.Core.Path.{sym, _∙_}
 use native.Mathlib.Omega.{arith}

@@ -1,4 +1,4 @@
--- `streams::read_all` meets its contract and ends: each read gives at least one byte more, and at most what is left of `to`. Assumes nothing.
+-- `streams::read_all` meets its contract and ends: each read gives at least one byte, and at most what is left of `to`. Assumes nothing.
 use Prim.Native.Nat.{_-_, _≤_}
 use native.Mathlib.Omega.{arith}
 use borrow.Author.Needs.{needs}
@@ -6,7 +6,7 @@ use mathlib.Core.Path.{_≡_, subst}
 use lib.ListN.{length}
 use Rattle.io.specs.Counts.{Counts}
 use Rattle.io.proofs.Counting.{counts}
-use Rattle.streams.specs.Input.{Within}
+use Rattle.streams.specs.Input.{BytesIn}
 use Rattle.streams.proofs.read_all.Statement.{statement}
 use Rattle.streams.proofs.read_all.Tie as tie
 
@@ -22,7 +22,7 @@ read-before-at-match-keys1 c = c .before .before .before
 
 -- what the read before has given
 more : (c : tie.Else1 Inv-loop μ-loop) → Counts (c .before .before .n .given .0 .0) (read-before-at-match-keys1 (c .before .before .before) .read .last .0)
-more c = subst (Within _) (c .before .before .n .given .1) (read-before-at-match-keys1 (c .before .before .before) .read .ensures)
+more c = subst (BytesIn _) (c .before .before .n .given .1) (read-before-at-match-keys1 (c .before .before .before) .read .ensures)
 
 pub read-all-spec : {M : Type 1} → statement M
 read-all-spec =

@@ -1,4 +1,4 @@
--- `htm::from_c::htm_cover` checks that the counts have room, and covers. Assumes nothing.
+-- `htm::from_c::htm_cover` checks that there is room for the counts, and covers. Assumes nothing.
 use native.Mathlib.Omega.{arith}
 use mathlib.Core.Path.{sym, ap, _∙_}
 use denote.Ref.{now}
@@ -37,7 +37,7 @@ htm-cover-spec =
     (λ c κs. tt)
     (λ c.
     let s = start-before-slice-known2 (c .before .before) .args in
-    let w = c .without-room .ensures in
+    let w = c .file-refusal-or-space .ensures in
     let k = short-counts (now (s .file)) (now (s .out)) (now (s .counts)) (omega (arith, c .before .if1 .taken)) in
     (held (w .1) tt .eq ∙ w .0 ∙ k .0, k .1))
     (λ c κs. tt)

@@ -1,4 +1,4 @@
--- `htm::from_c::htm_read` checks that the header has room, and reads. Assumes nothing.
+-- `htm::from_c::htm_read` checks that there is room for the header, and reads. Assumes nothing.
 use native.Mathlib.Omega.{arith}
 use mathlib.Core.Path.{sym, ap, _∙_}
 use denote.Ref.{now}
@@ -37,7 +37,7 @@ htm-read-spec =
     (λ c κs. tt)
     (λ c.
     let s = c .before .before .before .before .args in
-    let w = c .without-room .ensures in
+    let w = c .file-refusal-or-space .ensures in
     let k = short-header (now (s .file)) (now (s .rows)) (now (s .header)) (omega (arith, c .before .if1 .taken)) in
     (held (w .1) tt .eq ∙ w .0 ∙ k .0, k .1))
     (λ c κs. tt)

@@ -1,4 +1,4 @@
--- `htm::index_from_c::htm_frames` checks that the counts have room, and delivers. Assumes nothing.
+-- `htm::index_from_c::htm_frames` checks that there is room for the counts, and delivers. Assumes nothing.
 use native.Mathlib.Omega.{arith}
 use mathlib.Core.Path.{sym, ap, _∙_}
 use borrow.Author.Needs.{needs}
@@ -19,7 +19,7 @@ frames-before-numbers c = c .before .before .before
 short : tie.Need-returns
 short c =
     let a = start-before-slice-known2 (c .before .before .before) .args in
-    let w = c .owner-without-room .ensures in
+    let w = c .owner-refusal-or-space .ensures in
     let k = short-frames (a .owner) (now (a .index)) (now (a .file)) (now (a .ranges)) (now (a .numbers)) (now (a .counts)) (omega (arith, c .before .if1 .taken)) in
     record { status-is = held (w .1) tt .eq ∙ w .0 ∙ k .status-is; ranges-left = k .ranges-left; numbers-left = k .numbers-left; counts-left = k .counts-left }
 

@@ -4,7 +4,7 @@ use mathlib.Core.Path.{_≡_, sym, ap, _∙_}
 use denote.Ref.{now}
 use Rattle.algebra.proofs.Sized.{held}
 use Rattle.answer.specs.Answer.{gives}
-use Rattle.index.specs.Entries.{Placed}
+use Rattle.index.specs.Entries.{Slot}
 use Rattle.index.specs.Answers.{entryAnswer, entryGiven}
 use Rattle.htm.proofs.CLaws.{entry-refused, no-entry, no-entry-room, entry-put}
 use Rattle.htm.proofs.index_from_c.htm_index_entry.Statement.{statement}
@@ -18,7 +18,7 @@ abbrev answer-before-store-entry-arg : tie.After-store-entry-arg → tie.After-a
 answer-before-store-entry-arg c = c .before .before .before
 
 -- the entry that was found, by the rule
-found : (c : tie.After-answer) → gives (Placed.found (c .answer .given .0 .0)) ≡ entryAnswer (c .before .before .before .args .place) (now (c .before .before .before .args .index))
+found : (c : tie.After-answer) → gives (Slot.found (c .answer .given .0 .0)) ≡ entryAnswer (c .before .before .before .args .place) (now (c .before .before .before .args .index))
 found c = sym (ap entryGiven (c .answer .given .1)) ∙ c .before .before .index-entry .ensures
 
 pub htm-index-entry-spec : {M : Type 1} → statement M

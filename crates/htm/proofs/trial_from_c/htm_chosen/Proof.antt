@@ -1,4 +1,4 @@
--- `htm::trial_from_c::htm_chosen` checks both lists, asks the status, and tells the part. Assumes nothing.
+-- `htm::trial_from_c::htm_chosen` checks both lists, tests the status, and puts the part. Assumes nothing.
 use native.Mathlib.Omega.{arith}
 use mathlib.Core.Path.{ap, _∙_}
 use mathlib.Core.List.{[], _∷_}

@@ -1,4 +1,4 @@
--- `htm::trial_from_c::htm_trial` checks that the result has room, and tries. Assumes nothing.
+-- `htm::trial_from_c::htm_trial` checks that there is room for the result, and tries. Assumes nothing.
 use native.Mathlib.Omega.{arith}
 use mathlib.Core.Path.{_≡_, sym, ap, _∙_}
 use borrow.Author.Needs.{needs}
@@ -29,7 +29,7 @@ few-numbers c =
     let a = start-before-slice-known2 (i .before .before) .args in
     let m = c .minus .ensures in
     let k = short-numbers (a .owner) (now (a .index)) (now (a .file)) (settingOf (a .depth-1) (a .budget-1)) (settingOf (a .depth-2) (a .budget-2))
-    (now (a .first)) (now (a .second)) (now (a .numbers)) (omega (arith, i .if1 .taken)) (u .refused-anyway .result) (u .refused-anyway .ensures) in
+    (now (a .first)) (now (a .second)) (now (a .numbers)) (omega (arith, i .if1 .taken)) (u .trial-refusal-or-space .result) (u .trial-refusal-or-space .ensures) in
     record { status-is = held (m .1) tt .eq ∙ m .0 ∙ k .status-is; first-left = k .first-left; second-left = k .second-left; numbers-left = k .numbers-left }
 
 -- what the trial answered, and the lists as it left them

@@ -1,4 +1,4 @@
--- `htm_abi::trials::refused_anyway` checks the owner, the file and the settings. Assumes nothing.
+-- `htm_abi::trials::trial_refusal_or_space` checks the owner, the file and the settings. Assumes nothing.
 use Prim.Native.Nat.{ℕ}
 use native.Mathlib.Omega.{arith}
 use mathlib.Core.Path.{_≡_, sym, ap, _∙_}
@@ -14,22 +14,22 @@ use Rattle.region.specs.Reader.{File, read}
 use Rattle.region.specs.Answers.{headerOf, headerGiven}
 use Rattle.index.specs.Exposures.{isOwner}
 use Rattle.trial.specs.declared.Setting.{Setting}
-use Rattle.htm_abi.specs.ShortLists.{settingRefusalOr, anywayRefused}
-use Rattle.htm_abi.proofs.trials.refused_anyway.Statement.{statement}
-use Rattle.htm_abi.proofs.trials.refused_anyway.Tie as tie
+use Rattle.htm_abi.specs.ShortLists.{settingRefusalOrSpace, trialRefusalOrSpace}
+use Rattle.htm_abi.proofs.trials.trial_refusal_or_space.Statement.{statement}
+use Rattle.htm_abi.proofs.trials.trial_refusal_or_space.Tie as tie
 
 module _ (o : ℕ) (f : List ℕ) (s t : Setting) where
-  no-owner : isOwner o ≡ false → anywayRefused o f s t ≡ refused Owner
-  no-owner e = ap (λ b. check Owner b (then (read f) (λ x. settingRefusalOr s t))) e
+  no-owner : isOwner o ≡ false → trialRefusalOrSpace o f s t ≡ refused Owner
+  no-owner e = ap (λ b. check Owner b (then (read f) (λ x. settingRefusalOrSpace s t))) e
 
   module _ (own : isOwner o ≡ true) where
-    by-file : (a : Answer File) → read f ≡ a → anywayRefused o f s t ≡ then a (λ x. settingRefusalOr s t)
-    by-file a e = ap (λ b. check Owner b (then (read f) (λ x. settingRefusalOr s t))) own ∙ ap (λ b. then b (λ x. settingRefusalOr s t)) e
+    by-file : (a : Answer File) → read f ≡ a → trialRefusalOrSpace o f s t ≡ then a (λ x. settingRefusalOrSpace s t)
+    by-file a e = ap (λ b. check Owner b (then (read f) (λ x. settingRefusalOrSpace s t))) own ∙ ap (λ b. then b (λ x. settingRefusalOrSpace s t)) e
 
-    no-file : (n : ℕ) → refused n ≡ with-value headerOf (read f) → anywayRefused o f s t ≡ refused n
+    no-file : (n : ℕ) → refused n ≡ with-value headerOf (read f) → trialRefusalOrSpace o f s t ≡ refused n
     no-file n e = by-file (refused n) (value-refused headerOf (read f) n (sym e))
 
-    a-file : (h : Header) (n : ℕ) → gives h ≡ with-value headerOf (read f) → settingRefusalOr s t ≡ refused n → anywayRefused o f s t ≡ refused n
+    a-file : (h : Header) (n : ℕ) → gives h ≡ with-value headerOf (read f) → settingRefusalOrSpace s t ≡ refused n → trialRefusalOrSpace o f s t ≡ refused n
     a-file h n e u = let v = value-gives headerOf (read f) h (sym e) in by-file (gives (v .0)) (v .1) ∙ u
 
 other : tie.Need-returns
@@ -53,8 +53,8 @@ refuses c =
     let a = e .before .before .args in
     no-file (a .owner) (now (a .file)) (a .s) (a .t) (own e) (c .before .said .given .0 .0) (sym (ap headerGiven (c .before .said .given .1)) ∙ d .decode .ensures .0)
 
-pub refused-anyway-spec : {M : Type 1} → statement M
-refused-anyway-spec =
+pub trial-refusal-or-space-spec : {M : Type 1} → statement M
+trial-refusal-or-space-spec =
     tie.close
     (tie.spec
     other

@@ -1,11 +1,11 @@
--- `frames_walk::whole` tests the number against 0. Assumes nothing.
+-- `frames_walk::natural` tests the number against 0. Assumes nothing.
 use native.Mathlib.Omega.{arith}
 use Rattle.frames_walk.proofs.NumberLaws.{none-below, not-below}
-use Rattle.frames_walk.proofs.whole.Statement.{statement}
-use Rattle.frames_walk.proofs.whole.Tie as tie
+use Rattle.frames_walk.proofs.natural.Statement.{statement}
+use Rattle.frames_walk.proofs.natural.Tie as tie
 
-pub whole-spec : {M : Type 1} → statement M
-whole-spec =
+pub natural-spec : {M : Type 1} → statement M
+natural-spec =
     tie.close
     (tie.spec
     (λ c. let r = not-below (c .before .args .z) (c .before .fits .z .sfits) (c .if1 .left) in (r .sign, r .fits))

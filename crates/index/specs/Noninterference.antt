@@ -1,10 +1,10 @@
--- The two owners are apart. Document 02, F-11: any two histories from an empty index with the same calls by one owner in the same order give that owner the
--- same answers, full included, however the other's calls differ. So may calls of no owner stand between them.
+-- The two owners do not interfere. Document 02, F-11: any two histories from an empty index with the same calls by one owner in the same order give that owner
+-- the same answers, full included, however the other's calls differ. Calls of no owner may stand between them.
 --   ownerOf c         the owner that the call c names, 0 or 1 or no owner
 --   callsOf o h       the calls of the history h that name the owner o
 --   answersTo o h rs  of the answers rs to the history h those to the calls that name the owner o
 --   Ran h rs n        the calls h one after the other, each as its contract has it, gave rs from an empty index on, and left the list n
---   Apart             the statement
+--   Noninterference   the statement
 --   OwnEntries        beside it: an owner's entries are those that its own calls leave, each once, in ascending order
 use Prim.Native.Nat.{ℕ}
 use mathlib.Core.Path.{_≡_}
@@ -16,7 +16,7 @@ use Rattle.index.specs.declared.Change.{Change}
 use Rattle.index.specs.Exposures.{OwnerCapacity, only, Call, adds, removes, contentOf}
 use Rattle.index.specs.Entries.{isOwned, entriesIn}
 use Rattle.index.specs.Answers.{changeGiven}
-use Rattle.index.specs.HistoryCorrect.{Holds, IsEmpty, Runs, Numbered}
+use Rattle.index.specs.HistoryCorrect.{EntriesMatch, IsEmpty, Runs, Numbered}
 
 abbrev pub ownerOf : Call → ℕ
 ownerOf (adds x) = x .owner
@@ -36,9 +36,9 @@ pub record Ran (h : List Call) (rs : List Change) (n : List ℤ) : Type 0 where
   pub numbered : Numbered h
   pub runs : Runs start h rs n
 
-abbrev pub Apart : Type 0
-Apart = (o : ℕ) (h g : List Call) (rs qs : List Change) (m n : List ℤ) → Ran h rs m → Ran g qs n → callsOf o h ≡ callsOf o g
+abbrev pub Noninterference : Type 0
+Noninterference = (o : ℕ) (h g : List Call) (rs qs : List Change) (m n : List ℤ) → Ran h rs m → Ran g qs n → callsOf o h ≡ callsOf o g
     → answersTo o h (map changeGiven rs) ≡ answersTo o g (map changeGiven qs)
 
 abbrev pub OwnEntries : Type 0
-OwnEntries = (o : ℕ) (h : List Call) (rs : List Change) (n : List ℤ) → Ran h rs n → Holds (contentOf OwnerCapacity (callsOf o h)) (only (isOwned o) (entriesIn n))
+OwnEntries = (o : ℕ) (h : List Call) (rs : List Change) (n : List ℤ) → Ran h rs n → EntriesMatch (contentOf OwnerCapacity (callsOf o h)) (only (isOwned o) (entriesIn n))

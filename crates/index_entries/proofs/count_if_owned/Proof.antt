@@ -1,13 +1,13 @@
--- `index_entries::counted` by its two cases. Assumes nothing.
+-- `index_entries::count_if_owned` by its two cases. Assumes nothing.
 use Prim.Native.Nat.{_+_}
 use mathlib.Core.Path.{sym, ap, _∙_}
 use mathlib.Core.Bool.{cond}
 use native.Mathlib.Omega.{arith}
-use Rattle.index_entries.proofs.counted.Statement.{statement}
-use Rattle.index_entries.proofs.counted.Tie as tie
+use Rattle.index_entries.proofs.count_if_owned.Statement.{statement}
+use Rattle.index_entries.proofs.count_if_owned.Tie as tie
 
-pub counted-spec : {M : Type 1} → statement M
-counted-spec =
+pub count-if-owned-spec : {M : Type 1} → statement M
+count-if-owned-spec =
     tie.close
     (tie.spec
     (λ c κs. tt)

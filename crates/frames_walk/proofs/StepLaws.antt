@@ -1,6 +1,5 @@
--- One entry more that was met: the numbers delivered are one more or as many, and so are the counts; and as many numbers are delivered, and tests made, as are
--- counted. By
--- recursion over those met before, disposition by disposition. Assumes nothing.
+-- Another step of a walk: it delivers one number or none, and adds one to one count or to none; and as many numbers are delivered, and tests made, as are
+-- counted. By recursion over the steps before, disposition by disposition. Assumes nothing.
 use Prim.Native.Nat.{ℕ, suc, _+_, _≤_}
 use mathlib.Core.Path.{_≡_, refl, sym, ap, _∙_}
 use mathlib.Core.Bool.{Bool, true, false, cond}
@@ -15,9 +14,9 @@ use Rattle.index.specs.declared.Entry.{Entry}
 use Rattle.index.specs.Exposures.{only}
 use Rattle.frames.specs.declared.Disposition.{Disposition}
 use Rattle.frames.specs.declared.Disposition.the-variants.{Skipped, Unchecked, Held, Discarded}
-use Rattle.frames.specs.Walk.{Met, met, isUnchecked, isHeld, isDiscarded, isDelivered, isTested, numberOf, deliveredBy, testsOf}
-use Rattle.frames_walk.specs.declared.Tests.{Tests}
-use Rattle.frames_walk.specs.Steps.{tests, noted, countsBy}
+use Rattle.frames.specs.Walk.{WalkStep, walkStep, isUnchecked, isHeld, isDiscarded, isDelivered, isTested, numberOf, deliveredBy, testsOf}
+use Rattle.frames_walk.specs.declared.DispositionCounts.{DispositionCounts}
+use Rattle.frames_walk.specs.Steps.{dispositionCounts, withDisposition, countsBy}
 
 -- ---- the counts
 
@@ -32,29 +31,29 @@ tally-last f (y ∷ xs) x = by-test (f y) (f x) (tally-last f xs x)
     by-test true false h = omega arith
     by-test false u h = h
 
-pub counts-more : (ms : List Met) (e : Entry) (f : Disposition) → countsBy (ms ++ met e f ∷ []) ≡ noted (countsBy ms) f
-counts-more ms e f = (λ i. tests (tally-last (λ m. isUnchecked (m .disposition)) ms (met e f) i) (tally-last (λ m. isHeld (m .disposition)) ms (met e f) i) (tally-last (λ m. isDiscarded (m .disposition)) ms (met e f) i))
+pub counts-more : (ms : List WalkStep) (e : Entry) (f : Disposition) → countsBy (ms ++ walkStep e f ∷ []) ≡ withDisposition (countsBy ms) f
+counts-more ms e f = (λ i. dispositionCounts (tally-last (λ m. isUnchecked (m .disposition)) ms (walkStep e f) i) (tally-last (λ m. isHeld (m .disposition)) ms (walkStep e f) i) (tally-last (λ m. isDiscarded (m .disposition)) ms (walkStep e f) i))
     ∙ by-disposition f
   where
-    by-disposition : (g : Disposition) → tests
+    by-disposition : (g : Disposition) → dispositionCounts
         (cond (isUnchecked g) (countsBy ms .unchecked + 1) (countsBy ms .unchecked))
         (cond (isHeld g) (countsBy ms .held + 1) (countsBy ms .held))
-        (cond (isDiscarded g) (countsBy ms .discarded + 1) (countsBy ms .discarded)) ≡ noted (countsBy ms) g
+        (cond (isDiscarded g) (countsBy ms .discarded + 1) (countsBy ms .discarded)) ≡ withDisposition (countsBy ms) g
     by-disposition Skipped = refl
     by-disposition Unchecked = refl
     by-disposition Held = refl
     by-disposition Discarded = refl
 
--- no more than one more
-pub noted-most : (t : Tests) (f : Disposition) → noted t f .unchecked + noted t f .held + noted t f .discarded ≤ t .unchecked + t .held + t .discarded + 1
-noted-most t Skipped = omega arith
-noted-most t Unchecked = omega arith
-noted-most t Held = omega arith
-noted-most t Discarded = omega arith
+-- a step adds at most one
+pub with-disposition-most : (t : DispositionCounts) (f : Disposition) → withDisposition t f .unchecked + withDisposition t f .held + withDisposition t f .discarded ≤ t .unchecked + t .held + t .discarded + 1
+with-disposition-most t Skipped = omega arith
+with-disposition-most t Unchecked = omega arith
+with-disposition-most t Held = omega arith
+with-disposition-most t Discarded = omega arith
 
--- ---- those of all that were met
+-- ---- those of all steps
 
-module _ (ms : List Met) where
+module _ (ms : List WalkStep) where
   abbrev u : ℕ
   u = countsBy ms .unchecked
 
@@ -64,8 +63,8 @@ module _ (ms : List Met) where
   abbrev x : ℕ
   x = countsBy ms .discarded
 
--- no more than were met
-pub few-counted : (ms : List Met) → u ms + h ms + x ms ≤ length ms
+-- no more than there are steps
+pub few-counted : (ms : List WalkStep) → u ms + h ms + x ms ≤ length ms
 unfolding tally
 few-counted [] = omega arith
 few-counted (m ∷ ms) = by-disposition (m .disposition) (few-counted ms)
@@ -77,7 +76,7 @@ few-counted (m ∷ ms) = by-disposition (m .disposition) (few-counted ms)
     by-disposition Held e = omega arith
     by-disposition Discarded e = omega arith
 
-pub tests-counted : (ms : List Met) → testsOf ms ≡ h ms + x ms
+pub tests-counted : (ms : List WalkStep) → testsOf ms ≡ h ms + x ms
 unfolding tally
 tests-counted [] = refl
 tests-counted (m ∷ ms) = by-disposition (m .disposition) (tests-counted ms)
@@ -94,7 +93,7 @@ tests-counted (m ∷ ms) = by-disposition (m .disposition) (tests-counted ms)
 abbrev own : Entry → Bool → List ℕ
 own e t = cond t (numberOf e ∷ []) []
 
-delivered-more : (ms : List Met) (e : Entry) (f : Disposition) → deliveredBy (ms ++ met e f ∷ []) ≡ deliveredBy ms ++ own e (isDelivered f)
+delivered-more : (ms : List WalkStep) (e : Entry) (f : Disposition) → deliveredBy (ms ++ walkStep e f ∷ []) ≡ deliveredBy ms ++ own e (isDelivered f)
 unfolding only
 delivered-more [] e f = split (isDelivered f) (λ t. rw t) (λ t. rw t)
 delivered-more (m ∷ ms) e f =
@@ -102,7 +101,7 @@ delivered-more (m ∷ ms) e f =
     (λ t. rw t (ap (λ ns. numberOf (m .entry) ∷ ns) (delivered-more ms e f)))
     (λ t. rw t (delivered-more ms e f))
 
-pub length-delivered : (ms : List Met) → length (deliveredBy ms) ≡ countsBy ms .unchecked + countsBy ms .held
+pub length-delivered : (ms : List WalkStep) → length (deliveredBy ms) ≡ countsBy ms .unchecked + countsBy ms .held
 unfolding only tally
 length-delivered [] = refl
 length-delivered (m ∷ ms) = by-disposition (m .disposition) (length-delivered ms)
@@ -116,11 +115,11 @@ length-delivered (m ∷ ms) = by-disposition (m .disposition) (length-delivered 
     by-disposition Discarded h = h
 
 -- a number stored behind those delivered, where the entry is delivered
-pub numbers-more : (ms : List Met) (e : Entry) (f : Disposition) (before : List ℕ) → cond (isDelivered f)
+pub numbers-more : (ms : List WalkStep) (e : Entry) (f : Disposition) (before : List ℕ) → cond (isDelivered f)
     (put (countsBy ms .unchecked + countsBy ms .held) (numberOf e ∷ []) (put 0 (deliveredBy ms) before)) (put 0 (deliveredBy ms) before)
-    ≡ put 0 (deliveredBy (ms ++ met e f ∷ [])) before
+    ≡ put 0 (deliveredBy (ms ++ walkStep e f ∷ [])) before
 numbers-more ms e f before =
-    let more : (t : Bool) → isDelivered f ≡ t → deliveredBy (ms ++ met e f ∷ []) ≡ deliveredBy ms ++ own e t =
+    let more : (t : Bool) → isDelivered f ≡ t → deliveredBy (ms ++ walkStep e f ∷ []) ≡ deliveredBy ms ++ own e t =
     λ t q. delivered-more ms e f ∙ ap (λ u. deliveredBy ms ++ own e u) q in
     split (isDelivered f)
     (λ t. rw t

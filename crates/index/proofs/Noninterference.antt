@@ -16,7 +16,7 @@ use Rattle.index.specs.declared.Change.{Change}
 use Rattle.index.specs.Exposures.{OwnerCapacity, isOwner, Exposure, Key, keyOf, hasOwner, hasKey, only, hasPlace, Call, adds, removes, without, giving, leaving, answered, contentFrom, contentOf, answersFrom}
 use Rattle.index.specs.Entries.{entryOf, isOwned, entriesIn}
 use Rattle.index.specs.HistoryCorrect.{Leaves}
-use Rattle.index.specs.Apart.{ownerOf, callsOf, answersTo, Ran, Apart, OwnEntries}
+use Rattle.index.specs.Noninterference.{ownerOf, callsOf, answersTo, Ran, Noninterference, OwnEntries}
 use Rattle.index.proofs.TallyLaws.{some-tally, only-tally}
 use Rattle.index.proofs.OrderLaws.{only-ascends}
 use Rattle.index.proofs.HistoryKept.{history-kept}
@@ -165,9 +165,9 @@ module _ (o : ℕ) where
 leaves : {h : List Call} {rs : List Change} {n : List ℤ} → Ran h rs n → Leaves h rs n
 leaves {h} {rs} {n} r = history-kept .kept (r .start) n h rs (r .empty) (r .numbered) (r .runs)
 
-pub owners-apart : Apart
+pub noninterference : Noninterference
 unfolding only
-owners-apart o h g rs qs m n r q e =
+noninterference o h g rs qs m n r q e =
     ap (answersTo o h) (leaves r .answers) ∙ answers-alone o h [] ∙ ap (answersFrom OwnerCapacity []) e ∙ sym (answers-alone o g []) ∙ ap (answersTo o g) (sym (leaves q .answers))
 
 pub own-entries : OwnEntries

@@ -1,4 +1,4 @@
--- `htm_abi::without_room` decodes the file, and answers its refusal or 10. Assumes nothing.
+-- `htm_abi::file_refusal_or_space` decodes the file, and answers its refusal or 10. Assumes nothing.
 use Prim.Native.Nat.{_^_}
 use mathlib.Core.Path.{sym, ap, subst, _∙_}
 use denote.Ref.{now}
@@ -6,8 +6,8 @@ use Rattle.algebra.proofs.Sizes.{Upto}
 use Rattle.algebra.proofs.Sized.{held}
 use Rattle.region.specs.Answers.{headerGiven}
 use Rattle.htm_abi.proofs.RefusalLaws.{own-or-space}
-use Rattle.htm_abi.proofs.without_room.Statement.{statement}
-use Rattle.htm_abi.proofs.without_room.Tie as tie
+use Rattle.htm_abi.proofs.file_refusal_or_space.Statement.{statement}
+use Rattle.htm_abi.proofs.file_refusal_or_space.Tie as tie
 
 -- Named anchors: the states that the proofs below read from, each named with a later state that leads back to it.
 abbrev start-before-decode : tie.After-decode → tie.Start
@@ -16,8 +16,8 @@ start-before-decode c = c .before .before .before
 abbrev start-before-said : tie.After-said → tie.Start
 start-before-said c = start-before-decode (c .before .before)
 
-pub without-room-spec : {M : Type 1} → statement M
-without-room-spec =
+pub file-refusal-or-space-spec : {M : Type 1} → statement M
+file-refusal-or-space-spec =
     tie.close
     (tie.spec
     (λ c κs. tt)
