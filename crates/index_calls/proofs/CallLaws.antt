@@ -23,7 +23,7 @@ use Rattle.index.specs.Exposures.{IndexCapacity, OwnerCapacity, Exposure, Key, 
 use Rattle.index.specs.Entries.{Width, IndexLength, numbers, entryAt, precedes, isOwned, isKeyed, countIn, entriesFrom, entriesIn, written, withEntries, inserted, withdrawn, hasRoom, inserting, withdrawing, Slot, nothing, slotAt}
 use Rattle.index.specs.Answers.{inList, beginning, adding, removing, beginAnswer, beginAfter, addAnswer, addAfter, removeAnswer, removeAfter, countAnswer, entryAnswer, changeGiven}
 use Rattle.index.proofs.WrittenLaws.{length-entries}
-use Rattle.algebra.proofs.Moves.{lowered}
+use Rattle.algebra.proofs.Moves.{shiftedDown}
 use Rattle.index_entries.specs.Steps.{leading, staying, raised}
 use Rattle.index_entries.proofs.EntryLaws.{entry-drop}
 use Rattle.index_entries.proofs.MovedLaws.{one-more, one-less}
@@ -137,7 +137,7 @@ module _ (l : List ℤ) (n : ℕ) (long : IndexLength ≤ length l) (is : n ≡ 
         let b : some (isKeyed k) (entriesIn l) ≡ false = sym (searched k i s) ∙ le-ltb i n h in
         record { answer = rw (a, b) refl; list = rw (a, b) refl }
 
-    pub is-removed : (u : List ℤ) → i < n → n ≤ IndexCapacity → u ≡ lowered Width (1 + Width * i) l (Width * (n - 1 - i)) → Done (inList l (withdrawing k (entriesIn l))) l (set u 0 (toZ w64 (n - 1))) Made
+    pub is-removed : (u : List ℤ) → i < n → n ≤ IndexCapacity → u ≡ shiftedDown Width (1 + Width * i) l (Width * (n - 1 - i)) → Done (inList l (withdrawing k (entriesIn l))) l (set u 0 (toZ w64 (n - 1))) Made
     unfolding withEntries
     is-removed u h f x =
         let a : leb IndexLength (length l) ≡ true = le-leb IndexLength (length l) long in

@@ -10,7 +10,7 @@ use lib.Seq.{take-add, drop-drop}
 use Rattle.answer.specs.Lent.{put}
 use Rattle.index.specs.declared.Entry.{Entry}
 use Rattle.index.specs.Entries.{Width, numbers, entryAt, entriesFrom, written}
-use Rattle.algebra.proofs.Moves.{lowered}
+use Rattle.algebra.proofs.Moves.{shiftedDown}
 use Rattle.index_entries.specs.Steps.{raised}
 use Rattle.index_entries.proofs.EntryLaws.{first}
 use Rattle.index_entries.proofs.ShiftLaws.{put-raised}
@@ -83,8 +83,8 @@ less′ (suc i) q (suc n) l s h =
     ∙ ap (λ x. f ++ x) (less′ i q n m (omega arith) (omega (arith, length-drop Width l)))
 
 pub one-less : (n i m : ℕ) (l : List ℤ) (v : ℤ) → i < n → m ≡ Width * (n - 1 - i) → 1 + Width * n ≤ length l
-    → set (lowered Width (1 + Width * i) l m) 0 v ≡ v ∷ written (take i (entriesFrom n (drop 1 l)) ++ drop (suc i) (entriesFrom n (drop 1 l))) (drop 1 l)
-unfolding lowered
+    → set (shiftedDown Width (1 + Width * i) l m) 0 v ≡ v ∷ written (take i (entriesFrom n (drop 1 l)) ++ drop (suc i) (entriesFrom n (drop 1 l))) (drop 1 l)
+unfolding shiftedDown
 one-less zero i m l v h s f = absurd (omega arith)
 one-less (suc n) i m [] v h s f = absurd (omega arith)
 one-less (suc n) i m (c ∷ l) v h s f =

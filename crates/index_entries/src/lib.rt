@@ -13,7 +13,7 @@ ghost use Rattle.index.specs.Exposures.{IndexCapacity, key};
 ghost use Rattle.index.specs.Entries.{Width, numbers, entryAt, countIn, entriesFrom, byNumber, isOwned, isKeyed};
 ghost use Rattle.index.specs.Entries as rule;
 ghost use Rattle.index_entries.specs.Steps.{leading, staying, raised};
-ghost use Rattle.algebra.proofs.Moves.{lowered};
+ghost use Rattle.algebra.proofs.Moves.{shiftedDown};
 
 // The result of a search for a key: the place of the first entry that has it; or how many entries there are, and then how many of them are the owner's.
 pub struct KeySearch {
@@ -174,7 +174,7 @@ pub fn make_gap(index: &mut [i64], n: usize, e: Entry) -> usize
 // Each of count elements, from element at on, becomes the one that stands further on by the width of an entry.
 pub fn shift_down(index: &mut [i64], at: usize, count: usize)
     requires { ⌜ at + count + Width ≤ length (now index) ⌝ }
-    ensures { λ _. ⌜ now (index .exit) ≡ lowered Width at (now (index .entry)) count ⌝ }
+    ensures { λ _. ⌜ now (index .exit) ≡ shiftedDown Width at (now (index .entry)) count ⌝ }
 {
     let mut k: usize = 0;
     while k < count {

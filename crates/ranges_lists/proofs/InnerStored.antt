@@ -12,12 +12,12 @@ use Rattle.ranges_stored.specs.declared.Pending.{Pending}
 use Rattle.ranges.specs.Ranges.{Range, pairs, range, rangesIn}
 use Rattle.ranges.specs.Lists.{touch, without}
 use Rattle.ranges.proofs.Pushing.{empty, growing, innerFull, innerClose, innerPush, innerEnd}
-use Rattle.algebra.proofs.Moves.{lowered}
+use Rattle.algebra.proofs.Moves.{shiftedDown}
 use Rattle.ranges_stored.specs.Stored.{differences, written, Writes, Hinted, PointsAt, stateOf, Stores}
 use Rattle.ranges.proofs.Loop.{length-snoc}
 use Rattle.ranges.proofs.InnerPass.{length-without, length-innerFull}
 use Rattle.ranges_stored.proofs.StoredLaws.{length-in, written-in, in-written, write-append}
-use Rattle.ranges_stored.proofs.ShiftLaws.{lowered-removes}
+use Rattle.ranges_stored.proofs.ShiftLaws.{shifted-down-removes}
 use Rattle.ranges_stored.proofs.HintLaws.{inner-below, inner-points, hinted-drop, points-inside}
 use Rattle.ranges_lists.proofs.OuterStored.{writes}
 
@@ -40,13 +40,13 @@ module _ (n : ℕ) (l : List ℕ) (low high s : ℕ) (fits : 2 * n ≤ length l)
       (sym (ap (λ ys. written ys l) e ∙ written-in n l fits), subst (λ ys. Hinted h (differences 0 ys)) (sym e) (p .hinted))
 
   -- another one is the shortest
-  pub full-shifts : PointsAt h (differences 0 xs) → h .floor ≤ s → (m : List ℕ) (k : ℕ) → k + 2 ≡ 2 * n → m ≡ lowered 2 (2 * h .from) l (k - 2 * h .from) → Full (set (set m k low) (k + 1) high)
+  pub full-shifts : PointsAt h (differences 0 xs) → h .floor ≤ s → (m : List ℕ) (k : ℕ) → k + 2 ≡ 2 * n → m ≡ shiftedDown 2 (2 * h .from) l (k - 2 * h .from) → Full (set (set m k low) (k + 1) high)
   full-shifts p d m k last e =
       let i = h .from in
       let c : i < n = points-inside 0 0 n l p in
       let j : suc (length (without i xs)) ≡ length xs = length-without i xs (omega (arith, many)) in
       let f : innerFull xs (range low high) ≡ without i xs ++ range low high ∷ [] = inner-points h xs (range low high) p (omega (arith, long)) in (
-        ap (λ x. set (set x k low) (k + 1) high) (e ∙ lowered-removes n i (k - 2 * i) l c fits (omega arith))
+        ap (λ x. set (set x k low) (k + 1) high) (e ∙ shifted-down-removes n i (k - 2 * i) l c fits (omega arith))
             ∙ write-append (without i xs) l low high k (k + 1) (omega (arith, many)) (omega (arith, many)) (omega (arith, many))
             ∙ ap (λ ys. written ys l) (sym f),
         subst (λ ys. Hinted h (differences 0 ys)) (sym f) (hinted-drop h xs (range low high) p (omega (arith, long))),

@@ -11,12 +11,12 @@ use Rattle.ranges_stored.specs.declared.MinHint.{MinHint}
 use Rattle.ranges.specs.Ranges.{Range, pairs, range, rangesIn}
 use Rattle.ranges.specs.Lists.{gaps, joinAt}
 use Rattle.ranges.proofs.Pushing.{lastHigh, extend, newGap, outerFull, outerNew, outerPush}
-use Rattle.algebra.proofs.Moves.{lowered}
+use Rattle.algebra.proofs.Moves.{shiftedDown}
 use Rattle.ranges_stored.specs.Stored.{written, Writes, Hinted, PointsAt}
 use Rattle.ranges.proofs.Loop.{length-snoc}
 use Rattle.ranges.proofs.OuterPass.{length-extend, length-joinAt, length-full, push-some}
 use Rattle.ranges_stored.proofs.StoredLaws.{length-in, last-in, written-in, write-append, write-extend}
-use Rattle.ranges_stored.proofs.ShiftLaws.{lowered-joins}
+use Rattle.ranges_stored.proofs.ShiftLaws.{shifted-down-joins}
 use Rattle.ranges_stored.proofs.HintLaws.{outer-below, outer-points, hinted-extend, hinted-join}
 
 -- the ranges xs are ys, and those are written
@@ -26,11 +26,11 @@ writes {l = l} e c w = record { count = c ∙ ap length (sym e); list = w ∙ ap
 -- ---- the list is full
 
 -- range number i and the next join, and a new one stands behind the last
-pub joins : (n i end : ℕ) (l : List ℕ) (low high : ℕ) → i + 1 < n → 2 * n ≤ length l → end + 1 ≡ 2 * n → (m : List ℕ) → m ≡ lowered 2 (2 * i + 1) l (end - 1 - (2 * i + 1))
+pub joins : (n i end : ℕ) (l : List ℕ) (low high : ℕ) → i + 1 < n → 2 * n ≤ length l → end + 1 ≡ 2 * n → (m : List ℕ) → m ≡ shiftedDown 2 (2 * i + 1) l (end - 1 - (2 * i + 1))
     → set (set m (end - 1) low) end high ≡ written (joinAt i (rangesIn n l) ++ range low high ∷ []) l
 joins n i end l low high h fits last m e =
     let j : length (joinAt i (rangesIn n l)) + 1 ≡ n = fewer (rangesIn n l) (length-in n l) in
-    ap (λ x. set (set x (end - 1) low) end high) (e ∙ lowered-joins n i (2 * i + 1) (end - 1 - (2 * i + 1)) l h fits refl (omega arith))
+    ap (λ x. set (set x (end - 1) low) end high) (e ∙ shifted-down-joins n i (2 * i + 1) (end - 1 - (2 * i + 1)) l h fits refl (omega arith))
     ∙ write-append (joinAt i (rangesIn n l)) l low high (end - 1) end (omega arith) (omega arith) (omega arith)
   where
     fewer : (xs : List Range) → length xs ≡ n → length (joinAt i xs) + 1 ≡ n

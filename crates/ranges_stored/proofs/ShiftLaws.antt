@@ -1,10 +1,10 @@
--- Elements that are `lowered` by two places: from a high on, they join two ranges into one, and from a low on, they take a range away. By recursion over the ranges before that place. Assumes nothing.
+-- Elements that are `shiftedDown` by two places: from a high on, they join two ranges into one, and from a low on, they take a range away. By recursion over the ranges before that place. Assumes nothing.
 use Prim.Native.Nat.{ℕ, zero, suc, _+_, _*_, _-_, _≤_, _<_}
 use mathlib.Core.Path.{_≡_, ap, _∙_, refl}
 use mathlib.Core.List.{List, [], _∷_, _++_}
 use native.Mathlib.Omega.{arith}
 use lib.ListN.{length, take, drop}
-use Rattle.algebra.proofs.Moves.{lowered}
+use Rattle.algebra.proofs.Moves.{shiftedDown}
 use Rattle.ranges.specs.Lists.{joinAt, without}
 use Rattle.ranges.specs.Ranges.{rangesIn}
 use Rattle.ranges_stored.specs.Stored.{written}
@@ -31,11 +31,11 @@ join′ zero q p (x ∷ y ∷ z ∷ w ∷ l) e h =
 join′ (suc i) q zero (x ∷ y ∷ z ∷ w ∷ l) e h = absurd (omega arith)
 join′ (suc i) q (suc p) (x ∷ y ∷ z ∷ w ∷ l) e h = ap (λ k. x ∷ y ∷ k) (join′ i q p (z ∷ w ∷ l) (omega arith) (omega arith))
 
-pub lowered-joins : (n i at m : ℕ) (l : List ℕ) → i + 1 < n → 2 * n ≤ length l → at ≡ 2 * i + 1 → m + at + 2 ≡ 2 * n → lowered 2 at l m ≡ written (joinAt i (rangesIn n l)) l
-unfolding lowered
-lowered-joins zero i at m l h k e f = absurd (omega arith)
-lowered-joins (suc zero) i at m l h k e f = absurd (omega arith)
-lowered-joins (suc (suc p)) i at m l h k e f =
+pub shifted-down-joins : (n i at m : ℕ) (l : List ℕ) → i + 1 < n → 2 * n ≤ length l → at ≡ 2 * i + 1 → m + at + 2 ≡ 2 * n → shiftedDown 2 at l m ≡ written (joinAt i (rangesIn n l)) l
+unfolding shiftedDown
+shifted-down-joins zero i at m l h k e f = absurd (omega arith)
+shifted-down-joins (suc zero) i at m l h k e f = absurd (omega arith)
+shifted-down-joins (suc (suc p)) i at m l h k e f =
     let a : at ≡ suc (double i) = omega (arith, double-is i) in
     let b : m ≡ suc (double (p - i)) = omega (arith, double-is (p - i)) in
     let c : at + 2 ≡ suc (suc (suc (double i))) = omega arith in
@@ -54,10 +54,10 @@ remove′ zero q p (x ∷ y ∷ l) e h =
 remove′ (suc i) q zero (x ∷ y ∷ l) e h = absurd (omega arith)
 remove′ (suc i) q (suc p) (x ∷ y ∷ l) e h = ap (λ k. x ∷ y ∷ k) (remove′ i q p l (omega arith) (omega arith))
 
-pub lowered-removes : (n i m : ℕ) (l : List ℕ) → i < n → 2 * n ≤ length l → m + 2 * i + 2 ≡ 2 * n → lowered 2 (2 * i) l m ≡ written (without i (rangesIn n l)) l
-unfolding lowered
-lowered-removes zero i m l h k f = absurd (omega arith)
-lowered-removes (suc p) i m l h k f =
+pub shifted-down-removes : (n i m : ℕ) (l : List ℕ) → i < n → 2 * n ≤ length l → m + 2 * i + 2 ≡ 2 * n → shiftedDown 2 (2 * i) l m ≡ written (without i (rangesIn n l)) l
+unfolding shiftedDown
+shifted-down-removes zero i m l h k f = absurd (omega arith)
+shifted-down-removes (suc p) i m l h k f =
     let a : 2 * i ≡ double i = omega (arith, double-is i) in
     let b : m ≡ double (p - i) = omega (arith, double-is (p - i)) in
     let c : 2 * i + 2 ≡ suc (suc (double i)) = omega arith in

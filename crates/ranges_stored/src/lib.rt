@@ -7,7 +7,7 @@ ghost use lib.Dec.{eqb};
 ghost use lib.ListN.{length, getD};
 ghost use Rattle.ranges.specs.Lists.{earliest};
 ghost use Rattle.ranges_stored.specs.Stored.{differencesIn, hintOf, noHint, Hinted, FirstAt, PointsAt};
-ghost use Rattle.algebra.proofs.Moves.{lowered};
+ghost use Rattle.algebra.proofs.Moves.{shiftedDown};
 
 // What is known of some numbers, the gaps between ranges or their sizes less one: every one is at least floor, and those before number `from`
 // are above it.
@@ -79,7 +79,7 @@ fn smallest(list: &[u64], start: usize, less: u64, count: usize, last: u64) -> u
 // Of count elements, from element at on, each becomes the one two places further on.
 pub fn shift_down(list: &mut [u64], at: usize, count: usize)
     requires { ⌜ at + count + 2 ≤ length (now list) ⌝ }
-    ensures { λ _. ⌜ now (list .exit) ≡ lowered 2 at (now (list .entry)) count ⌝ }
+    ensures { λ _. ⌜ now (list .exit) ≡ shiftedDown 2 at (now (list .entry)) count ⌝ }
 {
     let mut k: usize = 0;
     while k < count {
