@@ -1,4 +1,4 @@
-/* Degrees to pointings, cones and polygons, and covers to pieces. README.md beside this file has the argument for each margin, and figures. */
+/* Degrees to pointings, cones and polygons, and covers to pieces. hosts/sky/README.md has the argument for each margin, and figures. */
 #include "htm_sky.h"
 
 #include <math.h>
