@@ -71,7 +71,7 @@ enum htm_refusal {
     HTM_SPACE = 10,  /* a list is too short */
     HTM_NAME = 11,   /* no name or no identifier; for htm_corners, also one too deep */
     HTM_FLOAT = 12,  /* a float is a NaN, an infinity, or beyond 1 in size */
-    HTM_LINE = 13,   /* a catalogue line has another shape */
+    HTM_LINE = 13,   /* a catalogue line is malformed */
     HTM_MIXED = 14,  /* a record is of the other style than the file's first convex */
     HTM_TWICE = 15,  /* the number is already one of the owner's */
     HTM_FULL = 16,   /* the owner has 1024 exposures */
@@ -166,7 +166,7 @@ int64_t htm_corners(uint64_t id, int32_t *corners, size_t corners_length);
 int64_t htm_read(const uint8_t *file, size_t file_bytes, int32_t *rows, size_t rows_length,
                  uint64_t *header, size_t header_length);
 
-/* Tells what a region file says without its rows.
+/* Says what a region file has, without its rows.
  * Arguments: the file.
  * Writes: contents[0], the count of halfspaces; contents[1], the depth; contents[2], the budget as
  * written; contents[3], the count of convexes. The first three are those of htm_read's header.
@@ -201,7 +201,7 @@ int64_t htm_write_grouped(uint32_t depth, uint32_t budget, const int32_t *rows, 
 int64_t htm_to_grouped(const uint8_t *file, size_t file_bytes, uint8_t *out, size_t out_bytes);
 int64_t htm_to_plain(const uint8_t *file, size_t file_bytes, uint8_t *out, size_t out_bytes);
 
-/* Tells whether the region of a region file holds a pointing.
+/* Says whether the region of a region file holds a pointing.
  * Arguments: the file; the pointing (x, y, z).
  * Returns: 1 where it is held, 0 where it is not; or minus the first of: the refusal of the file;
  * HTM_VECTOR where (x, y, z) is no pointing. */
@@ -310,7 +310,7 @@ int64_t htm_trial(const int64_t *index, size_t index_length, uint32_t owner, con
                   uint32_t budget_2, uint64_t *first, size_t first_length, uint64_t *second,
                   size_t second_length, uint64_t *counts, size_t counts_length);
 
-/* Tells where the outer list of the chosen setting is. It is a part of first or of second, itself
+/* Says where the outer list of the chosen setting is. It is a part of first or of second, itself
  * and not a copy, and is there for as long as that list keeps these elements.
  * Arguments: what htm_trial returned, as status; counts, first and second as htm_trial left them.
  * Writes: part[0], which list it is: 1 for first, 2 for second; part[1], how many elements of that

@@ -259,7 +259,7 @@ def damaged(sky):
 
 
 def shapes(sky):
-    """Lines of another shape, and digits of either case."""
+    """Malformed lines, and digits of either case."""
     good = b''.join([regions.header(2, 5), *GOOD[1:]]).hex().encode()
     yield from (b'cover', b'cover ', b'cover  ' + good, b' cover ' + good, b'Cover ' + good, b'covers ' + good, b'cover ' + good.upper(), b'cover\t' + good)
     yield from (b'cover ' + w for w in (b'-', b'--', b'- -', b'-0', b'0', b'00', b'0g', b'zz', b'0x00', b'00 00', good + b'0', good + b' ', good + b' ' + good))

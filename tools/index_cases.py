@@ -117,7 +117,7 @@ def equal_identifiers():
 
 
 def shapes():
-    """Lines of another shape, which change nothing, and numbers in an unusual dress."""
+    """Malformed lines, which change nothing, and numbers in an unusual dress."""
     yield add(0, 40, POLES[0])
     good = add(1, 41, POLES[0]), remove(0, 40), b'list', b'list 0'
     yield from (b'', b' ', b'add', b'remove', b'lists', b'List', b'LIST', b'list list', b'list 0 1', b'list 0 40', b'list -0', b'list -1', b'list 4294967296', b'list x',
@@ -370,7 +370,7 @@ def refused_frames(sky):
 
 
 def frames_shapes():
-    """Lines of another shape, and digits and numbers in an unusual dress."""
+    """Malformed lines, and digits and numbers in an unusual dress."""
     good = file_of(cap(NORTH, 0), 2, 5).hex().encode()
     shapes = [b'frames', b'frames ', b'frames 0', b'frames 0 ', b'frames ' + good, b'frames 0 0', b'frames 0 0g', b'frames 0 --', b'frames 0 -0', b'frames 0 0x00', b'frames 0 - -',
               b'frames  0 ' + good, b'frames 0  ' + good, b' frames 0 ' + good, b'frames 0 ' + good + b' ', b'frames 0 ' + good + b'0', b'frames 0 ' + good + b' 0',
@@ -544,7 +544,7 @@ def refused_trials(sky):
 
 
 def trial_shapes():
-    """Lines of another shape, and digits and numbers in an unusual dress."""
+    """Malformed lines, and digits and numbers in an unusual dress."""
     good = digits(file_of(cap(NORTH, 0), 2, 5))
     start, end = b'trial 0 ' + good, b' 2 5 3 1'
     shapes = [b'trial', b'trial ', b'trial 0', b'trial ' + good, start, start + b' ', start + b' 2', start + b' 2 5', start + b' 2 5 3', start + b' 2 5 3 ']

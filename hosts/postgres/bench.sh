@@ -2,7 +2,7 @@
 # Times of searches by the extension, beside q3c where it is installed (Debian: postgresql-15-q3c), and beside a test of every row.
 # In a private server: 300,000 frames, evenly over the whole sky (sparse), and as many within 20 degrees of one direction (dense), each in no
 # order, all of it in memory. A time is that of a search from its text to its count: parsing, planning, executing; a prepared statement is
-# only executed. It is time on the processor where the system tells (/proc/self/schedstat), so that other work on the machine counts little,
+# only executed. It is time on the processor where the system has it (/proc/self/schedstat), so that other work on the machine counts little,
 # else that of the clock. Milliseconds, the median over five centres and several runs; a run repeats its search for 50 ms.
 # server.sh says what it needs. RUNS=N makes N runs for each centre, 3 by default.
 set -euo pipefail

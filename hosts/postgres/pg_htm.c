@@ -211,7 +211,7 @@ Datum pg_htm_within_degrees(PG_FUNCTION_ARGS)
     PG_RETURN_BOOL(answer);
 }
 
-/* Whether one of the ranges holds the identifier. They are pairs low, high and ascend; of an array of another shape the answer means nothing. */
+/* Whether one of the ranges holds the identifier. They are pairs low, high and ascend; of any other array the answer means nothing. */
 static bool in_ranges(ArrayType *ranges, int64 id)
 {
     const int64 *pairs = (const int64 *)ARR_DATA_PTR(ranges);

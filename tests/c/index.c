@@ -3,7 +3,7 @@
  * one that is shorter by one element and one that is exactly long enough. Then adds and removals on short lists, in the order of their checks, and the calls
  * on lists of noise, which no history leaves.
  * What htm_frames leaves in its range list is compared with htm_cover, and so is each buffer of htm_trial, with the setting in the file's
- * header; the part that htm_chosen tells is printed from the buffer itself, and is empty after a refusal, also in lists that are used again.
+ * header; the part that htm_chosen names is printed from the buffer itself, and is empty after a refusal, also in lists that are used again.
  *
  *   index STDIN STDOUT     exit status 1 on any difference */
 #include <inttypes.h>
@@ -342,7 +342,7 @@ static void trial_must_need(uint32_t owner, const struct region *r, const struct
     must(trial_is_left(owner, r, two, (struct room){0, 0, 0, 0}, refusal), "lists of no elements are not tried, and all stays");
 }
 
-/* What htm_chosen tells of a status, some numbers and buffers of so many elements: the buffer and the length, each other element of the list staying. */
+/* What htm_chosen says of a status, some numbers and buffers of so many elements: the buffer and the length, each other element of the list staying. */
 static bool is_part(int64_t status, const struct buffers *b, size_t n1, size_t n2, uint64_t which, uint64_t length)
 {
     uint64_t part[PART + BEHIND], wanted_part[PART + BEHIND];
