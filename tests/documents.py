@@ -145,8 +145,10 @@ def run(block, home):
     except subprocess.TimeoutExpired:
         wrong.append(f"{block}: takes over {SECONDS} s")
         return 0
-    good = 0
-    for (command, lines), part in zip(commands, re.findall(rf"(.*?)\n{MARK} (\d+)\n", out, re.S)):
+    good, parts = 0, re.findall(rf"(.*?)\n{MARK} (\d+)\n", out, re.S)
+    if len(parts) < len(commands):
+        wrong.append(f"{block}: $ {commands[len(parts)][0]}\n  ends the shell")
+    for (command, lines), part in zip(commands, parts):
         printed = "".join(line.rstrip() + "\n" for line in part[0].split("\n"))
         printed = printed[:-1] if printed.endswith("\n\n") or printed == "\n" else printed
         if part[1] != "0":
@@ -155,8 +157,6 @@ def run(block, home):
             wrong.append(f"{block}: $ {command}\n  shall print\n" + "".join(f"{line}\n" for line in lines) + "  and prints\n" + printed)
         else:
             good += 1
-    if good < len(commands) and not wrong:
-        wrong.append(f"{block}: the shell ended early:\n{out}")
     return good
 
 
@@ -200,5 +200,5 @@ def main(documents):
 
 
 if __name__ == "__main__":
-    given = sys.argv[1:] or sorted(str(p) for p in [*pathlib.Path(".").glob("*.md"), *pathlib.Path("docs").glob("*.md"), *pathlib.Path("hosts").glob("*/README.md")])
-    sys.exit(main(given))
+    found = (p for pattern in ("*.md", "docs/*.md", "hosts/*/README.md") for p in sorted(pathlib.Path(".").glob(pattern)))
+    sys.exit(main(sys.argv[1:] or [str(p) for p in found]))
