@@ -97,7 +97,7 @@ def tight(c):
 
 
 def extremes():
-    """Seven digits at their ends, and values next to a whole number of K: the length rule tells them apart."""
+    """Seven digits at their ends, and values next to a whole number of K: the length rule sets them apart."""
     for w in (b'0.9999999', b'1.0000000', b'1.0000001', b'1.9999999', b'1.0', b'1.00', b'0.0000000', b'0.9999980', b'0.9999981', b'0.9999979', b'0.999998', b'0.999999',
               b'0.99999', b'0.9999', b'1.0000009', b'1.0000010', b'1.000001', b'1.00001', b'0.9', b'1.9', b'0.1234567', b'0.5', b'0.4999999', b'0.5000001'):
         for s in (b'', b'-'):
