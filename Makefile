@@ -44,10 +44,10 @@ sky: target/c/sky
 sky-measure: target/c/sky-measure
 	target/c/sky-measure
 
-# The extension in SQLite's library, then what the README shows in SQLite's shell.
+# The extension in SQLite's library, then what the documents show in SQLite's shell.
 sqlite: sqlite-header target/hosts/htm_sqlite.so target/c/sqlite
 	target/c/sqlite target/hosts/htm_sqlite
-	hosts/sqlite/session hosts/sqlite/README.md
+	hosts/sqlite/session README.md docs/DATABASES.md
 
 postgres: $(LIB)
 	HTM_LIB=$(LIB) hosts/postgres/test.sh

@@ -1,5 +1,5 @@
 /* A host in C: looks up pointings, writes a region file, covers it, tests points, keeps an index of two owners, searches it, and tries two settings.
- * It is C99 and C++11. README.md, 'The calls from C', says how it is built. */
+ * It is C99 and C++11. docs/C.md says how it is built. */
 #include <inttypes.h>
 #include <stdio.h>
 #include <stdlib.h>

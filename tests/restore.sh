@@ -1,15 +1,15 @@
 #!/usr/bin/env bash
-# An index of `archive` saved and restored: what `list` prints becomes lines `add`, as README says, and an empty archive that is given these lists the same
-# bytes; for both owners together and for each. `rt check archive` builds the program.
+# An index of `archive` saved and restored: what `list` prints becomes lines `add`, as docs/PROGRAMS.md says, and an empty archive that is given these
+# lists the same bytes; for both owners together and for each. `rt check archive` builds the program.
 set -u
 cd "$(dirname "$0")/.."
 work=$(mktemp -d)
 trap 'rm -rf "$work"' EXIT
 failed=0
 
-# The line of README.
+# The line of docs/PROGRAMS.md.
 adds() { awk -v RS='|' 'NF == 6 { print "add", $3, $2, $4, $5, $6 }' "$1"; }
-grep -qF "awk -v RS='|' 'NF == 6 { print \"add\", \$3, \$2, \$4, \$5, \$6 }'" README.md || { echo 'README has another line'; failed=1; }
+grep -qF "awk -v RS='|' 'NF == 6 { print \"add\", \$3, \$2, \$4, \$5, \$6 }'" docs/PROGRAMS.md || { echo 'docs/PROGRAMS.md has another line'; failed=1; }
 
 # restored LABEL LISTED SAVED ..: an archive that is given what the files SAVED have lists what LISTED has.
 restored() {

@@ -1,5 +1,5 @@
 #!/usr/bin/env python3
-"""The trials of README, 'Choosing depth and budget': 1024 frames of owner 0, drawn evenly from the sky within 30 degrees of a field's middle, and three regions
+"""The trials of docs/PROGRAMS.md: 1024 frames of owner 0, drawn evenly from the sky within 30 degrees of a field's middle, and three regions
 around that middle, each under pairs of settings.
 
 python3 tools/trials.py             the command lines for program archive

@@ -1,4 +1,4 @@
--- The extension htm. Directions: ra and dec in degrees, or x, y, z, whole numbers, 1048576 times the unit vector. README.md has examples.
+-- The extension htm. Directions: ra and dec in degrees, or x, y, z, whole numbers, 1048576 times the unit vector. docs/DATABASES.md has examples.
 \echo Use "CREATE EXTENSION htm" to load this file. \quit
 
 -- Identifiers and names

@@ -1,5 +1,5 @@
 /* The extension htm of PostgreSQL: the calls of htm.h and htm_sky.h as functions of SQL, and htm_within, which a plan turns into ranges of
- * identifiers. Tested, not proved. htm--1.0.sql declares the functions, README.md describes them. */
+ * identifiers. Tested, not proved. htm--1.0.sql declares the functions, docs/DATABASES.md describes them. */
 #include "postgres.h"
 
 #include "access/htup_details.h"

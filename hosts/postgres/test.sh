@@ -29,16 +29,16 @@ if ! make -s -C "$top/target/postgres" -f "$top/hosts/postgres/Makefile" HTM_LIB
 fi
 echo "sql/htm.sql: as expected/htm.out"
 
-# What README.md shows in psql. Plans are written differently by other versions.
+# What docs/DATABASES.md shows in psql, in its blocks that begin with ```psql. Plans are written differently by other versions.
 if [ "$(ask 'SHOW server_version_num' | cut -c 1-2)" = 15 ]; then
-    sql $one -c 'CREATE DATABASE readme'
+    sql $one -c 'CREATE DATABASE session'
     awk -v typed="$room/typed" -v shown="$room/shown" '
-        !/^    / { session = 0; next }
-        /^    archive[=-]# / { session = 1; print substr($0, 15) > typed; next }
-        session { print substr($0, 5) > shown }' "$top/hosts/postgres/README.md"
-    psql -X -d readme < "$room/typed" 2>&1 | sed -e 's/ *$//' -e '/^$/d' > "$room/printed"
-    diff "$room/shown" "$room/printed" || fail "psql prints something else than README.md shows"
-    echo "README.md: psql prints what it shows, $(grep -c ';$' "$room/typed") statements"
+        /^```/ { session = $0 == "```psql"; next }
+        session && /^archive[=-]# / { print substr($0, 11) > typed; next }
+        session { print > shown }' "$top/docs/DATABASES.md"
+    psql -X -d session < "$room/typed" 2>&1 | sed -e 's/ *$//' -e '/^$/d' > "$room/printed"
+    diff "$room/shown" "$room/printed" || fail "psql prints something else than docs/DATABASES.md shows"
+    echo "docs/DATABASES.md: psql prints what it shows, $(grep -c ';$' "$room/typed") statements"
 fi
 
 sql $one -f "$here/frames.sql"

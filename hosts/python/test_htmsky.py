@@ -33,14 +33,12 @@ ARCSEC = 1 / 3600
 
 
 def load_tests(loader, tests, pattern):
-    """The examples of the docstrings and of README.md are tests too; those with numpy stand in a part of their own."""
+    """The examples of the docstrings, and those of docs/DATABASES.md in its blocks that begin with ```pycon, are tests too; of the latter one has numpy."""
     tests.addTests(doctest.DocTestSuite(htmsky))
-    text = (HERE / "README.md").read_text(encoding="utf-8")
-    if not np:
-        text = re.sub(r"## With numpy\n.*?(?=\n## )", "", text, flags=re.S)
-    text = re.sub(r"^    \$ .*\n(    [^$>].*\n)*", "", text, flags=re.M)
-    text = text.replace('open("orion.region", "wb")', "open(os.devnull, 'wb')")
-    tests.addTest(doctest.DocTestCase(doctest.DocTestParser().get_doctest(text, {"os": os}, "README.md", "README.md", 0)))
+    text = (HERE.parent.parent / "docs" / "DATABASES.md").read_text(encoding="utf-8")
+    blocks = [block for block in re.findall(r"^```pycon\n(.*?)^```$", text, flags=re.M | re.S) if np or "import numpy" not in block]
+    assert len(blocks) > 5, "docs/DATABASES.md has no examples"
+    tests.addTest(doctest.DocTestCase(doctest.DocTestParser().get_doctest("\n".join(blocks), {}, "DATABASES.md", "DATABASES.md", 0)))
     return tests
 
 
@@ -735,14 +733,6 @@ class Loading(unittest.TestCase):
             self.assertEqual(self.run_in(top / "alone", LD_LIBRARY_PATH=str(top / "elsewhere")), "63963136\n")
             self.assertEqual(self.run_in(top / "beside", HTM_LIBRARY_PATH=""), "63963136\n")
             self.assertIn("ImportError: libhtm.so.1 is not found", self.run_in(top / "beside", HTM_LIBRARY_PATH=str(top / "none")))
-
-    def test_shown_cover(self):
-        """README.md shows what program cover prints of its cone."""
-        file = htmsky.cone(83.82, -5.39, 1.5)
-        outer, _, counts = htmsky.cover(file)
-        lines = [f"depth {htmsky.read(file).depth} " + " ".join(f"{what} {n}" for what, n in counts._asdict().items())]
-        lines += [f"o {htmsky.name(low)} {htmsky.name(high)}" for low, high in outer[:2]]
-        self.assertIn("".join(f"    {line}\n" for line in lines), (HERE / "README.md").read_text(encoding="utf-8"))
 
     def test_example(self):
         done = subprocess.run([sys.executable, "-B", str(HERE / "example.py")], stdout=subprocess.PIPE, universal_newlines=True, check=True)

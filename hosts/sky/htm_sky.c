@@ -1,4 +1,4 @@
-/* Degrees to pointings, cones and polygons, and covers to pieces. README.md beside this file has the argument for each margin, and figures. */
+/* Degrees to pointings, cones and polygons, and covers to pieces. hosts/sky/README.md has the argument for each margin, and figures. */
 #include "htm_sky.h"
 
 #include <math.h>
@@ -347,7 +347,7 @@ static const char *const refusals[] = {
     [HTM_SPACE] = "refused 10 (space): a list is too short",
     [HTM_NAME] = "refused 11 (name): no name or identifier",
     [HTM_FLOAT] = "refused 12 (float): a number that is not finite, or beyond 1 in size",
-    [HTM_LINE] = "refused 13 (line): a catalogue line of another shape",
+    [HTM_LINE] = "refused 13 (line): a catalogue line is malformed",
     [HTM_MIXED] = "refused 14 (mixed): a record of the other style",
     [HTM_TWICE] = "refused 15 (twice): the number is its owner's",
     [HTM_FULL] = "refused 16 (full): 1024 exposures are the owner's",

@@ -41,8 +41,8 @@ int64_t sky_pointing(double ra, double dec, int32_t p[3]);
 int64_t sky_lookup(double ra, double dec, uint32_t depth);
 
 /* A region file of all directions within radius degrees of (ra, dec), from file[0] on: its length. It is one halfspace from 2 degrees on, and
- * below a halfspace and 32 circles. It is padded by just enough that rounding loses no direction within the radius: README.md has the
- * figures of what it holds beyond. SKY_RA, SKY_DEC, SKY_RADIUS, then a refusal of htm_write. */
+ * below a halfspace and 32 circles. It is padded by just enough that rounding loses no direction within the radius: hosts/sky/README.md
+ * has the figures of what it holds beyond. SKY_RA, SKY_DEC, SKY_RADIUS, then a refusal of htm_write. */
 int64_t sky_cone(double ra, double dec, double radius, uint32_t depth, uint32_t budget, uint8_t *file, size_t bytes);
 
 /* A region file of a convex polygon with great circles as sides, padded alike; degrees has ra and dec of each corner, in either sense, the

@@ -1,5 +1,5 @@
-/* The library as a loadable SQLite extension: trixels, regions from degrees or from rows, and the ranges of a region as a table. README.md
- * beside this file has the functions and a first search. NULL for any argument gives NULL, and no rows of htm_ranges. */
+/* The library as a loadable SQLite extension: trixels, regions from degrees or from rows, and the ranges of a region as a table.
+ * docs/DATABASES.md has the functions and a first search. NULL for any argument gives NULL, and no rows of htm_ranges. */
 #include <stdint.h>
 #include <string.h>
 

@@ -658,7 +658,7 @@ static long report(long skipped)
     for (size_t i = 0; i < COMMANDS; i++)
         differ += report_call(commands[i].call, &commands[i].tally);
     differ += report_call("htm_header", &headers);
-    printf("%ld lines of another shape skipped, since query answers them with usage\n", skipped);
+    printf("%ld malformed lines skipped, since query answers them with usage\n", skipped);
     return differ;
 }
 

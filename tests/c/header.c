@@ -145,7 +145,7 @@ static void lengths(void)
 
 static void null_trixels(void)
 {
-    must_be(htm_lookup_line(NULL, 0, 1), -HTM_LINE, "no line has another shape");
+    must_be(htm_lookup_line(NULL, 0, 1), -HTM_LINE, "a line of no bytes is malformed");
     must_be(htm_name(8, NULL, 0), -HTM_SPACE, "no room for a name");
     must_be(htm_name(0, NULL, 0), -HTM_NAME, "no room for no name");
     must(htm_identifier(NULL, 0) == 0, "no bytes are no name");

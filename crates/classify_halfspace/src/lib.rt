@@ -1,4 +1,4 @@
-// The class of a trixel for one halfspace: by the bounding cap, by the rays where that does not tell, and by the edges where these do not tell. The rule
+// The class of a trixel for one halfspace: by the bounding cap, by the rays when that is inconclusive, and by the edges when the rays are. The rule
 // is `halfspaceClass` of classify/specs/Classes, the tests on the way stand in specs/Halfspaces.
 use classify::Class;
 use classify_cap::BoundingCap;

@@ -1,4 +1,4 @@
-// A halfspace against the rays of a trixel: squares compared by their upper bits in one word, and exactly in two words where these do not tell. The rule
+// A halfspace against the rays of a trixel: squares compared by their upper bits in one word, and exactly in two words when that is inconclusive. The rule
 // is `passes` of classify/proofs/RaysFirst; what the filter decides stands in specs/Rays.
 use classify_prepared::Ray;
 use classify_prepared::TrixelRays;
