@@ -1,6 +1,7 @@
 pub mod Jump
 pub mod JumpChild
 pub mod JumpConstants
+pub mod JumpInvariant
 pub mod JumpLevel
 pub mod JumpShape
 pub mod JumpSide
