@@ -8,11 +8,17 @@
 --              components of the child's edges
 --   Follows    the invariant
 --   Made       n w = K m − rest in each component
+--   Quotients  the same in the true components, the rest at most n in size; rests has them as a vector
+--   Bend       2 K − n of a new corner, from −2 to A − 2
 --   Apart      two corners whose difference is at most L in each component
 --   pushed     p moved outward, by δ in each component
-use mathlib.Core.Path.{_≡_}
+use mathlib.Core.Path.{_≡_, refl}
+use mathlib.Core.List.{[], _∷_}
 use lib.IntN.{ℤ, pos, negℤ, _+ℤ_, _-ℤ_, _*ℤ_}
 use lib.Signed.{_≤ℤ_, _<ℤ_}
+use Rattle.algebra.proofs.Ring.{con, _:-_, _:*_, :neg}
+use Rattle.algebra.proofs.Claim.{_:≤_, _:≡_, nat, hyp, eqn, _⊕_, _⊗_, prove}
+use Rattle.algebra.proofs.Inequalities.{`0, `1}
 use Rattle.algebra.proofs.Vec.{V3}
 use Rattle.jump.proofs.Jump.{Size}
 
@@ -85,6 +91,48 @@ pub record Made (k h : ℤ) (m w : V3) : Type 0 where
   pub x : Cornered k h (m .x) (w .x)
   pub y : Cornered k h (m .y) (w .y)
   pub z : Cornered k h (negℤ (m .z)) (negℤ (w .z))
+
+pub record Quotient (k h m w : ℤ) : Type 0 where
+  pub rest : ℤ
+  pub is : (pos 2 *ℤ k -ℤ h) *ℤ w ≡ k *ℤ m -ℤ rest
+  pub size : Size (pos 2 *ℤ k -ℤ h) rest
+
+pub record Quotients (k h : ℤ) (m w : V3) : Type 0 where
+  pub x : Quotient k h (m .x) (w .x)
+  pub y : Quotient k h (m .y) (w .y)
+  pub z : Quotient k h (m .z) (w .z)
+
+abbrev pub rests : {k h : ℤ} {m w : V3} → Quotients k h m w → V3
+rests q = record { x = q .x .rest; y = q .y .rest; z = q .z .rest }
+
+abbrev pub quotient : {k h m w : ℤ} → Cornered k h m w → Quotient k h m w
+quotient {k} {h} c = record {
+  rest = c .rest;
+  is = c .is;
+  size = record {
+    low = prove 2 (λ n r. record { given = (`0 :≤ r) ∷ (r :≤ n) ∷ []; goal = :neg n :≤ r; cert = nat 2 ⊗ hyp 0 ⊕ hyp 1 }) refl (pos 2 *ℤ k -ℤ h) (c .rest) (c .nn) (c .most);
+    high = c .most;
+  };
+}
+
+abbrev pub turned-quotient : {k h m w : ℤ} → Quotient k h (negℤ m) (negℤ w) → Quotient k h m w
+turned-quotient {k} {h} {m} {w} c = record {
+  rest = negℤ (c .rest);
+  is = prove 5
+      (λ n k m w r. record { given = (n :* :neg w :≡ k :* :neg m :- r) ∷ []; goal = n :* w :≡ k :* m :- :neg r; cert = eqn 0 (:neg `1) })
+      refl (pos 2 *ℤ k -ℤ h) k m w (c .rest) (c .is);
+  size = record {
+    low = prove 2 (λ n r. record { given = (r :≤ n) ∷ []; goal = :neg n :≤ :neg r; cert = hyp 0 }) refl (pos 2 *ℤ k -ℤ h) (c .rest) (c .size .high);
+    high = prove 2 (λ n r. record { given = (:neg n :≤ r) ∷ []; goal = :neg r :≤ n; cert = hyp 0 }) refl (pos 2 *ℤ k -ℤ h) (c .rest) (c .size .low);
+  };
+}
+
+abbrev pub quotients : {k h : ℤ} {m w : V3} → Made k h m w → Quotients k h m w
+quotients a = record { x = quotient (a .x); y = quotient (a .y); z = turned-quotient (quotient (a .z)) }
+
+pub record Bend (A h : ℤ) : Type 0 where
+  pub low : negℤ (pos 2) ≤ℤ h
+  pub high : (h +ℤ pos 2) ≤ℤ A
 
 pub record Apart (L : ℤ) (a b : V3) : Type 0 where
   pub x : Size L (a .x -ℤ b .x)
