@@ -3,10 +3,11 @@
 --   New        w is Unit of m: n w = K m − rest, n the root of m·m, the rest with the signs of w
 --   Pointing   p is nearly K long, and its components at most K
 --   InS0       a corner in the octant of S0: x and y not below 0, z not above
---   Here       the numbers follow p, pushed outward by δ; the trixel has the shape and at least the volume of its level, and stands in S0's octant
+--   Here       the numbers follow p, pushed outward by δ, at such a trixel
+--   Stands     a trixel of the shape and at least the volume of its level, in S0's octant
 --   Cut        what the side of the cut at v0 needs of its ends w1 and w2
 --   Wide       the margin M of a level
---   Step       the constants of a level whose shape follows from that of the level above
+--   Halving    the constants of a level at which shape and volume of a child follow from those of the trixel
 use mathlib.Core.Path.{_≡_, refl, sym, subst}
 use mathlib.Core.List.{[], _∷_}
 use lib.IntN.{ℤ, pos, negℤ, _+ℤ_, _-ℤ_, _*ℤ_}
@@ -18,6 +19,7 @@ use Rattle.algebra.proofs.Inequalities.{`0, `1, cancel-≤ℤ, <ℤ-mul, <ℤ�
 use Rattle.algebra.proofs.Vec.{V3, dot, cross, dotE, crossE, ringV}
 use Rattle.jump.proofs.Jump.{Size, det}
 use Rattle.jump.proofs.JumpInvariant.{Near, Moved, Bounds, Level, Follows, Made, Quotients, rests, quotients, Bend, Apart, both, pushed}
+use Rattle.jump.proofs.JumpChild.{kept-made, flat-moved, child-step, middle-step, turned}
 use Rattle.jump.proofs.JumpSide.{Taxi, place, place-along}
 use Rattle.jump.proofs.JumpSure.{Margin, sure-above, sure-below}
 use Rattle.jump.proofs.Lengths.{Long, differenceOf, flip, long-x, long-y, long-z}
@@ -48,13 +50,16 @@ pub record InS0 (v : V3) : Type 0 where
   pub y : pos 0 ≤ℤ v .y
   pub z : pos 0 ≤ℤ negℤ (v .z)
 
-pub record Here (k u δ D c G : ℤ) (b : Bounds) (d0 d1 d2 : ℤ) (v0 v1 v2 p : V3) : Type 0 where
-  pub follows : Follows u D b d0 d1 d2 v0 v1 v2 (pushed δ p)
+pub record Stands (k c D G : ℤ) (v0 v1 v2 : V3) : Type 0 where
   pub shape : Shape k c v0 v1 v2
   pub large : G ≤ℤ (D *ℤ det v0 v1 v2)
   pub octant0 : InS0 v0
   pub octant1 : InS0 v1
   pub octant2 : InS0 v2
+
+pub record Here (k u δ D c G : ℤ) (b : Bounds) (d0 d1 d2 : ℤ) (v0 v1 v2 p : V3) : Type 0 where
+  pub follows : Follows u D b d0 d1 d2 v0 v1 v2 (pushed δ p)
+  pub stands : Stands k c D G v0 v1 v2
 
 pub record Cut (k c' D G' : ℤ) (v0 w1 w2 : V3) : Type 0 where
   pub corner : Corner k w2
@@ -68,6 +73,26 @@ turned-det = ringV 3 (λ a b c. dotE (crossE a b) c :≡ dotE (crossE b c) a) re
 
 pub shape-turned : {k c : ℤ} {v0 v1 v2 : V3} → Shape k c v0 v1 v2 → Shape k c v1 v2 v0
 shape-turned t = record { corner0 = t .corner1; corner1 = t .corner2; corner2 = t .corner0; edge01 = t .edge12; edge12 = t .edge20; edge20 = t .edge01 }
+
+pub stands-turned : {k c D G : ℤ} {v0 v1 v2 : V3} → Stands k c D G v0 v1 v2 → Stands k c D G v1 v2 v0
+stands-turned {D = D} {G = G} {v0 = v0} {v1 = v1} {v2 = v2} h = record {
+  shape = shape-turned (h .shape);
+  large = subst (λ z. G ≤ℤ (D *ℤ z)) (turned-det v0 v1 v2) (h .large);
+  octant0 = h .octant1;
+  octant1 = h .octant2;
+  octant2 = h .octant0;
+}
+
+pub here-turned : {k u D c G d0 d1 d2 : ℤ} {b : Bounds} {v0 v1 v2 : V3} (δ : ℤ) (p : V3) → Here k u δ D c G b d0 d1 d2 v0 v1 v2 p → Here k u δ D c G b d1 d2 d0 v1 v2 v0 p
+here-turned δ p h = record { follows = turned (h .follows); stands = stands-turned (h .stands) }
+
+-- the child at v0 has the cut as an edge
+pub cut-of : {k c D G : ℤ} {v0 w1 w2 : V3} → Stands k c D G v0 w2 w1 → Cut k c D G v0 w1 w2
+cut-of {D = D} {G = G} {v0 = v0} {w1 = w1} {w2 = w2} h = record {
+  corner = h .shape .corner1;
+  edge = h .shape .edge12;
+  large = subst (λ z. G ≤ℤ (D *ℤ z)) (turned-det v0 w2 w1) (h .large);
+}
 
 -- the sum of two corners does not ask which is first
 pub new-swapped : {k : ℤ} (a b : V3) {w : V3} → New k (both a b) w → New k (both b a) w
@@ -166,22 +191,22 @@ module _ {k u D c G d0 d1 d2 : ℤ} {b : Bounds} {v0 v1 v2 : V3} (δ : ℤ) (p :
 
   pub sum-held : (partS k u c b *ℤ (f .e *ℤ (d0 +ℤ d1 +ℤ d2))) ≤ℤ (partL k u δ *ℤ f .l)
   sum-held =
-      let l0 : Long (k +ℤ pos 1) v0 = corner-most (here .shape .corner0) in
+      let l0 : Long (k +ℤ pos 1) v0 = corner-most (here .stands .shape .corner0) in
       let z-most : negℤ (v0 .z) ≤ℤ (k +ℤ pos 1) = other (k +ℤ pos 1) (v0 .z) (long-z l0 .low) in
       held-by k u (f .e) (f .l) d0 d1 d2 (dot v0 v0) (dot v0 v1) (dot v0 v2) (dot v0 (place d0 d1 d2 v0 v1 v2)) (dot v0 (pushed δ p)) _ _ (b .high)
       (v0 .x *ℤ (u *ℤ (f .e *ℤ (d0 *ℤ v0 .x +ℤ d1 *ℤ v1 .x +ℤ d2 *ℤ v2 .x) -ℤ f .l *ℤ (p .x +ℤ δ))))
       (v0 .y *ℤ (u *ℤ (f .e *ℤ (d0 *ℤ v0 .y +ℤ d1 *ℤ v1 .y +ℤ d2 *ℤ v2 .y) -ℤ f .l *ℤ (p .y +ℤ δ))))
       (negℤ (v0 .z) *ℤ (u *ℤ (f .e *ℤ negℤ (d0 *ℤ v0 .z +ℤ d1 *ℤ v1 .z +ℤ d2 *ℤ v2 .z) -ℤ f .l *ℤ negℤ (p .z -ℤ δ))))
       (place-along v0 d0 d1 d2 v0 v1 v2)
-      (own-product k c v0 (here .shape .corner0)) (near-product k c v0 v1 (here .shape .corner0) (here .shape .corner1) (here .shape .edge01))
-      (near-product k c v0 v2 (here .shape .corner0) (here .shape .corner2) (flip v2 v0 (here .shape .edge20)))
+      (own-product k c v0 (here .stands .shape .corner0)) (near-product k c v0 v1 (here .stands .shape .corner0) (here .stands .shape .corner1) (here .stands .shape .edge01))
+      (near-product k c v0 v2 (here .stands .shape .corner0) (here .stands .shape .corner2) (flip v2 v0 (here .stands .shape .edge20)))
       (f .d0-nn) (f .d1-nn) (f .d2-nn)
-      (pushed-along k δ p v0 (meet k p v0 k-nn (pt .most) (here .shape .corner0 .most)) δ-nn (long-x l0 .high) (long-y l0 .high) z-most)
+      (pushed-along k δ p v0 (meet k p v0 k-nn (pt .most) (here .stands .shape .corner0 .most)) δ-nn (long-x l0 .high) (long-y l0 .high) z-most)
       (ahead-along u (f .e) (f .l) (v0 .x) (v0 .y) (v0 .z) (d0 *ℤ v0 .x +ℤ d1 *ℤ v1 .x +ℤ d2 *ℤ v2 .x) (d0 *ℤ v0 .y +ℤ d1 *ℤ v1 .y +ℤ d2 *ℤ v2 .y) (d0 *ℤ v0 .z +ℤ d1 *ℤ v1 .z +ℤ d2 *ℤ v2 .z)
       (p .x +ℤ δ) (p .y +ℤ δ) (p .z -ℤ δ))
-      (times-most k (v0 .x) _ _ (here .octant0 .x) (long-x l0 .high) (f .x .ahead) some-nn)
-      (times-most k (v0 .y) _ _ (here .octant0 .y) (long-y l0 .high) (f .y .ahead) some-nn)
-      (times-most k (negℤ (v0 .z)) _ _ (here .octant0 .z) z-most
+      (times-most k (v0 .x) _ _ (here .stands .octant0 .x) (long-x l0 .high) (f .x .ahead) some-nn)
+      (times-most k (v0 .y) _ _ (here .stands .octant0 .y) (long-y l0 .high) (f .y .ahead) some-nn)
+      (times-most k (negℤ (v0 .z)) _ _ (here .stands .octant0 .z) z-most
       (subst (λ z. (u *ℤ (f .e *ℤ z -ℤ f .l *ℤ negℤ (p .z -ℤ δ))) ≤ℤ (b .high *ℤ f .e *ℤ (d0 +ℤ d1 +ℤ d2))) (out d0 d1 d2 (v0 .z) (v1 .z) (v2 .z)) (f .z .ahead)) some-nn)
       u-nn e-nn (<ℤ→≤ℤ (f .l-positive))
     where
@@ -261,3 +286,109 @@ module _ {k u D c c' G G' t E M d0 d1 d2 : ℤ} {b : Bounds} {v0 v1 v2 w1 w2 : V
 
   pub here-below : M <ℤ negℤ (d0 -ℤ d1 -ℤ d2) → dot (cross w2 w1) p <ℤ negℤ (pos 3 *ℤ ((k +ℤ pos 1) *ℤ c'))
   here-below h = sure-below δ p (here .follows) (n1 .made) (n2 .made) low1 low2 (taxi normal-long (wide .t-nn) (wide .t-large)) held margin h
+
+-- ---- the numbers of a child follow p, whose shape is known
+
+apart : {L : ℤ} {v w : V3} → Long L (differenceOf v w) → Apart L v w
+apart p = record { x = long-x p; y = long-y p; z = long-z p }
+
+module _ {k u D c' A Γ0 Γ1 d0 d1 d2 : ℤ} {b b' : Bounds} {v0 v1 v2 p : V3} (level : Level k u c' A Γ0 Γ1 b b') (f : Follows u D b d0 d1 d2 v0 v1 v2 p) where
+  pub child-follows : {y1 y2 : ℤ} {w1 w2 : V3} → pos 0 ≤ℤ (d0 -ℤ d1 -ℤ d2) → (n1 : New k (both v0 v2) w1) (n2 : New k (both v0 v1) w2)
+      → Moved k A Γ0 Γ1 (n2 .h) (pos 2 *ℤ d1) y1 → Moved k A Γ0 Γ1 (n1 .h) (pos 2 *ℤ d2) y2 → Shape k c' v0 w2 w1 → Follows u D b' (d0 -ℤ d1 -ℤ d2) y1 y2 v0 w2 w1 p
+  child-follows {w1 = w1} nn n1 n2 m1 m2 t =
+      child-step level f nn m1 m2 (n2 .made) (n1 .made) (apart (t .edge01)) (apart (flip w1 v0 (t .edge20))) (apart (t .edge12))
+
+  pub middle-follows : {y0 y1 y2 : ℤ} {w0 w1 w2 : V3} → (n0 : New k (both v1 v2) w0) (n1 : New k (both v0 v2) w1) (n2 : New k (both v0 v1) w2)
+      → Moved k A Γ0 Γ1 (n0 .h) (d1 +ℤ d2 -ℤ d0) y0 → Moved k A Γ0 Γ1 (n1 .h) (d0 +ℤ d2 -ℤ d1) y1 → Moved k A Γ0 Γ1 (n2 .h) (d0 +ℤ d1 -ℤ d2) y2 → Shape k c' w0 w1 w2
+      → Follows u D b' y0 y1 y2 w0 w1 w2 p
+  middle-follows {w0 = w0} {w2 = w2} n0 n1 n2 m0 m1 m2 t =
+      middle-step level f m0 m1 m2 (n0 .made) (n1 .made) (n2 .made) (apart (t .edge01)) (apart (flip w2 w0 (t .edge20))) (apart (t .edge12))
+
+-- ---- shape and volume of a child, from those of the trixel
+
+pub record Halving (k A c c' j D G G' : ℤ) : Type 0 where
+  pub shaping : Shaping k A c c' j
+  pub shrinking : Shrinking k c j D G G'
+  pub half : A ≤ℤ k
+  pub two : (pos 0 +ℤ pos 2) ≤ℤ A
+
+module _ {k A c c' j D G G' : ℤ} (s : Halving k A c c' j D G G') where
+  K-nn : pos 0 ≤ℤ k
+  K-nn = prove 1 (λ k. record { given = (con (pos 4) :≤ k) ∷ []; goal = `0 :≤ k; cert = hyp 0 ⊕ nat 4 }) refl k (s .shaping .k-some)
+
+  K-positive : pos 0 <ℤ k
+  K-positive = prove 1 (λ k. record { given = (con (pos 4) :≤ k) ∷ []; goal = `0 :< k; cert = hyp 0 ⊕ nat 3 }) refl k (s .shaping .k-some)
+
+  pub new-bend : (v w : V3) {x : V3} (n : New k (both v w) x) → Corner k v → Corner k w → Long c (differenceOf v w) → Bend A (n .h)
+  new-bend v w n p q e = bend v w K-nn p q e (n .rooted) (s .shaping .bent)
+
+  corner-new : {m x : V3} (n : New k m x) → Bend A (n .h) → Corner k x
+  corner-new n b = new-corner (quotients (n .made)) (s .shaping .k-some)
+      (prove 3 (λ k A h. record { given = (h :+ `2 :≤ A) ∷ (A :≤ k) ∷ []; goal = k :≤ `2 :* k :- h; cert = hyp 0 ⊕ hyp 1 ⊕ nat 2 }) refl k A (n .h) (b .high) (s .half))
+      (n .rooted) (n .sign)
+
+  module _ {v0 v1 v2 : V3} (here : Stands k c D G v0 v1 v2) where
+    abbrev t : Shape k c v0 v1 v2
+    t = here .shape
+
+    module _ {w1 w2 : V3} (n1 : New k (both v0 v2) w1) (n2 : New k (both v0 v1) w2) (o1 : InS0 w1) (o2 : InS0 w2) where
+      bend1 : Bend A (n1 .h)
+      bend1 = new-bend v0 v2 n1 (t .corner0) (t .corner2) (flip v2 v0 (t .edge20))
+
+      bend2 : Bend A (n2 .h)
+      bend2 = new-bend v0 v1 n2 (t .corner0) (t .corner1) (t .edge01)
+
+      child-shape : Shape k c' v0 w2 w1
+      child-shape =
+          let p1 : Corner k w1 = corner-new n1 bend1 in
+          let p2 : Corner k w2 = corner-new n2 bend2 in
+          let kept : Quotients k (pos 0) (both v0 v0) v0 = quotients (kept-made k v0 K-positive) in
+          let kept-bend : Bend A (pos 0) = record { low = prove 0 (record { given = []; goal = :neg `2 :≤ `0; cert = nat 2 }) refl; high = s .two } in
+          record {
+            corner0 = t .corner0;
+            corner1 = p2;
+            corner2 = p1;
+            edge01 = edge-halved (s .shaping) kept-bend bend2 kept (quotients (n2 .made)) p2 (subst (λ z. Long c z) (sums-apart v0 v0 v1) (t .edge01));
+            edge12 = edge-halved (s .shaping) bend2 bend1 (quotients (n2 .made)) (quotients (n1 .made)) p1 (subst (λ z. Long c z) (sums-apart v0 v1 v2) (t .edge12));
+            edge20 = edge-halved (s .shaping) bend1 kept-bend (quotients (n1 .made)) kept (t .corner0) (subst (λ z. Long c z) (sums-apart v0 v2 v0) (t .edge20));
+          }
+
+      pub stands-child : Stands k c' D G' v0 w2 w1
+      stands-child = record {
+        shape = child-shape;
+        large = subst (λ z. G' ≤ℤ (D *ℤ z)) (sym (turned-det v0 w2 w1))
+            (child-large (s .shaping) (s .shrinking) t (here .large) bend1 bend2 (quotients (n1 .made)) (quotients (n2 .made)));
+        octant0 = here .octant0;
+        octant1 = o2;
+        octant2 = o1;
+      }
+
+      module _ {w0 : V3} (n0 : New k (both v1 v2) w0) (o0 : InS0 w0) where
+        bend0 : Bend A (n0 .h)
+        bend0 = new-bend v1 v2 n0 (t .corner1) (t .corner2) (t .edge12)
+
+        middle-shape : Shape k c' w0 w1 w2
+        middle-shape =
+            let p0 : Corner k w0 = corner-new n0 bend0 in
+            let p1 : Corner k w1 = corner-new n1 bend1 in
+            let p2 : Corner k w2 = corner-new n2 bend2 in
+            let q0 = quotients (n0 .made) in
+            let q1 = quotients (n1 .made) in
+            let q2 = quotients (n2 .made) in
+            record {
+              corner0 = p0;
+              corner1 = p1;
+              corner2 = p2;
+              edge01 = edge-halved (s .shaping) bend0 bend1 q0 q1 p1 (subst (λ z. Long c z) (sums-apart-right v2 v1 v0) (flip v0 v1 (t .edge01)));
+              edge12 = edge-halved (s .shaping) bend1 bend2 q1 q2 p2 (subst (λ z. Long c z) (sums-apart v0 v2 v1) (flip v1 v2 (t .edge12)));
+              edge20 = edge-halved (s .shaping) bend2 bend0 q2 q0 p0 (flip (both v1 v2) (both v0 v1) (subst (λ z. Long c z) (sums-apart-cross v1 v2 v0) (t .edge20)));
+            }
+
+        pub stands-middle : Stands k c' D G' w0 w1 w2
+        stands-middle = record {
+          shape = middle-shape;
+          large = middle-large (s .shaping) (s .shrinking) t (here .large) bend0 bend1 bend2 (quotients (n0 .made)) (quotients (n1 .made)) (quotients (n2 .made));
+          octant0 = o0;
+          octant1 = o1;
+          octant2 = o2;
+        }
