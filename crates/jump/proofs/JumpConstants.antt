@@ -5,7 +5,7 @@
 --   boundsAt i g    the bounds of the invariant before level i
 --   marginAt i      the margin of level i: 24 · 2⁴⁰, doubled i times
 --   level-of, wide-of, bent-of    they are the constants that the laws of a level ask for
---   shaping-of, shrinking-of      and, from depth 7 on, those of shape and volume
+--   halving-of                    and, from depth 7 on, those of shape and volume
 use mathlib.Core.Path.{_≡_, refl}
 use mathlib.Core.List.{[], _∷_}
 use Prim.Native.Nat.{ℕ, zero, suc, _+_, _*_, _^_, _<_, _≤_}
@@ -19,7 +19,7 @@ use Rattle.algebra.proofs.Inequalities.{`0}
 use Rattle.jump.proofs.JumpInvariant.{Bounds, Level}
 use Rattle.jump.proofs.JumpShape.{Shaping}
 use Rattle.jump.proofs.JumpVolume.{Shrinking}
-use Rattle.jump.proofs.JumpLevel.{Wide, partS, partL}
+use Rattle.jump.proofs.JumpLevel.{Wide, partS, partL, Halving}
 
 -- K, parts of a unit, how far p is pushed outward, the length of a rest, 2³⁰, the least volume at depth 3
 abbrev pub k : ℤ
@@ -249,6 +249,8 @@ grown-to = prove 7
 record Shrinks (i : ℕ) : Type 0 where
   pub A-nn : pos 0 ≤ℤ constantsAt i .bend
   pub A-below : pos 0 <ℤ (pos 2 *ℤ k -ℤ constantsAt i .bend)
+  pub half : constantsAt i .bend ≤ℤ k
+  pub two : (pos 0 +ℤ pos 2) ≤ℤ constantsAt i .bend
   pub edge-nn : pos 0 ≤ℤ c (suc i)
   pub bent : ((pos 2 *ℤ k +ℤ pos 2 -ℤ constantsAt i .bend) *ℤ (pos 2 *ℤ k +ℤ pos 2 -ℤ constantsAt i .bend) +ℤ c i *ℤ c i) ≤ℤ (pos 4 *ℤ ((k -ℤ pos 2) *ℤ (k -ℤ pos 2)))
   pub halved : (k *ℤ c i +ℤ (constantsAt i .bend *ℤ (k +ℤ pos 1) +ℤ (j +ℤ j))) ≤ℤ ((pos 2 *ℤ k -ℤ constantsAt i .bend) *ℤ c (suc i))
@@ -263,18 +265,18 @@ record Shrinks (i : ℕ) : Type 0 where
 
 shrinks : (i : ℕ) → i < 5 → Shrinks (4 + i)
 unfolding constantsAt row
-shrinks zero h = record { A-nn = leZ-yes tt; A-below = ltZ-yes tt; edge-nn = leZ-yes tt; bent = leZ-yes tt; halved = leZ-yes tt; unlost = refl; behind = leZ-yes tt; ahead = leZ-yes tt; some = ltZ-yes tt; child-spare = leZ-yes tt; child = leZ-yes tt; middle-spare = leZ-yes tt; middle = leZ-yes tt; }
-shrinks (suc zero) h = record { A-nn = leZ-yes tt; A-below = ltZ-yes tt; edge-nn = leZ-yes tt; bent = leZ-yes tt; halved = leZ-yes tt; unlost = refl; behind = leZ-yes tt; ahead = leZ-yes tt; some = ltZ-yes tt; child-spare = leZ-yes tt; child = leZ-yes tt; middle-spare = leZ-yes tt; middle = leZ-yes tt; }
-shrinks (suc (suc zero)) h = record { A-nn = leZ-yes tt; A-below = ltZ-yes tt; edge-nn = leZ-yes tt; bent = leZ-yes tt; halved = leZ-yes tt; unlost = refl; behind = leZ-yes tt; ahead = leZ-yes tt; some = ltZ-yes tt; child-spare = leZ-yes tt; child = leZ-yes tt; middle-spare = leZ-yes tt; middle = leZ-yes tt; }
-shrinks (suc (suc (suc zero))) h = record { A-nn = leZ-yes tt; A-below = ltZ-yes tt; edge-nn = leZ-yes tt; bent = leZ-yes tt; halved = leZ-yes tt; unlost = refl; behind = leZ-yes tt; ahead = leZ-yes tt; some = ltZ-yes tt; child-spare = leZ-yes tt; child = leZ-yes tt; middle-spare = leZ-yes tt; middle = leZ-yes tt; }
-shrinks (suc (suc (suc (suc zero)))) h = record { A-nn = leZ-yes tt; A-below = ltZ-yes tt; edge-nn = leZ-yes tt; bent = leZ-yes tt; halved = leZ-yes tt; unlost = refl; behind = leZ-yes tt; ahead = leZ-yes tt; some = ltZ-yes tt; child-spare = leZ-yes tt; child = leZ-yes tt; middle-spare = leZ-yes tt; middle = leZ-yes tt; }
+shrinks zero h = record { A-nn = leZ-yes tt; A-below = ltZ-yes tt; half = leZ-yes tt; two = leZ-yes tt; edge-nn = leZ-yes tt; bent = leZ-yes tt; halved = leZ-yes tt; unlost = refl; behind = leZ-yes tt; ahead = leZ-yes tt; some = ltZ-yes tt; child-spare = leZ-yes tt; child = leZ-yes tt; middle-spare = leZ-yes tt; middle = leZ-yes tt; }
+shrinks (suc zero) h = record { A-nn = leZ-yes tt; A-below = ltZ-yes tt; half = leZ-yes tt; two = leZ-yes tt; edge-nn = leZ-yes tt; bent = leZ-yes tt; halved = leZ-yes tt; unlost = refl; behind = leZ-yes tt; ahead = leZ-yes tt; some = ltZ-yes tt; child-spare = leZ-yes tt; child = leZ-yes tt; middle-spare = leZ-yes tt; middle = leZ-yes tt; }
+shrinks (suc (suc zero)) h = record { A-nn = leZ-yes tt; A-below = ltZ-yes tt; half = leZ-yes tt; two = leZ-yes tt; edge-nn = leZ-yes tt; bent = leZ-yes tt; halved = leZ-yes tt; unlost = refl; behind = leZ-yes tt; ahead = leZ-yes tt; some = ltZ-yes tt; child-spare = leZ-yes tt; child = leZ-yes tt; middle-spare = leZ-yes tt; middle = leZ-yes tt; }
+shrinks (suc (suc (suc zero))) h = record { A-nn = leZ-yes tt; A-below = ltZ-yes tt; half = leZ-yes tt; two = leZ-yes tt; edge-nn = leZ-yes tt; bent = leZ-yes tt; halved = leZ-yes tt; unlost = refl; behind = leZ-yes tt; ahead = leZ-yes tt; some = ltZ-yes tt; child-spare = leZ-yes tt; child = leZ-yes tt; middle-spare = leZ-yes tt; middle = leZ-yes tt; }
+shrinks (suc (suc (suc (suc zero)))) h = record { A-nn = leZ-yes tt; A-below = ltZ-yes tt; half = leZ-yes tt; two = leZ-yes tt; edge-nn = leZ-yes tt; bent = leZ-yes tt; halved = leZ-yes tt; unlost = refl; behind = leZ-yes tt; ahead = leZ-yes tt; some = ltZ-yes tt; child-spare = leZ-yes tt; child = leZ-yes tt; middle-spare = leZ-yes tt; middle = leZ-yes tt; }
 shrinks (suc (suc (suc (suc (suc i))))) h = absurd (omega arith)
 
 module _ (i : ℕ) (h : i < 5) (g : ℤ) (large : least ≤ℤ g) where
   abbrev known-shape : Shrinks (4 + i)
   known-shape = shrinks i h
 
-  pub shaping-of : Shaping k (constantsAt (4 + i) .bend) (pos (edgeAt (4 + i))) (pos (edgeAt (suc (4 + i)))) j
+  shaping-of : Shaping k (constantsAt (4 + i) .bend) (pos (edgeAt (4 + i))) (pos (edgeAt (suc (4 + i)))) j
   shaping-of = record {
     k-some = leZ-yes tt;
     c'-nn = known-shape .edge-nn;
@@ -286,7 +288,7 @@ module _ (i : ℕ) (h : i < 5) (g : ℤ) (large : least ≤ℤ g) where
     halved = known-shape .halved;
   }
 
-  pub shrinking-of : Shrinking k (pos (edgeAt (4 + i))) j D (partAt (4 + i) *ℤ g) (partAt (suc (4 + i)) *ℤ g)
+  shrinking-of : Shrinking k (pos (edgeAt (4 + i))) j D (partAt (4 + i) *ℤ g) (partAt (suc (4 + i)) *ℤ g)
   shrinking-of = record {
     D-nn = leZ-yes tt;
     some = times-positive (constantsAt (suc (4 + i)) .part) least g (known-shape .some) (ltZ-yes tt) large;
@@ -294,6 +296,9 @@ module _ (i : ℕ) (h : i < 5) (g : ℤ) (large : least ≤ℤ g) where
     middle = grown-to (N *ℤ N *ℤ N) (pos 2 *ℤ k *ℤ k *ℤ k) (constantsAt (suc (4 + i)) .part) (constantsAt (4 + i) .part) (taken-middle (c (4 + i))) least g large
         (known-shape .middle-spare) (known-shape .middle);
   }
+
+  pub halving-of : Halving k (constantsAt (4 + i) .bend) (pos (edgeAt (4 + i))) (pos (edgeAt (suc (4 + i)))) j D (partAt (4 + i) *ℤ g) (partAt (suc (4 + i)) *ℤ g)
+  halving-of = record { shaping = shaping-of; shrinking = shrinking-of; half = known-shape .half; two = known-shape .two }
 
   -- nothing is lost there, and what is left of the bending is the bending itself
   pub unlost-of : constantsAt (4 + i) .lost ≡ pos 0

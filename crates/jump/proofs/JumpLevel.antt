@@ -18,7 +18,7 @@ use Rattle.algebra.proofs.Claim.{_:≤_, _:<_, _:≡_, nat, hyp, sq, eqn, _⊕_
 use Rattle.algebra.proofs.Inequalities.{`0, `1, cancel-≤ℤ, <ℤ-mul, <ℤ→≤ℤ, <ℤ-by-no}
 use Rattle.algebra.proofs.Vec.{V3, dot, cross, dotE, crossE, ringV}
 use Rattle.jump.proofs.Jump.{Size, det}
-use Rattle.jump.proofs.JumpInvariant.{Near, Moved, Bounds, Level, Follows, Made, Quotients, rests, quotients, Bend, Apart, both, pushed}
+use Rattle.jump.proofs.JumpInvariant.{Cornered, Moved, Bounds, Level, Follows, Made, Quotients, rests, quotients, Bend, Apart, both, pushed}
 use Rattle.jump.proofs.JumpChild.{kept-made, flat-moved, child-step, middle-step, turned}
 use Rattle.jump.proofs.JumpSide.{Taxi, place, place-along}
 use Rattle.jump.proofs.JumpSure.{Margin, sure-above, sure-below}
@@ -95,11 +95,33 @@ cut-of {D = D} {G = G} {v0 = v0} {w1 = w1} {w2 = w2} h = record {
 }
 
 -- the sum of two corners does not ask which is first
-pub new-swapped : {k : ℤ} (a b : V3) {w : V3} → New k (both a b) w → New k (both b a) w
-new-swapped {k} a b {w} n = subst (λ m. New k m w) (same-vector (e (a .x) (b .x)) (e (a .y) (b .y)) (e (a .z) (b .z))) n
+swapped-corner : {k h : ℤ} (a b : ℤ) {w : ℤ} → Cornered k h (a +ℤ b) w → Cornered k h (b +ℤ a) w
+swapped-corner {k} {h} a b {w} c = record { rest = c .rest; is = subst (λ m. (pos 2 *ℤ k -ℤ h) *ℤ w ≡ k *ℤ m -ℤ c .rest) (e a b) (c .is); nn = c .nn; most = c .most }
   where
     e : (x y : ℤ) → x +ℤ y ≡ y +ℤ x
     e = ring 2 (λ x y. x :+ y :≡ y :+ x) refl
+
+turned-corner : {k h : ℤ} (a b : ℤ) {w : ℤ} → Cornered k h (negℤ (a +ℤ b)) w → Cornered k h (negℤ (b +ℤ a)) w
+turned-corner {k} {h} a b {w} c = record { rest = c .rest; is = subst (λ m. (pos 2 *ℤ k -ℤ h) *ℤ w ≡ k *ℤ m -ℤ c .rest) (e a b) (c .is); nn = c .nn; most = c .most }
+  where
+    e : (x y : ℤ) → negℤ (x +ℤ y) ≡ negℤ (y +ℤ x)
+    e = ring 2 (λ x y. :neg (x :+ y) :≡ :neg (y :+ x)) refl
+
+pub new-swapped : {k : ℤ} (a b : V3) {w : V3} → New k (both a b) w → New k (both b a) w
+unfolding swapped-corner turned-corner
+new-swapped {k} a b {w} n = record {
+  h = n .h;
+  made = record { x = swapped-corner (a .x) (b .x) (n .made .x); y = swapped-corner (a .y) (b .y) (n .made .y); z = turned-corner (a .z) (b .z) (n .made .z) };
+  rooted = subst (λ m. Rooted k (n .h) m) (same-vector (e (a .x) (b .x)) (e (a .y) (b .y)) (e (a .z) (b .z))) (n .rooted);
+  sign = n .sign;
+}
+  where
+    e : (x y : ℤ) → x +ℤ y ≡ y +ℤ x
+    e = ring 2 (λ x y. x :+ y :≡ y :+ x) refl
+
+pub swapped-h : {k : ℤ} (a b : V3) {w : V3} (n : New k (both a b) w) → new-swapped a b n .h ≡ n .h
+unfolding new-swapped
+swapped-h a b n = refl
 
 -- ---- S is at most about l / e
 
