@@ -6,11 +6,10 @@ use vector::Vec3;
 ghost use mathlib.Core.Path.{_≡_};
 ghost use mathlib.Core.Bool.{true, false};
 ghost use Prim.Native.Nat.{_^_};
-ghost use lib.IntN.{_+ℤ_};
 ghost use Rattle.algebra.proofs.Sizes.{Upto};
 ghost use Rattle.vector.proofs.Sizes.{Small};
 ghost use Rattle.mesh_trixels.specs.Corners.{SmallCorners};
-ghost use Rattle.mesh_bends.specs.Bends.{SmallBends, bendBy, edgeBend, bendsOf, firstCut, firstHalf, laterCut, turnedBends, bendsBelow};
+ghost use Rattle.mesh_bends.specs.Bends.{SmallBends, bendBy, edgeBend, bendsOf, firstCut, firstHalf, laterCut, laterHalf, turnedBends, firstAtCorner, firstInMiddle, laterAtCorner, laterInMiddle, bendsBelow};
 
 // A bend for each edge, by the number of the corner that is opposite to it.
 pub struct Bends {
@@ -83,12 +82,19 @@ fn first_half(a: i64) -> i64
     a / 4 + a / 1024
 }
 
-// The bend of the edge that a later cut makes.
+// The bend of the edge that a later cut makes, and that of half an edge after it.
 fn later_cut(a: i64) -> i64
     requires { ⌜ Upto (2 ^ 20) a ⌝ }
     ensures { λ r. ⌜ r ≡ laterCut a ⌝ }
 {
     a / 4 + a / 256
+}
+
+fn later_half(a: i64) -> i64
+    requires { ⌜ Upto (2 ^ 20) a ⌝ }
+    ensures { λ r. ⌜ r ≡ laterHalf a ⌝ }
+{
+    a / 4
 }
 
 // The bends from corner number k on; 3 and above changes nothing.
@@ -105,25 +111,66 @@ fn turned(a: Bends, k: u64) -> Bends
     a
 }
 
+// After the first cut, the bends of the child at the first corner.
+fn first_at_corner(a: Bends) -> Bends
+    requires { ⌜ SmallBends a ⌝ }
+    ensures { λ r. ⌜ r ≡ firstAtCorner a ⌝ }
+{
+    let sum = a.a0 + a.a1 + a.a2;
+    Bends {
+        a0: first_cut(a.a0, sum),
+        a1: first_half(a.a1),
+        a2: first_half(a.a2),
+    }
+}
+
+// Those of the child in the middle.
+fn first_in_middle(a: Bends) -> Bends
+    requires { ⌜ SmallBends a ⌝ }
+    ensures { λ r. ⌜ r ≡ firstInMiddle a ⌝ }
+{
+    let sum = a.a0 + a.a1 + a.a2;
+    Bends {
+        a0: first_cut(a.a0, sum),
+        a1: first_cut(a.a1, sum),
+        a2: first_cut(a.a2, sum),
+    }
+}
+
+// After a later cut, the bends of the child at the first corner.
+fn later_at_corner(a: Bends) -> Bends
+    requires { ⌜ SmallBends a ⌝ }
+    ensures { λ r. ⌜ r ≡ laterAtCorner a ⌝ }
+{
+    Bends {
+        a0: later_cut(a.a0),
+        a1: later_half(a.a1),
+        a2: later_half(a.a2),
+    }
+}
+
+// Those of the child in the middle.
+fn later_in_middle(a: Bends) -> Bends
+    requires { ⌜ SmallBends a ⌝ }
+    ensures { λ r. ⌜ r ≡ laterInMiddle a ⌝ }
+{
+    Bends {
+        a0: later_cut(a.a0),
+        a1: later_cut(a.a1),
+        a2: later_cut(a.a2),
+    }
+}
+
 // The bends of child number k, from depth 3 to depth 4; 3 and above is the one in the middle.
 pub fn first_below(a: Bends, k: u64) -> Bends
     requires { ⌜ SmallBends a ⌝ }
     ensures { λ r. ⌜ r ≡ bendsBelow true k a ⌝ }
 {
     let t = turned(a, k);
-    let sum = t.a0 + t.a1 + t.a2;
     if k < 3 {
-        return Bends {
-            a0: first_cut(t.a0, sum),
-            a1: first_half(t.a1),
-            a2: first_half(t.a2),
-        };
+        return first_at_corner(t);
     }
-    Bends {
-        a0: first_cut(t.a0, sum),
-        a1: first_cut(t.a1, sum),
-        a2: first_cut(t.a2, sum),
-    }
+    first_in_middle(t)
 }
 
 // The same from depth 4 on.
@@ -133,15 +180,7 @@ pub fn later_below(a: Bends, k: u64) -> Bends
 {
     let t = turned(a, k);
     if k < 3 {
-        return Bends {
-            a0: later_cut(t.a0),
-            a1: t.a1 / 4,
-            a2: t.a2 / 4,
-        };
+        return later_at_corner(t);
     }
-    Bends {
-        a0: later_cut(t.a0),
-        a1: later_cut(t.a1),
-        a2: later_cut(t.a2),
-    }
+    later_in_middle(t)
 }
