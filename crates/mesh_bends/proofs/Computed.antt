@@ -1,0 +1,2 @@
+pub stub2 : Unit {0}
+stub2 = tt
