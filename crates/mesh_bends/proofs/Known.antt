@@ -4,24 +4,28 @@
 --   facts            the facts of such a trixel
 --   small-bends      its bends are small, as the code asks
 --   below            it is known of each child, with the bends by the formulas
-use Prim.Native.Nat.{ℕ, zero, suc, _+_, _*_, _≤_, _<_}
+--   passed-known     it is known of a trixel of depth 3 that passed, with the bends of its corners and its own volume
+use Prim.Native.Nat.{ℕ, zero, suc, _+_, _-_, _*_, _≤_, _<_}
 use native.Mathlib.Omega.{arith}
 use mathlib.Core.Path.{_≡_, refl, sym, ap, subst, _∙_}
 use mathlib.Core.Bool.{Bool, true, cond, _&&_}
 use borrow.Author.Tests.{leb-true, ne-eqb}
 use lib.Dec.{eqb, leb}
 use lib.IntN.{ℤ, pos}
-use Rattle.algebra.proofs.Sizes.{Upto}
 use Rattle.algebra.proofs.Tests.{and-left, and-right}
+use Rattle.jump.proofs.Jump.{det}
+use Rattle.jump.proofs.UnitLaws.{three}
 use Rattle.vector.specs.declared.Vec3.{Vec3}
 use Rattle.mesh.specs.declared.Trixel.{Trixel}
 use Rattle.mesh.specs.Trixels.{child}
+use Rattle.mesh.specs.Identifiers.{cornersOf}
+use Rattle.mesh_trixels.specs.Corners.{tripleOf}
 use Rattle.mesh_bends.specs.declared.Bends.{Bends}
-use Rattle.mesh_bends.specs.Bends.{bends, firstAtCorner, firstInMiddle, laterAtCorner, laterInMiddle, bendsBelow, SmallBends}
+use Rattle.mesh_bends.specs.Bends.{bends, edgeBend, bendsOf, firstAtCorner, firstInMiddle, laterAtCorner, laterInMiddle, bendsBelow, SmallBends}
 use Rattle.mesh_bends.proofs.BendFacts.{Limits, limitsAt, Facts}
-use Rattle.mesh_bends.proofs.Plain.{Triple, Sizes, middles, part0, part1, part2, turn, cornerSizes, middleSizes, sumLength, isShaped, isLarge, fitsRoot, fits, within, every}
-use Rattle.mesh_bends.proofs.PlainLaws.{signed, Is, Same, same0, same1, same2, same3, signedSizes, cut-is}
-use Rattle.mesh_bends.proofs.TestLaws.{shape-at, large-at, fit-at, octant-at}
+use Rattle.mesh_bends.proofs.Plain.{Triple, Sizes, dotted, sizesOf, middles, part0, part1, part2, turn, cornerSizes, middleSizes, sumLength, isShaped, above, beneath, volume, isLarge, fitsRoot, fits, within, every, isSpread, passes}
+use Rattle.mesh_bends.proofs.PlainLaws.{signed, Same, same0, same1, same2, same3, signedSizes, difference-is, edge-is, cut-is}
+use Rattle.mesh_bends.proofs.TestLaws.{shape-at, volume-is, large-at, fit-at, octant-at}
 
 pub record Known (i : ℕ) (a : Bends) (g : ℤ) (x : Trixel) : Type 0 where
   pub corners : Triple
@@ -40,11 +44,11 @@ module _ (a b c d e : Bool) (h : a && b && c && d && e ≡ true) where
   four : a && b && c && d ≡ true
   four = and-left (a && b && c && d) e h
 
-  three : a && b && c ≡ true
-  three = and-left (a && b && c) d four
+  front : a && b && c ≡ true
+  front = and-left (a && b && c) d four
 
   two : a && b ≡ true
-  two = and-left (a && b) c three
+  two = and-left (a && b) c front
 
   first : a ≡ true
   first = and-left a b two
@@ -53,7 +57,7 @@ module _ (a b c d e : Bool) (h : a && b && c && d && e ≡ true) where
   second = and-right a b two
 
   third : c ≡ true
-  third = and-right (a && b) c three
+  third = and-right (a && b) c front
 
   fourth : d ≡ true
   fourth = and-right (a && b && c) d four
@@ -149,3 +153,131 @@ middle-is zero b h =
     let sum : ℕ = b .a0 + b .a1 + b .a2 in
     λ j. bends (sym (cut-is (b .a0) sum (h .a0)) j) (sym (cut-is (b .a1) sum (h .a1)) j) (sym (cut-is (b .a2) sum (h .a2)) j)
 middle-is (suc i) b h = rw (ne-eqb (suc i) 0 (λ e. omega (arith, e))) refl
+
+-- ---- what is known
+
+-- the tests that a trixel with levels left has passed
+module _ (n i g : ℕ) (t : Triple) (b : Sizes) (h : every (suc n) i g t b ≡ true) where
+  abbrev own : Bool
+  own = within (limitsAt i) g t b
+
+  abbrev e0 : Bool
+  e0 = every n (suc i) g (part0 t (middles t)) (cornerSizes i b)
+
+  abbrev e1 : Bool
+  e1 = every n (suc i) g (part1 t (middles t)) (cornerSizes i (turn b))
+
+  abbrev e2 : Bool
+  e2 = every n (suc i) g (part2 t (middles t)) (cornerSizes i (turn (turn b)))
+
+  abbrev e3 : Bool
+  e3 = every n (suc i) g (middles t) (middleSizes i b)
+
+  own-passed : own ≡ true
+  unfolding every
+  own-passed = first own e0 e1 e2 e3 h
+
+  passed0 : e0 ≡ true
+  unfolding every
+  passed0 = second own e0 e1 e2 e3 h
+
+  passed1 : e1 ≡ true
+  unfolding every
+  passed1 = third own e0 e1 e2 e3 h
+
+  passed2 : e2 ≡ true
+  unfolding every
+  passed2 = fourth own e0 e1 e2 e3 h
+
+  passed3 : e3 ≡ true
+  unfolding every
+  passed3 = fifth own e0 e1 e2 e3 h
+
+-- to depth 7 there is a level left
+tested : {i : ℕ} {a : Bends} {g : ℤ} {x : Trixel} (k : Known i a g x) → i ≤ 4 → within (limitsAt i) (k .volume) (k .corners) (k .sizes) ≡ true
+tested {i} k h = by (k .left) (k .levels) (k .passed)
+  where
+    by : (n : ℕ) → n + i ≡ 5 → every n i (k .volume) (k .corners) (k .sizes) ≡ true → within (limitsAt i) (k .volume) (k .corners) (k .sizes) ≡ true
+    by zero e p = absurd (omega (arith, e))
+    by (suc n) e p = own-passed n i (k .volume) (k .corners) (k .sizes) p
+
+pub facts : {i : ℕ} {a : Bends} {g : ℤ} {x : Trixel} → Known i a g x → i ≤ 4 → Facts i a g x
+facts {i} {a} {g} {x} k h =
+    let f = plain-facts i (k .volume) (k .corners) (k .sizes) (tested k h) (x .p0) (x .p1) (x .p2) in
+    let s = k .same in
+    let same : _ ≡ x = λ j. record { v0 = sym (s .at0 .is) j; v1 = sym (s .at1 .is) j; v2 = sym (s .at2 .is) j; p0 = x .p0; p1 = x .p1; p2 = x .p2 } in
+    subst (λ b. Facts i b g x) (k .bent) (subst (λ h. Facts i (signedSizes (k .sizes)) h x) (k .above) (subst (Facts i (signedSizes (k .sizes)) (pos (k .volume))) same f))
+
+pub small-bends : {i : ℕ} {a : Bends} {g : ℤ} {x : Trixel} → Known i a g x → i ≤ 4 → SmallBends a
+small-bends {i} k h =
+    let b = sizes-small i (k .volume) (k .corners) (k .sizes) (tested k h) in
+    subst SmallBends (k .bent) (record { a0 = record { le = b .a0 }; a1 = record { le = b .a1 }; a2 = record { le = b .a2 } })
+
+pub below : {i : ℕ} {a : Bends} {g : ℤ} {x : Trixel} → Known i a g x → i < 4 → (d : ℕ) → d < 4 → Known (suc i) (bendsBelow (eqb i 0) d a) g (child d x)
+below {i} {a} {g} {x} k h d l = subst (λ b. Known (suc i) (bendsBelow (eqb i 0) d b) g (child d x)) (k .bent) (by (k .left) (k .levels) (k .passed) d l)
+  where
+    t : Triple
+    t = k .corners
+
+    b : Sizes
+    b = k .sizes
+
+    small : SmallSizes b
+    small = sizes-small i (k .volume) t b (tested k (omega (arith, h)))
+
+    by : (n : ℕ) → n + i ≡ 5 → every n i (k .volume) t b ≡ true → (d : ℕ) → d < 4 → Known (suc i) (bendsBelow (eqb i 0) d (signedSizes b)) g (child d x)
+    by zero e p d l = absurd (omega (arith, e, h))
+    by (suc n) e p zero l = record {
+      corners = part0 t (middles t); sizes = cornerSizes i b; volume = k .volume; left = n; levels = omega (arith, e); above = k .above;
+      same = same0 (k .same); bent = corner-is i b small; passed = passed0 n i (k .volume) t b p;
+    }
+    by (suc n) e p (suc zero) l = record {
+      corners = part1 t (middles t); sizes = cornerSizes i (turn b); volume = k .volume; left = n; levels = omega (arith, e); above = k .above;
+      same = same1 (k .same); bent = corner-is i (turn b) (record { a0 = small .a1; a1 = small .a2; a2 = small .a0 }); passed = passed1 n i (k .volume) t b p;
+    }
+    by (suc n) e p (suc (suc zero)) l = record {
+      corners = part2 t (middles t); sizes = cornerSizes i (turn (turn b)); volume = k .volume; left = n; levels = omega (arith, e); above = k .above;
+      same = same2 (k .same); bent = corner-is i (turn (turn b)) (record { a0 = small .a2; a1 = small .a0; a2 = small .a1 }); passed = passed2 n i (k .volume) t b p;
+    }
+    by (suc n) e p (suc (suc (suc zero))) l = record {
+      corners = middles t; sizes = middleSizes i b; volume = k .volume; left = n; levels = omega (arith, e); above = k .above;
+      same = same3 (k .same); bent = middle-is i b small; passed = passed3 n i (k .volume) t b p;
+    }
+    by (suc n) e p (suc (suc (suc (suc d)))) l = absurd (omega (arith, l))
+
+-- ---- at depth 3
+
+-- a trixel that is not less than its own volume has one
+volume-at : (t : Triple) → isLarge 1073741824 (volume t) t ≡ true → pos (volume t) ≡ det (three (signed (t .a))) (three (signed (t .b))) (three (signed (t .c)))
+unfolding isLarge volume
+volume-at t e =
+    let p : ℕ = above (t .a) (t .b) (t .c) in
+    let q : ℕ = beneath (t .a) (t .b) (t .c) in
+    let l = leb-true (1073741824 * (p - q) + 1073741824 * q) (1073741824 * p) e in
+    sym (volume-is (t .a) (t .b) (t .c) ∙ difference-is p q (omega (arith, l)))
+
+bends-at : (t : Triple) → isSpread t ≡ true → signedSizes (sizesOf t) ≡ bends (edgeBend (signed (t .b)) (signed (t .c))) (edgeBend (signed (t .c)) (signed (t .a))) (edgeBend (signed (t .a)) (signed (t .b)))
+unfolding isSpread sizesOf
+bends-at t e =
+    let l : ℕ = 1099511627776 in
+    let p : Bool = leb (dotted (t .b) (t .c)) l in
+    let q : Bool = leb (dotted (t .c) (t .a)) l in
+    let r : Bool = leb (dotted (t .a) (t .b)) l in
+    let a0 = edge-is (t .b) (t .c) (leb-true (dotted (t .b) (t .c)) l (and-left p q (and-left (p && q) r e))) in
+    let a1 = edge-is (t .c) (t .a) (leb-true (dotted (t .c) (t .a)) l (and-right p q (and-left (p && q) r e))) in
+    let a2 = edge-is (t .a) (t .b) (leb-true (dotted (t .a) (t .b)) l (and-right (p && q) r e)) in
+    λ j. bends (sym a0 j) (sym a1 j) (sym a2 j)
+
+pub passed-known : {x : Trixel} {t : Triple} → Same x t → passes t ≡ true → Known 0 (bendsOf (cornersOf x)) (det (three (x .v0)) (three (x .v1)) (three (x .v2))) x
+unfolding passes
+passed-known {x} {t} s e =
+    let p = and-right (isSpread t) (every 5 0 (volume t) t (sizesOf t)) e in
+    let own = own-passed 4 0 (volume t) t (sizesOf t) p in
+    let same : cornersOf x ≡ tripleOf (signed (t .a)) (signed (t .b)) (signed (t .c)) = λ j. tripleOf (s .at0 .is j) (s .at1 .is j) (s .at2 .is j) in
+    record {
+      corners = t; sizes = sizesOf t; volume = volume t; left = 5; levels = refl;
+      same = s;
+      bent = bends-at t (and-left (isSpread t) (every 5 0 (volume t) t (sizesOf t)) e) ∙ sym (ap bendsOf same);
+      above = volume-at t (large (limitsAt 0) (volume t) t (sizesOf t) own) ∙ sym (ap (λ c. det (three (c .v0)) (three (c .v1)) (three (c .v2))) same);
+      passed = p;
+    }
