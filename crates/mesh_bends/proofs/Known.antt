@@ -21,7 +21,7 @@ use Rattle.mesh.specs.Trixels.{child}
 use Rattle.mesh.specs.Identifiers.{cornersOf}
 use Rattle.mesh_trixels.specs.Corners.{tripleOf}
 use Rattle.mesh_bends.specs.declared.Bends.{Bends}
-use Rattle.mesh_bends.specs.Bends.{bends, edgeBend, bendsOf, firstAtCorner, firstInMiddle, laterAtCorner, laterInMiddle, bendsBelow, SmallBends}
+use Rattle.mesh_bends.specs.Bends.{bends, bendsOf, firstAtCorner, firstInMiddle, laterAtCorner, laterInMiddle, bendsBelow, SmallBends}
 use Rattle.mesh_bends.proofs.BendFacts.{Limits, limitsAt, Facts}
 use Rattle.mesh_bends.proofs.Plain.{Triple, Sizes, dotted, sizesOf, middles, part0, part1, part2, turn, cornerSizes, middleSizes, sumLength, isShaped, above, beneath, volume, isLarge, fitsRoot, fits, within, every, isSpread, passes}
 use Rattle.mesh_bends.proofs.PlainLaws.{signed, Same, same0, same1, same2, same3, signedSizes, difference-is, edge-is, cut-is}
@@ -113,10 +113,13 @@ bend-most (suc (suc zero)) = omega arith
 bend-most (suc (suc (suc zero))) = omega arith
 bend-most (suc (suc (suc (suc i)))) = omega arith
 
-pub record SmallSizes (b : Sizes) : Type 0 where
-  pub a0 : b .a0 ≤ 1048576
-  pub a1 : b .a1 ≤ 1048576
-  pub a2 : b .a2 ≤ 1048576
+record SmallSizes (b : Sizes) : Type 0 where
+  a0 : b .a0 ≤ 1048576
+  a1 : b .a1 ≤ 1048576
+  a2 : b .a2 ≤ 1048576
+
+small-turn : {b : Sizes} → SmallSizes b → SmallSizes (turn b)
+small-turn h = record { a0 = h .a1; a1 = h .a2; a2 = h .a0 }
 
 module _ (i g : ℕ) (t : Triple) (b : Sizes) (h : within (limitsAt i) g t b ≡ true) where
   sizes-small : SmallSizes b
@@ -225,29 +228,34 @@ below {i} {a} {g} {x} k h d l = subst (λ b. Known (suc i) (bendsBelow (eqb i 0)
     small : SmallSizes b
     small = sizes-small i (k .volume) t b (tested k (omega (arith, h)))
 
+    -- a child by its plain corners and bends
+    next : (d n : ℕ) (s : Triple) (c : Sizes) → suc n + i ≡ 5 → Same (child d x) s → signedSizes c ≡ bendsBelow (eqb i 0) d (signedSizes b)
+        → every n (suc i) (k .volume) s c ≡ true → Known (suc i) (bendsBelow (eqb i 0) d (signedSizes b)) g (child d x)
+    next d n s c e same bent passed = record {
+      corners = s;
+      sizes = c;
+      volume = k .volume;
+      left = n;
+      levels = omega (arith, e);
+      same = same;
+      bent = bent;
+      above = k .above;
+      passed = passed;
+    }
+
     by : (n : ℕ) → n + i ≡ 5 → every n i (k .volume) t b ≡ true → (d : ℕ) → d < 4 → Known (suc i) (bendsBelow (eqb i 0) d (signedSizes b)) g (child d x)
     by zero e p d l = absurd (omega (arith, e, h))
-    by (suc n) e p zero l = record {
-      corners = part0 t (middles t); sizes = cornerSizes i b; volume = k .volume; left = n; levels = omega (arith, e); above = k .above;
-      same = same0 (k .same); bent = corner-is i b small; passed = passed0 n i (k .volume) t b p;
-    }
-    by (suc n) e p (suc zero) l = record {
-      corners = part1 t (middles t); sizes = cornerSizes i (turn b); volume = k .volume; left = n; levels = omega (arith, e); above = k .above;
-      same = same1 (k .same); bent = corner-is i (turn b) (record { a0 = small .a1; a1 = small .a2; a2 = small .a0 }); passed = passed1 n i (k .volume) t b p;
-    }
-    by (suc n) e p (suc (suc zero)) l = record {
-      corners = part2 t (middles t); sizes = cornerSizes i (turn (turn b)); volume = k .volume; left = n; levels = omega (arith, e); above = k .above;
-      same = same2 (k .same); bent = corner-is i (turn (turn b)) (record { a0 = small .a2; a1 = small .a0; a2 = small .a1 }); passed = passed2 n i (k .volume) t b p;
-    }
-    by (suc n) e p (suc (suc (suc zero))) l = record {
-      corners = middles t; sizes = middleSizes i b; volume = k .volume; left = n; levels = omega (arith, e); above = k .above;
-      same = same3 (k .same); bent = middle-is i b small; passed = passed3 n i (k .volume) t b p;
-    }
+    by (suc n) e p zero l = next 0 n (part0 t (middles t)) (cornerSizes i b) e (same0 (k .same)) (corner-is i b small) (passed0 n i (k .volume) t b p)
+    by (suc n) e p (suc zero) l =
+        next 1 n (part1 t (middles t)) (cornerSizes i (turn b)) e (same1 (k .same)) (corner-is i (turn b) (small-turn small)) (passed1 n i (k .volume) t b p)
+    by (suc n) e p (suc (suc zero)) l =
+        next 2 n (part2 t (middles t)) (cornerSizes i (turn (turn b))) e (same2 (k .same)) (corner-is i (turn (turn b)) (small-turn (small-turn small))) (passed2 n i (k .volume) t b p)
+    by (suc n) e p (suc (suc (suc zero))) l = next 3 n (middles t) (middleSizes i b) e (same3 (k .same)) (middle-is i b small) (passed3 n i (k .volume) t b p)
     by (suc n) e p (suc (suc (suc (suc d)))) l = absurd (omega (arith, l))
 
 -- ---- at depth 3
 
--- a trixel that is not less than its own volume has one
+-- a trixel that is at least its own plain volume has that volume
 volume-at : (t : Triple) → isLarge 1073741824 (volume t) t ≡ true → pos (volume t) ≡ det (three (signed (t .a))) (three (signed (t .b))) (three (signed (t .c)))
 unfolding isLarge volume
 volume-at t e =
@@ -256,7 +264,7 @@ volume-at t e =
     let l = leb-true (1073741824 * (p - q) + 1073741824 * q) (1073741824 * p) e in
     sym (volume-is (t .a) (t .b) (t .c) ∙ difference-is p q (omega (arith, l)))
 
-bends-at : (t : Triple) → isSpread t ≡ true → signedSizes (sizesOf t) ≡ bends (edgeBend (signed (t .b)) (signed (t .c))) (edgeBend (signed (t .c)) (signed (t .a))) (edgeBend (signed (t .a)) (signed (t .b)))
+bends-at : (t : Triple) → isSpread t ≡ true → signedSizes (sizesOf t) ≡ bendsOf (tripleOf (signed (t .a)) (signed (t .b)) (signed (t .c)))
 unfolding isSpread sizesOf
 bends-at t e =
     let l : ℕ = 1099511627776 in
@@ -275,7 +283,11 @@ passed-known {x} {t} s e =
     let own = own-passed 4 0 (volume t) t (sizesOf t) p in
     let same : cornersOf x ≡ tripleOf (signed (t .a)) (signed (t .b)) (signed (t .c)) = λ j. tripleOf (s .at0 .is j) (s .at1 .is j) (s .at2 .is j) in
     record {
-      corners = t; sizes = sizesOf t; volume = volume t; left = 5; levels = refl;
+      corners = t;
+      sizes = sizesOf t;
+      volume = volume t;
+      left = 5;
+      levels = refl;
       same = s;
       bent = bends-at t (and-left (isSpread t) (every 5 0 (volume t) t (sizesOf t)) e) ∙ sym (ap bendsOf same);
       above = volume-at t (large (limitsAt 0) (volume t) t (sizesOf t) own) ∙ sym (ap (λ c. det (three (c .v0)) (three (c .v1)) (three (c .v2))) same);

@@ -3,7 +3,7 @@
 --   signed p          the corner as the rule has it: (x, y, −z)
 --   Same t p          the corners of the rule's trixel t are those of p
 --   signedSizes b     the bends as the rule has them
-use Prim.Native.Nat.{ℕ, zero, suc, _+_, _-_, _*_, _/_, _≤_}
+use Prim.Native.Nat.{ℕ, _+_, _-_, _*_, _/_, _≤_}
 use native.Mathlib.Omega.{arith}
 use mathlib.Core.Path.{_≡_, refl, sym, ap, _∙_}
 use mathlib.Core.Bool.{Bool, true, false, cond}

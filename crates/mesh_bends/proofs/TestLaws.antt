@@ -5,7 +5,7 @@ use mathlib.Core.Bool.{Bool, true, _&&_}
 use mathlib.Core.List.{[], _∷_}
 use lib.Dec.{leb}
 use lib.IntN.{ℤ, pos, negℤ, _+ℤ_, _-ℤ_, _*ℤ_}
-use lib.Signed.{_≤ℤ_, leZ-yes}
+use lib.Signed.{_≤ℤ_}
 use Rattle.algebra.proofs.Ring.{con, _:+_, _:-_, _:*_, :neg}
 use Rattle.algebra.proofs.Order.{nn-pos}
 use Rattle.algebra.proofs.Claim.{_:≤_, _:≡_, ring, prove, hyp}
@@ -15,10 +15,9 @@ use Rattle.jump.proofs.JumpShape as shape
 use Rattle.jump.proofs.JumpVolume.{Shape}
 use Rattle.jump.proofs.Lengths.{Long, differenceOf}
 use Rattle.jump.proofs.UnitLaws.{three}
-use Rattle.vector.specs.declared.Vec3.{Vec3}
 use Rattle.vector.specs.Numbers.{K}
-use Rattle.vector.specs.Vectors.{plus, dot}
-use Rattle.mesh_bends.proofs.BendFacts.{Limits, Fit, Octant, lack}
+use Rattle.vector.specs.Vectors.{plus}
+use Rattle.mesh_bends.proofs.BendFacts.{Limits, Fit, Octant}
 use Rattle.mesh_bends.proofs.Plain.{Corner, Triple, dotted, isCorner, isEdge, isShaped, above, beneath, isLarge, fitsRoot, sumLength}
 use Rattle.mesh_bends.proofs.PlainLaws.{signed, dotted-is, sum-length-is}
 

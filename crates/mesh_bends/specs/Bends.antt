@@ -1,5 +1,5 @@
 -- The bends a0 a1 a2 of a trixel's edges, each opposite to the corner of its number: a is nearly 8 (2 K − n), with n the root of |b + c|² for the edge from b
--- to c. They follow from the corners at depth 3, and from the bends of the trixel above below it. What they differ by stands in proofs/BendFacts.
+-- to c. At depth 3 they follow from the corners, below it from the bends of the trixel above. How far they are from that: proofs/BendFacts.
 --   edgeBend b c             from the corners of an edge, by s = (K² − b·c) / 2¹⁶
 --   bendsOf c                of three corners
 --   firstCut, firstHalf      from depth 3 to depth 4: of the edge that a cut makes, of half an edge

@@ -32,7 +32,7 @@ const CUT_UNIT: i64 = 67108864;
 // A fourth of CUT_UNIT, less a little: the first cut of an edge has nearly a fourth of its bend.
 const CUT_PART: i64 = 16537216;
 
-// The bend of an edge by s, the versine of its angle.
+// The bend of an edge by s, which is 2^24 times the versine of its angle.
 fn bend_by(s: i64) -> i64
     requires { ⌜ Upto (2 ^ 26) s ⌝ }
     ensures { λ r. ⌜ r ≡ bendBy s ⌝ }
@@ -103,10 +103,18 @@ fn turned(a: Bends, k: u64) -> Bends
     ensures { λ r. ⌜ (r ≡ turnedBends k a) × SmallBends r ⌝ }
 {
     if k == 1 {
-        return Bends { a0: a.a1, a1: a.a2, a2: a.a0 };
+        return Bends {
+            a0: a.a1,
+            a1: a.a2,
+            a2: a.a0,
+        };
     }
     if k == 2 {
-        return Bends { a0: a.a2, a1: a.a0, a2: a.a1 };
+        return Bends {
+            a0: a.a2,
+            a1: a.a0,
+            a2: a.a1,
+        };
     }
     a
 }

@@ -10,8 +10,11 @@ use Rattle.mesh_bends.proofs.first_in_middle.Statement.{statement}
 use Rattle.mesh_bends.proofs.first_in_middle.Tie as tie
 
 -- Named anchors: the states that the proofs below read from, each named with a later state that leads back to it.
+abbrev start-before-told : tie.After-struct-told → tie.Start
+start-before-told c = c .before .before
+
 abbrev start-before-told2 : tie.After-struct-told2 → tie.Start
-start-before-told2 c = c .before .before .before .before
+start-before-told2 c = start-before-told (c .before .before)
 
 abbrev start-before-first-cut : tie.After-first-cut → tie.Start
 start-before-first-cut c = start-before-told2 (c .before .before)
@@ -23,7 +26,7 @@ pub first-in-middle-spec : {M : Type 1} → statement M
 first-in-middle-spec =
     tie.close
     (tie.spec
-    (λ c. let w = c .before .before .pre in fits-add (held (w .a0) tt) (held (w .a1) tt) tt)
+    (λ c. let w = start-before-told c .pre in fits-add (held (w .a0) tt) (held (w .a1) tt) tt)
     (λ c. let w = start-before-told2 c .pre in fits-add (is-add (held (w .a0) tt) (held (w .a1) tt) tt) (held (w .a2) tt) tt)
     (λ c κs.
     let w = start-before-told2 (c .before) .pre in
