@@ -58,13 +58,12 @@ pub record Constants : Type 0 where
   pub normal : ℤ
   pub error : ℤ
 
-row : (edge part low high grow floor bend lost behind ahead normal error : ℕ) → Constants
+abbrev pub row : (edge part low high grow floor bend lost behind ahead normal error : ℕ) → Constants
 row e p l h g f b a c d n x = record {
   edge = e; part = pos p; low = pos l; high = pos h; grow = pos g; floor = pos f; bend = pos b; lost = pos a; behind = pos c; ahead = pos d; normal = pos n; error = pos x;
 }
 
 unfoldable pub constantsAt : ℕ → Constants
-unfolding row
 constantsAt zero = row 605396 1073741824 0 0 1073741824 168796297468958032 89289 715000 0 47 574202567934 39352864412045441761280
 constantsAt (suc zero) = row 316158 279038656 86 22 1073745033 161602651473680568 23975 192000 114 331 290421276801 48323587827850578755584
 constantsAt (suc (suc zero)) = row 159907 70437463 244 116 1073773909 159753255895597370 6112 49000 368 207 145632902259 63793011579052277891072
@@ -141,7 +140,7 @@ record Computed (i : ℕ) : Type 0 where
       ≤ℤ (S i *ℤ u *ℤ k *ℤ marginAt i *ℤ constantsAt (suc i) .part)
 
 computed : (i : ℕ) → i < 9 → Computed i
-unfolding constantsAt row marginAt
+unfolding constantsAt marginAt
 computed zero h = record { lost-nn = leZ-yes tt; behind-nn = leZ-yes tt; ahead-nn = leZ-yes tt; edge-nn = leZ-yes tt; low-nn = leZ-yes tt; high-nn = leZ-yes tt; grow-nn = leZ-yes tt; floor-positive = ltZ-yes tt; floor-nn = leZ-yes tt; rounded = leZ-yes tt; positive = ltZ-yes tt; more = leZ-yes tt; grows-low = leZ-yes tt; grows-high = leZ-yes tt; grows-most = leZ-yes tt; falls = leZ-yes tt; bent = leZ-yes tt; half = leZ-yes tt; S-positive = ltZ-yes tt; part-positive = ltZ-yes tt; error-nn = leZ-yes tt; normal-nn = leZ-yes tt; margin-nn = leZ-yes tt; normal-large = leZ-yes tt; error-behind = leZ-yes tt; error-ahead = leZ-yes tt; wide = leZ-yes tt; }
 computed (suc zero) h = record { lost-nn = leZ-yes tt; behind-nn = leZ-yes tt; ahead-nn = leZ-yes tt; edge-nn = leZ-yes tt; low-nn = leZ-yes tt; high-nn = leZ-yes tt; grow-nn = leZ-yes tt; floor-positive = ltZ-yes tt; floor-nn = leZ-yes tt; rounded = leZ-yes tt; positive = ltZ-yes tt; more = leZ-yes tt; grows-low = leZ-yes tt; grows-high = leZ-yes tt; grows-most = leZ-yes tt; falls = leZ-yes tt; bent = leZ-yes tt; half = leZ-yes tt; S-positive = ltZ-yes tt; part-positive = ltZ-yes tt; error-nn = leZ-yes tt; normal-nn = leZ-yes tt; margin-nn = leZ-yes tt; normal-large = leZ-yes tt; error-behind = leZ-yes tt; error-ahead = leZ-yes tt; wide = leZ-yes tt; }
 computed (suc (suc zero)) h = record { lost-nn = leZ-yes tt; behind-nn = leZ-yes tt; ahead-nn = leZ-yes tt; edge-nn = leZ-yes tt; low-nn = leZ-yes tt; high-nn = leZ-yes tt; grow-nn = leZ-yes tt; floor-positive = ltZ-yes tt; floor-nn = leZ-yes tt; rounded = leZ-yes tt; positive = ltZ-yes tt; more = leZ-yes tt; grows-low = leZ-yes tt; grows-high = leZ-yes tt; grows-most = leZ-yes tt; falls = leZ-yes tt; bent = leZ-yes tt; half = leZ-yes tt; S-positive = ltZ-yes tt; part-positive = ltZ-yes tt; error-nn = leZ-yes tt; normal-nn = leZ-yes tt; margin-nn = leZ-yes tt; normal-large = leZ-yes tt; error-behind = leZ-yes tt; error-ahead = leZ-yes tt; wide = leZ-yes tt; }
@@ -264,7 +263,7 @@ record Shrinks (i : ℕ) : Type 0 where
   pub middle : (N *ℤ N *ℤ N *ℤ constantsAt (suc i) .part *ℤ least +ℤ taken-middle (c i)) ≤ℤ (pos 2 *ℤ k *ℤ k *ℤ k *ℤ constantsAt i .part *ℤ least)
 
 shrinks : (i : ℕ) → i < 5 → Shrinks (4 + i)
-unfolding constantsAt row
+unfolding constantsAt
 shrinks zero h = record { A-nn = leZ-yes tt; A-below = ltZ-yes tt; half = leZ-yes tt; two = leZ-yes tt; edge-nn = leZ-yes tt; bent = leZ-yes tt; halved = leZ-yes tt; unlost = refl; behind = leZ-yes tt; ahead = leZ-yes tt; some = ltZ-yes tt; child-spare = leZ-yes tt; child = leZ-yes tt; middle-spare = leZ-yes tt; middle = leZ-yes tt; }
 shrinks (suc zero) h = record { A-nn = leZ-yes tt; A-below = ltZ-yes tt; half = leZ-yes tt; two = leZ-yes tt; edge-nn = leZ-yes tt; bent = leZ-yes tt; halved = leZ-yes tt; unlost = refl; behind = leZ-yes tt; ahead = leZ-yes tt; some = ltZ-yes tt; child-spare = leZ-yes tt; child = leZ-yes tt; middle-spare = leZ-yes tt; middle = leZ-yes tt; }
 shrinks (suc (suc zero)) h = record { A-nn = leZ-yes tt; A-below = ltZ-yes tt; half = leZ-yes tt; two = leZ-yes tt; edge-nn = leZ-yes tt; bent = leZ-yes tt; halved = leZ-yes tt; unlost = refl; behind = leZ-yes tt; ahead = leZ-yes tt; some = ltZ-yes tt; child-spare = leZ-yes tt; child = leZ-yes tt; middle-spare = leZ-yes tt; middle = leZ-yes tt; }

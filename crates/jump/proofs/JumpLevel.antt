@@ -107,7 +107,7 @@ turned-corner {k} {h} a b {w} c = record { rest = c .rest; is = subst (λ m. (po
     e : (x y : ℤ) → negℤ (x +ℤ y) ≡ negℤ (y +ℤ x)
     e = ring 2 (λ x y. :neg (x :+ y) :≡ :neg (y :+ x)) refl
 
-pub new-swapped : {k : ℤ} (a b : V3) {w : V3} → New k (both a b) w → New k (both b a) w
+unfoldable pub new-swapped : {k : ℤ} (a b : V3) {w : V3} → New k (both a b) w → New k (both b a) w
 unfolding swapped-corner turned-corner
 new-swapped {k} a b {w} n = record {
   h = n .h;

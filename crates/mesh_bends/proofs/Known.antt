@@ -4,6 +4,8 @@
 --   facts            the facts of such a trixel
 --   small-bends      its bends are small, as the code asks
 --   below            it is known of each child, with the bends by the formulas
+--   volume-large     the volume g is at least 1688 · 10¹⁴
+--   known-bare       it is known of the corners alone
 --   passed-known     it is known of a trixel of depth 3 that passed, with the bends of its corners and its own volume
 use Prim.Native.Nat.{ℕ, zero, suc, _+_, _-_, _*_, _≤_, _<_}
 use native.Mathlib.Omega.{arith}
@@ -12,18 +14,19 @@ use mathlib.Core.Bool.{Bool, true, cond, _&&_}
 use borrow.Author.Tests.{leb-true, ne-eqb}
 use lib.Dec.{eqb, leb}
 use lib.IntN.{ℤ, pos}
-use Rattle.algebra.proofs.Tests.{and-left, and-right}
+use lib.Signed.{_≤ℤ_}
+use Rattle.algebra.proofs.Tests.{and-left, and-right, le-yes}
 use Rattle.jump.proofs.Jump.{det}
 use Rattle.jump.proofs.UnitLaws.{three}
 use Rattle.vector.specs.declared.Vec3.{Vec3}
 use Rattle.mesh.specs.declared.Trixel.{Trixel}
 use Rattle.mesh.specs.Trixels.{child}
 use Rattle.mesh.specs.Identifiers.{cornersOf}
-use Rattle.mesh_trixels.specs.Corners.{tripleOf}
+use Rattle.mesh_trixels.specs.Corners.{tripleOf, bare}
 use Rattle.mesh_bends.specs.declared.Bends.{Bends}
 use Rattle.mesh_bends.specs.Bends.{bends, bendsOf, firstAtCorner, firstInMiddle, laterAtCorner, laterInMiddle, bendsBelow, SmallBends}
 use Rattle.mesh_bends.proofs.BendFacts.{Limits, limitsAt, Facts}
-use Rattle.mesh_bends.proofs.Plain.{Triple, Sizes, dotted, sizesOf, middles, part0, part1, part2, turn, cornerSizes, middleSizes, sumLength, isShaped, above, beneath, volume, isLarge, fitsRoot, fits, within, every, isSpread, passes}
+use Rattle.mesh_bends.proofs.Plain.{leastVolume, Triple, Sizes, dotted, sizesOf, middles, part0, part1, part2, turn, cornerSizes, middleSizes, sumLength, isShaped, above, beneath, volume, isLarge, fitsRoot, fits, within, every, isSpread, passes}
 use Rattle.mesh_bends.proofs.PlainLaws.{signed, Same, same0, same1, same2, same3, signedSizes, difference-is, edge-is, cut-is}
 use Rattle.mesh_bends.proofs.TestLaws.{shape-at, volume-is, large-at, fit-at, octant-at}
 
@@ -37,6 +40,7 @@ pub record Known (i : ℕ) (a : Bends) (g : ℤ) (x : Trixel) : Type 0 where
   pub bent : signedSizes sizes ≡ a
   pub above : pos volume ≡ g
   pub passed : every left i volume corners sizes ≡ true
+  pub large : leb leastVolume volume ≡ true
 
 -- ---- five tests joined
 
@@ -241,6 +245,7 @@ below {i} {a} {g} {x} k h d l = subst (λ b. Known (suc i) (bendsBelow (eqb i 0)
       bent = bent;
       above = k .above;
       passed = passed;
+      large = k .large;
     }
 
     by : (n : ℕ) → n + i ≡ 5 → every n i (k .volume) t b ≡ true → (d : ℕ) → d < 4 → Known (suc i) (bendsBelow (eqb i 0) d (signedSizes b)) g (child d x)
@@ -279,7 +284,8 @@ bends-at t e =
 pub passed-known : {x : Trixel} {t : Triple} → Same x t → passes t ≡ true → Known 0 (bendsOf (cornersOf x)) (det (three (x .v0)) (three (x .v1)) (three (x .v2))) x
 unfolding passes
 passed-known {x} {t} s e =
-    let p = and-right (isSpread t) (every 5 0 (volume t) t (sizesOf t)) e in
+    let rest = and-right (leb leastVolume (volume t)) (isSpread t && every 5 0 (volume t) t (sizesOf t)) e in
+    let p = and-right (isSpread t) (every 5 0 (volume t) t (sizesOf t)) rest in
     let own = own-passed 4 0 (volume t) t (sizesOf t) p in
     let same : cornersOf x ≡ tripleOf (signed (t .a)) (signed (t .b)) (signed (t .c)) = λ j. tripleOf (s .at0 .is j) (s .at1 .is j) (s .at2 .is j) in
     record {
@@ -289,7 +295,27 @@ passed-known {x} {t} s e =
       left = 5;
       levels = refl;
       same = s;
-      bent = bends-at t (and-left (isSpread t) (every 5 0 (volume t) t (sizesOf t)) e) ∙ sym (ap bendsOf same);
+      bent = bends-at t (and-left (isSpread t) (every 5 0 (volume t) t (sizesOf t)) rest) ∙ sym (ap bendsOf same);
       above = volume-at t (large (limitsAt 0) (volume t) t (sizesOf t) own) ∙ sym (ap (λ c. det (three (c .v0)) (three (c .v1)) (three (c .v2))) same);
       passed = p;
+      large = and-left (leb leastVolume (volume t)) (isSpread t && every 5 0 (volume t) t (sizesOf t)) e;
     }
+
+-- the volume of the trixel of depth 3 is not small
+pub volume-large : {i : ℕ} {a : Bends} {g : ℤ} {x : Trixel} → Known i a g x → pos leastVolume ≤ℤ g
+volume-large k = subst (λ g. pos leastVolume ≤ℤ g) (k .above) (le-yes (k .large))
+
+-- it is known of corners alone
+pub known-bare : {i : ℕ} {a : Bends} {g : ℤ} {x : Trixel} → Known i a g x → Known i a g (bare (cornersOf x))
+known-bare k = record {
+  corners = k .corners;
+  sizes = k .sizes;
+  volume = k .volume;
+  left = k .left;
+  levels = k .levels;
+  same = record { at0 = k .same .at0; at1 = k .same .at1; at2 = k .same .at2 };
+  bent = k .bent;
+  above = k .above;
+  passed = k .passed;
+  large = k .large;
+}

@@ -156,8 +156,12 @@ every (suc n) i g t b =
 unfoldable pub isSpread : Triple → Bool
 isSpread t = leb (dotted (t .b) (t .c)) 1099511627776 && leb (dotted (t .c) (t .a)) 1099511627776 && leb (dotted (t .a) (t .b)) 1099511627776
 
+-- the least volume of a trixel of depth 3
+abbrev pub leastVolume : ℕ
+leastVolume = 168800000000000000
+
 unfoldable pub passes : Triple → Bool
-passes t = isSpread t && every 5 0 (volume t) t (sizesOf t)
+passes t = leb leastVolume (volume t) && (isSpread t && every 5 0 (volume t) t (sizesOf t))
 
 -- ---- the sixteen of depth 3
 

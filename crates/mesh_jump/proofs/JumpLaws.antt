@@ -1,7 +1,5 @@
 -- One level of the jump at a trixel of the mesh: where the numbers follow p and one is beyond the margin of its level, the rule's test at that cut has the sign
 -- of the number, so that the rule's digit is known; and the numbers of that child follow p at its corners. Assumes nothing.
---   StandsAt i g x    a trixel of level i in S0's octant, below one of depth 3 with the volume g
---   FollowsAt         the numbers follow p, pushed outward, at the corners of x
 --   Moves i v w a     a number that is made less by the bend a fits the edge from v to w
 use Prim.Native.Nat.{ℕ, zero, suc, _+_, _*_, _/_, _%_, _<_, _≤_}
 use native.Mathlib.Nat.{div-add-mod', mod-lt, mul-comm}
@@ -15,17 +13,15 @@ use lib.Signed.{_≤ℤ_, _<ℤ_, leZ-yes}
 use Rattle.algebra.proofs.Ring.{Expr, con, _:+_, _:-_, _:*_, :neg}
 use Rattle.algebra.proofs.Claim.{_:≤_, _:<_, _:≡_, nat, hyp, eqn, _⊕_, _⊗_, ring, prove}
 use Rattle.algebra.proofs.Inequalities.{`0, `1, <ℤ→≤ℤ}
-use Rattle.algebra.proofs.Order.{nn-add}
+use Rattle.algebra.proofs.Order.{nn-pos, nn-add}
 use Rattle.algebra.proofs.Sizes.{Upto}
 use Rattle.algebra.proofs.Vec.{V3}
 use Rattle.jump.proofs.Jump.{Size}
 use Rattle.jump.proofs.JumpInvariant.{Moved, Follows, Bend, both, pushed}
-use Rattle.jump.proofs.JumpChild.{flat-moved, bent-moved}
+use Rattle.jump.proofs.JumpChild.{flat-moved, bent-moved, turned}
 use Rattle.jump.proofs.Lengths.{Long, differenceOf, flip, long-x, long-y, long-z}
 use Rattle.jump.proofs.JumpShape.{Corner, bend}
-use Rattle.jump.proofs.JumpLevel.{New, Pointing, InS0, Stands, Here, Cut, Wide, here-turned, new-swapped, cut-of, normal-long, here-above, here-below, child-follows, middle-follows, stands-child, stands-middle}
-use Rattle.jump.proofs.JumpChild.{turned}
-use Rattle.jump.proofs.JumpLevel.{stands-turned}
+use Rattle.jump.proofs.JumpLevel.{New, Pointing, InS0, Stands, Here, Wide, stands-turned, here-turned, new-swapped, cut-of, normal-long, here-above, here-below, child-follows, middle-follows, stands-child, stands-middle}
 use Rattle.jump.proofs.JumpConstants.{u, δ, D, least, constantsAt, edgeAt, partAt, boundsAt, marginAt, level-of, wide-of, bent-of, half-of, halving-of, unlost-of, behind-of, ahead-of}
 use Rattle.jump.proofs.UnitLaws.{three, lack, unit-new, unit-octant, unit-lack}
 use Rattle.jump.proofs.SideLaws.{scale-above, scale-below}
@@ -38,7 +34,7 @@ use Rattle.vector.proofs.RootLaws.{root-greatest}
 use Rattle.mesh.specs.declared.Trixel.{Trixel}
 use Rattle.mesh.specs.Trixels.{cut, child}
 use Rattle.mesh.specs.Lookup.{notNegative, digit}
-use Rattle.mesh_jump.specs.Jumps.{lessOf}
+use Rattle.mesh_jump.specs.Jumps.{lessOf, StandsAt, FollowsAt}
 
 -- ---- a normal that is at most m long, and a product beyond 3 m
 
@@ -104,12 +100,6 @@ size-some (negsuc n) h = absurd (h .le)
 
 -- ---- what is known of a trixel, of the numbers, and of an edge
 
-abbrev pub StandsAt : ℕ → ℤ → Trixel → Type 0
-StandsAt i g x = Stands K (pos (edgeAt i)) D (partAt i *ℤ g) (three (x .v0)) (three (x .v1)) (three (x .v2))
-
-abbrev pub FollowsAt : ℕ → ℤ → Vec3 → Trixel → ℤ → ℤ → ℤ → Type 0
-FollowsAt i g p x d0 d1 d2 = Follows u D (boundsAt i g) d0 d1 d2 (three (x .v0)) (three (x .v1)) (three (x .v2)) (pushed δ (three p))
-
 -- 2 K − n of the midpoint of an edge
 abbrev pub lackOf : Vec3 → Vec3 → ℤ
 lackOf v w = lack (root (natAbs (dot (plus v w) (plus v w))))
@@ -155,13 +145,16 @@ pub moves-bent : (i : ℕ) (v w : Vec3) (a : ℤ) → pos 0 ≤ℤ a → a ≤�
 moves-bent i v w a nn most some low high (pos n) z-nn =
     let e : n ≡ 16777216 * (n / 16777216) + n % 16777216 = split n in
     bent-moved K (constantsAt i .lost) (constantsAt i .behind) (constantsAt i .ahead) (lackOf v w) (pos n) (pos (n / 16777216)) (pos (n % 16777216)) a
-    (ap pos e) (leZ-yes tt) (leZ-yes (le→leb (n % 16777216) 16777216 (below n))) (leZ-yes tt) nn most some low high
+    (ap pos e) (nn-pos (n % 16777216)) (leZ-yes (le→leb (n % 16777216) 16777216 (below n))) (nn-pos (n / 16777216)) nn most some low high
   where
     split : (n : ℕ) → n ≡ 16777216 * (n / 16777216) + n % 16777216
     split n = let d = div-add-mod' n 16777216 in omega arith
 
     below : (n : ℕ) → n % 16777216 ≤ 16777216
-    below n = let r = mod-lt n {16777216} (lit< tt) in omega arith
+    below n =
+        let some : 0 < 16777216 = lit< tt in
+        let r = mod-lt n some in
+        omega arith
 moves-bent i v w a nn most some low high (negsuc n) z-nn = absurd (z-nn .le)
 
 -- without: from depth 7 on
@@ -177,8 +170,8 @@ moves-flat i h g large v w b z nn = subst (λ y. Moved K (constantsAt (4 + i) .l
 -- ---- one level
 
 module _ (i : ℕ) (h : i < 9) (g : ℤ) (large : least ≤ℤ g) (p : Vec3) (small : Small p) (pt : Pointing K (three p)) (x : Trixel) (stands : StandsAt i g x)
-    (below : (k : ℕ) → k < 4 → StandsAt (suc i) g (child k x)) {a0 a1 a2 : ℤ} (m0 : Moves i (x .v1) (x .v2) a0) (m1 : Moves i (x .v0) (x .v2) a1) (m2 : Moves i (x .v0) (x .v1) a2)
-    {d0 d1 d2 : ℤ} (f : FollowsAt i g p x d0 d1 d2) where
+    (below : (k : ℕ) → k < 4 → StandsAt (suc i) g (child k x)) (a0 a1 a2 : ℤ) (m0 : Moves i (x .v1) (x .v2) a0) (m1 : Moves i (x .v0) (x .v2) a1) (m2 : Moves i (x .v0) (x .v1) a2)
+    (d0 d1 d2 : ℤ) (f : FollowsAt i g p x d0 d1 d2) where
   abbrev V0 : V3
   V0 = three (x .v0)
 

@@ -7,11 +7,16 @@
 --   inMiddle n a        those of the child in the middle, a the bends
 --   beginOf p c         the numbers at the start
 --   NotNegative n       none is below 0; Within n, small enough for sums and doubles
---   Started p c n       what the start is tested for
+--   Started p n         what the start is tested for
 --   Sure n a k m        k is the child that the numbers n give and m its numbers; or k is 4, not sure
 --   Entry c             the corners of an entry of the table
 --   along n i t         the trixel n levels below t, by the last n digits of i
+--   volumeOf c          det(v0, v1, v2)
+--   StandsAt i g x      a trixel i levels below depth 3 in S0's octant, of the shape of its level, below one of depth 3 with the volume g
+--   FollowsAt i g p x   the numbers follow p, pushed outward, at the corners of x
+--   Following p c k i d the numbers d follow p, k levels below the corners c, at the trixel by the last digits of i
 --   Jumped p c i n r    the digits of r are those of the rule, and the descent goes on behind them
+--   Reached p c i n r   and after four levels the numbers of r follow p
 use Prim.Native.Nat.{ℕ, zero, suc, _+_, _*_, _/_, _%_, _^_, _≤_, _<_}
 use mathlib.Core.Path.{_≡_}
 use mathlib.Core.Bool.{true}
@@ -19,10 +24,12 @@ use lib.IntN.{ℤ, pos, negℤ, natAbs, _+ℤ_, _-ℤ_, _*ℤ_}
 use lib.Signed.{_≤ℤ_, _<ℤ_}
 use Rattle.algebra.proofs.Sizes.{Upto}
 use Rattle.jump.proofs.Jump.{det}
-use Rattle.jump.proofs.JumpInvariant.{pushed}
-use Rattle.jump.proofs.JumpConstants.{δ}
+use Rattle.jump.proofs.JumpInvariant.{Follows, pushed}
+use Rattle.jump.proofs.JumpLevel.{Stands}
+use Rattle.jump.proofs.JumpConstants.{u, δ, D, least, edgeAt, partAt, boundsAt, marginAt}
 use Rattle.jump.proofs.UnitLaws.{three}
 use Rattle.vector.specs.declared.Vec3.{Vec3}
+use Rattle.vector.specs.Numbers.{K}
 use Rattle.vector.specs.Vectors.{isVector}
 use Rattle.mesh.specs.declared.Trixel.{Trixel}
 use Rattle.mesh.specs.declared.Corners.{Corners}
@@ -34,6 +41,7 @@ use Rattle.mesh_bends.specs.declared.Bends.{Bends}
 use Rattle.mesh_jump.specs.declared.Numbers.{Numbers}
 use Rattle.mesh_jump.specs.declared.ChildNumbers.{ChildNumbers}
 use Rattle.mesh_jump.specs.declared.SureDigits.{SureDigits}
+use Rattle.mesh_jump.specs.declared.BentDigits.{BentDigits}
 
 abbrev pub excessOf : Numbers → ℤ
 excessOf n = n .d0 -ℤ n .d1 -ℤ n .d2
@@ -73,10 +81,10 @@ abbrev pub childAt : ℕ → Numbers → ChildNumbers
 childAt k n = record { digit = k; numbers = n }
 
 pub record Within (n : Numbers) : Type 0 where
-  pub d0 : Upto (2 ^ 60) (n .d0)
-  pub d1 : Upto (2 ^ 60) (n .d1)
-  pub d2 : Upto (2 ^ 60) (n .d2)
-  pub margin : Upto (2 ^ 60) (n .margin)
+  pub d0 : Upto (2 ^ 61) (n .d0)
+  pub d1 : Upto (2 ^ 61) (n .d1)
+  pub d2 : Upto (2 ^ 61) (n .d2)
+  pub margin : Upto (2 ^ 61) (n .margin)
 
 pub record NotNegative (n : Numbers) : Type 0 where
   pub d0 : pos 0 ≤ℤ n .d0
@@ -84,15 +92,11 @@ pub record NotNegative (n : Numbers) : Type 0 where
   pub d2 : pos 0 ≤ℤ n .d2
   pub margin : pos 0 ≤ℤ n .margin
 
--- each bend is from 0 to 2²⁰
-pub record BendsWithin (a : Bends) : Type 0 where
-  pub a0 : Upto (2 ^ 20) (a .a0)
-  pub a1 : Upto (2 ^ 20) (a .a1)
-  pub a2 : Upto (2 ^ 20) (a .a2)
-
-pub record Started (p : Vec3) (c : Corners) (n : Numbers) : Type 0 where
+pub record Started (p : Vec3) (n : Numbers) : Type 0 where
   pub vector : isVector p ≡ true
-  pub numbers : NotNegative n
+  pub d0 : pos 0 ≤ℤ n .d0
+  pub d1 : pos 0 ≤ℤ n .d1
+  pub d2 : pos 0 ≤ℤ n .d2
 
 pub data Sure (n : Numbers) (a : Bends) : ℕ → Numbers → Type 0 where
   at0 : Above n → Sure n a 0 (atCorner n (a .a2) (a .a1))
@@ -116,7 +120,28 @@ unfoldable pub along : ℕ → ℕ → Trixel → Trixel
 along zero i t = t
 along (suc n) i t = child (i % 4) (along n (i / 4) t)
 
+abbrev pub volumeOf : Corners → ℤ
+volumeOf c = det (three (c .v0)) (three (c .v1)) (three (c .v2))
+
+abbrev pub StandsAt : ℕ → ℤ → Trixel → Type 0
+StandsAt i g x = Stands K (pos (edgeAt i)) D (partAt i *ℤ g) (three (x .v0)) (three (x .v1)) (three (x .v2))
+
+abbrev pub FollowsAt : ℕ → ℤ → Vec3 → Trixel → ℤ → ℤ → ℤ → Type 0
+FollowsAt i g p x d0 d1 d2 = Follows u D (boundsAt i g) d0 d1 d2 (three (x .v0)) (three (x .v1)) (three (x .v2)) (pushed δ (three p))
+
+pub record Following (p : Vec3) (c : Corners) (k i : ℕ) (d : Numbers) : Type 0 where
+  pub vector : isVector p ≡ true
+  pub large : least ≤ℤ volumeOf c
+  pub follows : FollowsAt k (volumeOf c) p (along k i (bare c)) (d .d0) (d .d1) (d .d2)
+  pub stands : StandsAt k (volumeOf c) (along k i (bare c))
+  pub sum : (d .d0 +ℤ d .d1 +ℤ d .d2) ≤ℤ pos (2 ^ 61)
+  pub margin : d .margin ≡ marginAt k
+
 pub record Jumped (p : Vec3) (c : Corners) (i n : ℕ) (r : SureDigits) : Type 0 where
   pub upto : r .count ≤ n
   pub room : (b : ℕ) → i < b → r .id < b * 4 ^ r .count
   pub goes-on : (m : ℕ) → descend p (r .count + m) (bare c) i ≡ descend p m (along (r .count) (r .id) (bare c)) (r .id)
+
+pub record Reached (p : Vec3) (c : Corners) (i n : ℕ) (r : BentDigits) : Type 0 where
+  pub jumped : Jumped p c i n (record { count = r .count; id = r .id })
+  pub following : r .count ≡ 4 → Following p c 4 (r .id) (r .numbers)
