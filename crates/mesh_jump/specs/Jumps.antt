@@ -7,6 +7,7 @@
 --   inMiddle n a        those of the child in the middle, a the bends
 --   beginOf p c         the numbers at the start
 --   NotNegative n       none is below 0; Within n, small enough for sums and doubles
+--   InMiddle n          none is more than the other two together
 --   Started p n         what the start is tested for
 --   Sure n a k m        k is the child that the numbers n give and m its numbers; or k is 4, not sure
 --   Entry c             the corners of an entry of the table
@@ -91,6 +92,12 @@ pub record NotNegative (n : Numbers) : Type 0 where
   pub d1 : pos 0 ≤ℤ n .d1
   pub d2 : pos 0 ≤ℤ n .d2
   pub margin : pos 0 ≤ℤ n .margin
+
+-- where none of the three is more than the other two together
+pub record InMiddle (n : Numbers) : Type 0 where
+  pub at0 : pos 0 ≤ℤ (n .d1 +ℤ n .d2 -ℤ n .d0)
+  pub at1 : pos 0 ≤ℤ (n .d0 +ℤ n .d2 -ℤ n .d1)
+  pub at2 : pos 0 ≤ℤ (n .d0 +ℤ n .d1 -ℤ n .d2)
 
 pub record Started (p : Vec3) (n : Numbers) : Type 0 where
   pub vector : isVector p ≡ true

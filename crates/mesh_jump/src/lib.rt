@@ -6,21 +6,21 @@ use mesh_bends::Bends;
 use vector::Vec3;
 ghost use mathlib.Core.Path.{_≡_};
 ghost use mathlib.Core.Bool.{true};
-ghost use Prim.Native.Nat.{_*_, _^_, _≤_, _<_};
+ghost use Prim.Native.Nat.{_+_, _*_, _^_, _≤_, _<_};
 ghost use lib.Dec.{eqb};
-ghost use lib.IntN.{pos};
+ghost use lib.IntN.{pos, _+ℤ_, _-ℤ_, _*ℤ_};
 ghost use lib.Signed.{_≤ℤ_};
 ghost use Rattle.algebra.proofs.Sizes.{Upto};
 ghost use Rattle.jump.proofs.Jump.{det};
 ghost use Rattle.jump.proofs.JumpInvariant.{pushed};
 ghost use Rattle.jump.proofs.JumpConstants.{δ};
 ghost use Rattle.jump.proofs.UnitLaws.{three};
-ghost use Rattle.vector.proofs.Sizes.{Small};
+ghost use Rattle.vector.proofs.Sizes.{AtMost, Small};
 ghost use Rattle.mesh.specs.Trixels.{child};
 ghost use Rattle.mesh.specs.Identifiers.{cornersOf};
 ghost use Rattle.mesh_trixels.specs.Corners.{bare, SmallCorners};
 ghost use Rattle.mesh_bends.specs.Bends.{SmallBends, bendsBelow};
-ghost use Rattle.mesh_jump.specs.Jumps.{Above, Below, turnedOf, lessOf, atCorner, inMiddle, beginOf, Within, NotNegative, Started, Sure, childAt, Entry, along, Jumped, Reached};
+ghost use Rattle.mesh_jump.specs.Jumps.{Above, Below, turnedOf, lessOf, atCorner, InMiddle, inMiddle, beginOf, Within, NotNegative, Started, Sure, childAt, Entry, along, Jumped, Reached};
 
 // Three numbers that follow a pointing from a trixel to its children, and the margin beyond which their differences give the child. At the start each is
 // the volume of two corners and the pointing, pushed outward.
@@ -68,14 +68,22 @@ const UNBENT: Bends = Bends { a0: 0, a1: 0, a2: 0 };
 // The digit of a child that is not sure.
 const UNSURE: u64 = 4;
 
+// How much a push outward in S0's octant adds along n.
+fn push_along(n: Vec3) -> i64
+    requires { ⌜ AtMost (2 ^ 41) n ⌝ }
+    ensures { λ r. ⌜ (r ≡ δ *ℤ (n .x +ℤ n .y -ℤ n .z)) × Upto (15 * 2 ^ 41) r ⌝ }
+{
+    PUSH * (n.x + n.y - n.z)
+}
+
 // (a × b)·c, with c pushed outward in S0's octant.
 fn volume(a: Vec3, b: Vec3, c: Vec3) -> i64
     requires { ⌜ Small a × Small b ⌝ }
     requires { ⌜ Small c ⌝ }
-    ensures { λ r. ⌜ r ≡ det (three a) (three b) (pushed δ (three c)) ⌝ }
+    ensures { λ r. ⌜ (r ≡ det (three a) (three b) (pushed δ (three c))) × Upto (3 * 2 ^ 61 + 15 * 2 ^ 41) r ⌝ }
 {
     let n = vector_products::cross(a, b);
-    vector_products::dot(c, n) + PUSH * (n.x + n.y - n.z)
+    vector_products::dot(c, n) + push_along(n)
 }
 
 // The numbers of p at the corners c, with the first margin.
@@ -150,11 +158,30 @@ fn turned(n: Numbers) -> Numbers
 
 // d, less the part a of BEND_UNIT of it.
 fn less(d: i64, a: i64) -> i64
-    requires { ⌜ (pos 0 ≤ℤ d) × Upto (2 ^ 62) d ⌝ }
+    requires { ⌜ (pos 0 ≤ℤ d) × Upto (3 * 2 ^ 61) d ⌝ }
     requires { ⌜ Upto (2 ^ 20) a ⌝ }
-    ensures { λ r. ⌜ r ≡ lessOf d a ⌝ }
+    ensures { λ r. ⌜ (r ≡ lessOf d a) × Upto (3 * 2 ^ 61 + 2 ^ 59) r ⌝ }
 {
     d - (d as u64 / BEND_UNIT) as i64 * a
+}
+
+// Twice d, less that part of it.
+fn twice_less(d: i64, a: i64) -> i64
+    requires { ⌜ (pos 0 ≤ℤ d) × Upto (2 ^ 61) d ⌝ }
+    requires { ⌜ Upto (2 ^ 20) a ⌝ }
+    ensures { λ r. ⌜ (r ≡ lessOf (pos 2 *ℤ d) a) × Upto (3 * 2 ^ 61 + 2 ^ 59) r ⌝ }
+{
+    less(2 * d, a)
+}
+
+// What x and y have beyond z, less that part of it.
+fn excess_less(x: i64, y: i64, z: i64, a: i64) -> i64
+    requires { ⌜ Upto (2 ^ 61) x × Upto (2 ^ 61) y × Upto (2 ^ 61) z ⌝ }
+    requires { ⌜ pos 0 ≤ℤ (x +ℤ y -ℤ z) ⌝ }
+    requires { ⌜ Upto (2 ^ 20) a ⌝ }
+    ensures { λ r. ⌜ (r ≡ lessOf (x +ℤ y -ℤ z) a) × Upto (3 * 2 ^ 61 + 2 ^ 59) r ⌝ }
+{
+    less(x + y - z, a)
 }
 
 // The numbers of the child at the first corner; b and c are the bends of the edges to the second and the third.
@@ -166,8 +193,8 @@ fn at_corner(n: Numbers, b: i64, c: i64) -> Numbers
 {
     Numbers {
         d0: n.d0 - n.d1 - n.d2,
-        d1: less(2 * n.d1, b),
-        d2: less(2 * n.d2, c),
+        d1: twice_less(n.d1, b),
+        d2: twice_less(n.d2, c),
         margin: 2 * n.margin,
     }
 }
@@ -175,15 +202,14 @@ fn at_corner(n: Numbers, b: i64, c: i64) -> Numbers
 // Those of the child in the middle, with the bends a.
 fn in_middle(n: Numbers, a: Bends) -> Numbers
     requires { ⌜ Within n ⌝ }
-    requires { ⌜ NotNegative n ⌝ }
-    requires { ⌜ Below n × Below (turnedOf n) × Below (turnedOf (turnedOf n)) ⌝ }
+    requires { ⌜ InMiddle n ⌝ }
     requires { ⌜ SmallBends a ⌝ }
     ensures { λ r. ⌜ r ≡ inMiddle n a ⌝ }
 {
     Numbers {
-        d0: less(n.d1 + n.d2 - n.d0, a.a0),
-        d1: less(n.d0 + n.d2 - n.d1, a.a1),
-        d2: less(n.d0 + n.d1 - n.d2, a.a2),
+        d0: excess_less(n.d1, n.d2, n.d0, a.a0),
+        d1: excess_less(n.d0, n.d2, n.d1, a.a1),
+        d2: excess_less(n.d0, n.d1, n.d2, a.a2),
         margin: 2 * n.margin,
     }
 }
