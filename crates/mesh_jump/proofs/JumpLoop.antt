@@ -1,7 +1,7 @@
 -- The jump level by level: what is left of the descent from the trixel reached is what it was from the start, and the numbers follow p at that trixel.
 -- Assumes nothing.
 --   Jumping    after k of n levels from the corners c and the identifier i₀
---   starting, known-entry    the start, with what is known of an entry of the table
+--   starting, known-at       the start, with what is known of an entry of the table
 --   advance-bent, advance-flat   a level whose trixels are known, with their bends; a level from depth 7 on
 --   within, not-negative, far-below   no number leaves its type
 use Prim.Native.Nat.{ℕ, zero, suc, _+_, _-_, _*_, _/_, _%_, _^_, _≤_, _<_}
@@ -156,8 +156,12 @@ module _ {p : Vec3} {c : Corners} {k i : ℕ} {d : Numbers} (f : Following p c k
 
 -- ---- the start
 
-pub known-entry : (c : Corners) → Entry c → Known 0 (bendsOf c) (volumeOf c) (bare c)
+known-entry : (c : Corners) → Entry c → Known 0 (bendsOf c) (volumeOf c) (bare c)
 known-entry c e = subst (λ c. Known 0 (bendsOf c) (volumeOf c) (bare c)) (sym (e .is)) (known-bare (known-start (e .d) (e .e) (e .d-low) (e .e-low)))
+
+pub known-at : (c : Corners) (i : ℕ) → Entry c → Known 0 (bendsOf c) (volumeOf c) (along 0 i (bare c))
+unfolding along
+known-at c i e = known-entry c e
 
 pub starting : (p : Vec3) (c : Corners) → Entry c → (n₀ : Numbers) → n₀ ≡ beginOf p c → Started p n₀ → (n i : ℕ) → Jumping p c n i i 0 n₀
 unfolding along marginAt

@@ -265,6 +265,13 @@ fn bends_below(k: u32, a: Bends, d: u64) -> Bends
     }
 }
 
+// How many of n levels are bent.
+fn bent_levels(n: u32) -> u32
+    ensures { λ r. ⌜ (r ≤ n) × (r ≤ 4) ⌝ }
+{
+    if n < BENT_LEVELS { n } else { BENT_LEVELS }
+}
+
 // The digits of p below the entry of the table with the corners c and the identifier id, as many of n as are sure, but at most those of the bent levels.
 fn bent_digits(p: Vec3, c: Corners, id: u64, n: u32) -> BentDigits
     requires { ⌜ Small p ⌝ }
@@ -277,7 +284,7 @@ fn bent_digits(p: Vec3, c: Corners, id: u64, n: u32) -> BentDigits
     if !can_start(p, numbers) {
         return BentDigits { count: 0, id: id, numbers: numbers };
     }
-    let limit = if n < BENT_LEVELS { n } else { BENT_LEVELS };
+    let limit = bent_levels(n);
     let mut bends = mesh_bends::bends_of(c);
     let mut i = id;
     let mut k: u32 = 0;

@@ -98,7 +98,7 @@ child-numbers-spec =
     let t = c .before .before in
     let a = above-before-told2 t in
     let s = a .before in
-    done (s .args .n) (s .args .a) (c .chosen .ensures) (c .before .at-corner .ensures ∙ cornered refl (s .pre .1 .1 .a2) (s .pre .1 .1 .a1))
+    done (s .args .n) (s .args .a) (c .chosen .ensures) (c .before .at-corner .ensures ∙ cornered {n = s .args .n} refl (s .pre .1 .1 .a2) (s .pre .1 .1 .a1))
     (at0 (a .is-above .ensures (t .before .before .if1 .taken))))
     (λ c κs. search needs)
     (λ c κs. search needs)
