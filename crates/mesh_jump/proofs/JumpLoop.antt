@@ -33,7 +33,8 @@ use Rattle.mesh_bends.specs.Bends.{bendsOf, bendsBelow}
 use Rattle.mesh_bends.proofs.Known.{Known, facts, below, volume-large, known-bare}
 use Rattle.mesh_bends.proofs.Computed.{known-start}
 use Rattle.mesh_jump.specs.declared.Numbers.{Numbers}
-use Rattle.mesh_jump.specs.Jumps.{lessOf, beginOf, Within, NotNegative, Started, Sure, at0, at1, at2, at3, unsure, Entry, along, volumeOf, StandsAt, FollowsAt, Following, Jumped}
+use Rattle.mesh_jump.specs.declared.BentDigits.{BentDigits}
+use Rattle.mesh_jump.specs.Jumps.{lessOf, beginOf, Within, NotNegative, Started, Sure, at0, at1, at2, at3, unsure, Entry, along, volumeOf, StandsAt, FollowsAt, Following, Jumped, Reached}
 use Rattle.mesh_jump.proofs.StartLaws.{pointing, upto-of, sum-most}
 use Rattle.mesh_jump.proofs.JumpLaws.{stands-below}
 use Rattle.mesh_jump.proofs.JumpPath.{Next, stands-known, next-known, next-flat}
@@ -250,6 +251,17 @@ module _ (p : Vec3) (c : Corners) (small : Small p) (n i₀ i k : ℕ) (d : Numb
       let w : 4 ^ k ≤ 4 ^ 9 = pow-le-pow-right {n = 4} (lit< tt) {i = k} {j = 9} (omega (arith, j .upto)) in
       let r : i < 2 ^ 40 * 4 ^ k = j .room (2 ^ 40) h in
       omega arith
+
+-- after the bent levels
+pub reached : {p : Vec3} {c : Corners} {n i₀ : ℕ} (r : BentDigits) → Reached p c i₀ n r → 4 ≤ r .count → Jumping p c n i₀ (r .id) (r .count) (r .numbers)
+reached {p} {c} r h four =
+    let e : r .count ≡ 4 = omega (arith, h .most) in
+    record {
+      upto = h .jumped .upto;
+      room = h .jumped .room;
+      left = h .jumped .goes-on;
+      following = subst (λ k. Following p c k (r .id) (r .numbers)) (sym e) (h .following e);
+    }
 
 -- no digit
 pub none : (p : Vec3) (c : Corners) (i n : ℕ) → Jumped p c i n (record { count = 0; id = i })

@@ -150,5 +150,6 @@ pub record Jumped (p : Vec3) (c : Corners) (i n : ℕ) (r : SureDigits) : Type 0
   pub goes-on : (m : ℕ) → descend p (r .count + m) (bare c) i ≡ descend p m (along (r .count) (r .id) (bare c)) (r .id)
 
 pub record Reached (p : Vec3) (c : Corners) (i n : ℕ) (r : BentDigits) : Type 0 where
+  pub most : r .count ≤ 4
   pub jumped : Jumped p c i n (record { count = r .count; id = r .id })
   pub following : r .count ≡ 4 → Following p c 4 (r .id) (r .numbers)

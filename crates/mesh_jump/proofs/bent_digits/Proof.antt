@@ -74,7 +74,9 @@ so-far : (l : tie.At-loop Inv-loop μ-loop)
     → Reached (start-before-loop l .args .p) (start-before-loop l .args .c) (start-before-loop l .args .id) (start-before-loop l .args .n) (record { count = l .loop .k; id = l .loop .i; numbers = l .loop .numbers })
 so-far l =
     let s = start-before-loop l in
+    let v = l .loop .inv in
     record {
+      most = omega (arith, v .3, v .4);
       jumped = jumped (s .args .p) (s .args .c) (s .pre .0) _ _ _ _ _ (all l .0) (l .loop .inv .0);
       following = λ e. subst (λ k. Following (s .args .p) (s .args .c) k (l .loop .i) (l .loop .numbers)) e (all l .0 .following);
     }
@@ -89,7 +91,7 @@ bent-digits-spec =
     (λ c κs. search needs)
     (λ c.
     let s = c .before .before .before in
-    record { jumped = none (s .args .p) (s .args .c) (s .args .id) (s .args .n); following = λ e. absurd (omega (arith, e)) })
+    record { most = omega arith; jumped = none (s .args .p) (s .args .c) (s .args .id) (s .args .n); following = λ e. absurd (omega (arith, e)) })
     (λ c κs. search needs)
     (λ c κs. start-before-else1 (c .before) .pre .1 .0)
     (λ c.
