@@ -1,38 +1,47 @@
--- `mesh_table::corners_at` has the corners of an entry, each turned. Assumes nothing.
 use borrow.Author.Needs.{needs}
-use mathlib.Core.Path.{sym, ap, subst, _∙_}
-use Rattle.mesh.specs.Rotations.{turnedBy}
-use Rattle.mesh_trixels.specs.Corners.{tripleOf, SmallCorners}
 use Rattle.mesh_table.proofs.corners_at.Statement.{statement}
 use Rattle.mesh_table.proofs.corners_at.Tie as tie
+use Rattle.mesh_table.proofs.corners_at.Reads as reads
+use Rattle.mesh_table.proofs.corners_at.Lts as lts
+use Rattle.mesh_table.proofs.vector_at.Reads as vector-at-reads
+use Rattle.mesh_trixels.proofs.triple.Reads as triple-reads
 
+-- src/lib.rt:116:9
+vector-at-requires : tie.Need-vector-at-requires
+vector-at-requires c κs = search needs
+
+-- src/lib.rt:117:33
+add-vector-at : tie.Need-add-vector-at
+add-vector-at c = search needs
+
+-- src/lib.rt:117:9
+vector-at-requires-2 : tie.Need-vector-at-requires-2
+vector-at-requires-2 c κs = search needs
+
+-- src/lib.rt:118:33
+add-vector-at-2 : tie.Need-add-vector-at-2
+add-vector-at-2 c = search needs
+
+-- src/lib.rt:118:9
+vector-at-requires-3 : tie.Need-vector-at-requires-3
+vector-at-requires-3 c κs = search needs
+
+-- src/lib.rt:119:5
+triple-requires : tie.Need-triple-requires
+triple-requires c κs = search needs
+
+-- src/lib.rt:111:1
 returns : tie.Need-returns
-returns c =
-    let third = c .before in
-    let second = third .before .before in
-    let first = second .before .before in
-    let g = first .before .before in
-    let k = g .args .k in
-    let e = c .triple .ensures in
-    let t0 = first .turned .ensures in
-    let t1 = second .turned2 .ensures in
-    let t2 = third .turned3 .ensures in
-    let v0 = t0 .0 ∙ ap (turnedBy k) (first .before .vector-at .ensures .0) in
-    let v1 = t1 .0 ∙ ap (turnedBy k) (second .before .vector-at2 .ensures .0) in
-    let v2 = t2 .0 ∙ ap (turnedBy k) (third .before .vector-at3 .ensures .0) in
-    (e ∙ (λ j. tripleOf (v0 j) (v1 j) (v2 j)), subst SmallCorners (sym e) (record { v0 = t0 .1; v1 = t1 .1; v2 = t2 .1 }))
+returns c = ?
 
 pub corners-at-spec : {M : Type 1} → statement M
 corners-at-spec =
     tie.close
     (tie.spec
-    (λ c κs. search needs)
-    (λ c κs. search needs)
-    (λ c. search needs)
-    (λ c κs. search needs)
-    (λ c κs. search needs)
-    (λ c. search needs)
-    (λ c κs. search needs)
-    (λ c κs. search needs)
-    (λ c κs. search needs)
+    vector-at-requires
+    add-vector-at
+    vector-at-requires-2
+    add-vector-at-2
+    vector-at-requires-3
+    triple-requires
     returns)
