@@ -1,28 +1,44 @@
--- `mesh_lookup::identifier_below` goes on behind the digits of the jump, from the corners along them. Assumes nothing.
-use native.Mathlib.Omega.{arith}
-use mathlib.Core.Path.{_∙_}
-use Rattle.mesh_lookup.proofs.DescentLaws.{all-sure, some-left, sure-below}
+use borrow.Author.Needs.{needs}
 use Rattle.mesh_lookup.proofs.identifier_below.Statement.{statement}
 use Rattle.mesh_lookup.proofs.identifier_below.Tie as tie
+use Rattle.mesh_lookup.proofs.identifier_below.Reads as reads
+use Rattle.mesh_lookup.proofs.identifier_below.Lts as lts
+use Rattle.mesh_jump.proofs.jump.Reads as jump-reads
+use Rattle.mesh_lookup.proofs.rest_of.Reads as rest-of-reads
+use Rattle.mesh_table.proofs.rotation.Reads as rotation-reads
+use Rattle.mesh_table.proofs.turned_corners.Reads as turned-corners-reads
+
+-- src/lib.rt:233:9
+jump-requires : tie.Need-jump-requires
+jump-requires c κs = ?
+
+-- src/lib.rt:235:9
+returns : tie.Need-returns
+returns c = ?
+
+-- src/lib.rt:239:36
+rotation-requires : tie.Need-rotation-requires
+rotation-requires c κs = search needs
+
+-- src/lib.rt:239:9
+turned-corners-requires : tie.Need-turned-corners-requires
+turned-corners-requires c κs = search needs
+
+-- src/lib.rt:237:5
+rest-of-requires : tie.Need-rest-of-requires
+rest-of-requires c κs = ?
+
+-- src/lib.rt:226:1
+returns-2 : tie.Need-returns-2
+returns-2 c = ?
 
 pub identifier-below-spec : {M : Type 1} → statement M
 identifier-below-spec =
     tie.close
     (tie.spec
-    (λ c κs. (c .pre .0, (c .pre .1 .0, (omega (arith, c .pre .1 .1 .0), c .pre .1 .1 .1))))
-    (λ c.
-    let j = c .before in
-    let s = j .before in
-    all-sure (s .args .p) (s .args .c) (s .args .id) (s .args .n) (j .jump .result) (j .jump .ensures) (c .if1 .taken))
-    (λ c κs. c .before .before .pre .1 .0)
-    (λ c. omega (arith, c .before .before .jump .ensures .upto))
-    (λ c κs.
-    let j = c .before .before in
-    let s = j .before in
-    let q = s .pre in
-    (q .0, (c .corners-along .ensures .1, (sure-below (s .args .p) (s .args .c) (s .args .id) (s .args .n) (j .jump .result) (j .jump .ensures) (q .1 .1 .0) (q .1 .1 .1), omega (arith, q .1 .1 .1)))))
-    (λ c.
-    let d = c .before in
-    let j = d .before .before in
-    let s = j .before in
-    c .descend .ensures .is ∙ some-left (s .args .p) (s .args .c) (s .args .id) (s .args .n) (j .jump .result) (j .jump .ensures) _ (d .corners-along .ensures .0)))
+    jump-requires
+    returns
+    rotation-requires
+    turned-corners-requires
+    rest-of-requires
+    returns-2)

@@ -1,47 +1,29 @@
+-- `mesh_table::corners_at` has the corners of an entry. Assumes nothing.
 use borrow.Author.Needs.{needs}
+use mathlib.Core.Path.{sym, subst, _∙_}
+use Rattle.mesh_trixels.specs.Corners.{tripleOf, SmallCorners}
 use Rattle.mesh_table.proofs.corners_at.Statement.{statement}
 use Rattle.mesh_table.proofs.corners_at.Tie as tie
-use Rattle.mesh_table.proofs.corners_at.Reads as reads
-use Rattle.mesh_table.proofs.corners_at.Lts as lts
-use Rattle.mesh_table.proofs.vector_at.Reads as vector-at-reads
-use Rattle.mesh_trixels.proofs.triple.Reads as triple-reads
 
--- src/lib.rt:116:9
-vector-at-requires : tie.Need-vector-at-requires
-vector-at-requires c κs = search needs
-
--- src/lib.rt:117:33
-add-vector-at : tie.Need-add-vector-at
-add-vector-at c = search needs
-
--- src/lib.rt:117:9
-vector-at-requires-2 : tie.Need-vector-at-requires-2
-vector-at-requires-2 c κs = search needs
-
--- src/lib.rt:118:33
-add-vector-at-2 : tie.Need-add-vector-at-2
-add-vector-at-2 c = search needs
-
--- src/lib.rt:118:9
-vector-at-requires-3 : tie.Need-vector-at-requires-3
-vector-at-requires-3 c κs = search needs
-
--- src/lib.rt:119:5
-triple-requires : tie.Need-triple-requires
-triple-requires c κs = search needs
-
--- src/lib.rt:111:1
 returns : tie.Need-returns
-returns c = ?
+returns c =
+    let third = c .before in
+    let second = third .before in
+    let first = second .before in
+    let e = c .triple .ensures in
+    let v0 = first .vector-at .ensures in
+    let v1 = second .vector-at2 .ensures in
+    let v2 = third .vector-at3 .ensures in
+    (e ∙ (λ j. tripleOf (v0 .0 j) (v1 .0 j) (v2 .0 j)), subst SmallCorners (sym e) (record { v0 = v0 .1; v1 = v1 .1; v2 = v2 .1 }))
 
 pub corners-at-spec : {M : Type 1} → statement M
 corners-at-spec =
     tie.close
     (tie.spec
-    vector-at-requires
-    add-vector-at
-    vector-at-requires-2
-    add-vector-at-2
-    vector-at-requires-3
-    triple-requires
+    (λ c κs. search needs)
+    (λ c. search needs)
+    (λ c κs. search needs)
+    (λ c. search needs)
+    (λ c κs. search needs)
+    (λ c κs. search needs)
     returns)

@@ -1,32 +1,20 @@
+-- `mesh_table::turned_corners` turns the corners one after the other. Assumes nothing.
 use borrow.Author.Needs.{needs}
+use mathlib.Core.Path.{sym, subst, _∙_}
+use Rattle.mesh_trixels.specs.Corners.{tripleOf, SmallCorners}
 use Rattle.mesh_table.proofs.turned_corners.Statement.{statement}
 use Rattle.mesh_table.proofs.turned_corners.Tie as tie
-use Rattle.mesh_table.proofs.turned_corners.Reads as reads
-use Rattle.mesh_table.proofs.turned_corners.Lts as lts
-use Rattle.mesh_table.proofs.turned.Reads as turned-reads
-use Rattle.mesh_trixels.proofs.triple.Reads as triple-reads
 
--- src/lib.rt:128:9
-turned-requires : tie.Need-turned-requires
-turned-requires c κs = search needs
-
--- src/lib.rt:129:9
-turned-requires-2 : tie.Need-turned-requires-2
-turned-requires-2 c κs = search needs
-
--- src/lib.rt:130:9
-turned-requires-3 : tie.Need-turned-requires-3
-turned-requires-3 c κs = search needs
-
--- src/lib.rt:131:5
-triple-requires : tie.Need-triple-requires
-triple-requires c κs = search needs
-
--- src/lib.rt:123:1
 returns : tie.Need-returns
-returns c = ?
+returns c =
+    let third = c .before in
+    let second = third .before in
+    let first = second .before in
+    let e = c .triple .ensures in
+    let v0 = first .turned .ensures in
+    let v1 = second .turned2 .ensures in
+    let v2 = third .turned3 .ensures in
+    (e ∙ (λ j. tripleOf (v0 .0 j) (v1 .0 j) (v2 .0 j)), subst SmallCorners (sym e) (record { v0 = v0 .1; v1 = v1 .1; v2 = v2 .1 }))
 
 pub turned-corners-spec : {M : Type 1} → statement M
-turned-corners-spec =
-    tie.close
-    (tie.spec turned-requires turned-requires-2 turned-requires-3 triple-requires returns)
+turned-corners-spec = tie.close (tie.spec (λ c κs. search needs) (λ c κs. search needs) (λ c κs. search needs) (λ c κs. search needs) returns)
