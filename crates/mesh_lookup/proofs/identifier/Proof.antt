@@ -1,75 +1,50 @@
-use borrow.Author.Needs.{needs}
+-- `mesh_lookup::identifier` is the identifier at a depth: to depth 2 from the root, deeper from the table. Assumes nothing.
+use Prim.Native.Nat.{_+_, _-_}
+use native.Mathlib.Omega.{arith}
+use mathlib.Core.Path.{_≡_, ap, _∙_}
+use Rattle.mesh.specs.Lookup as rule
+use Rattle.mesh_trixels.specs.Corners.{bare}
+use Rattle.mesh_lookup.proofs.AnswerLaws.{at-root, from-root, at-three, from-table-start}
 use Rattle.mesh_lookup.proofs.identifier.Statement.{statement}
 use Rattle.mesh_lookup.proofs.identifier.Tie as tie
-use Rattle.mesh_lookup.proofs.identifier.Reads as reads
-use Rattle.mesh_lookup.proofs.identifier.Lts as lts
-use Rattle.mesh_lookup.proofs.descend.Reads as descend-reads
-use Rattle.mesh_lookup.proofs.from_table.Reads as from-table-reads
-use Rattle.mesh_lookup.proofs.identifier_below.Reads as identifier-below-reads
-use Rattle.mesh_lookup.proofs.root_number.Reads as root-number-reads
-use Rattle.mesh_trixels.proofs.root_corners.Reads as root-corners-reads
 
--- src/lib.rt:251:9
-root-number-requires : tie.Need-root-number-requires
-root-number-requires c κs = search needs
-
--- src/lib.rt:253:16
-add-result : tie.Need-add-result
-add-result c = search needs
-
--- src/lib.rt:253:9
-returns : tie.Need-returns
-returns c = ?
-
--- src/lib.rt:256:30
-root-corners-requires : tie.Need-root-corners-requires
-root-corners-requires c κs = search needs
-
--- src/lib.rt:256:64
-add-descend : tie.Need-add-descend
-add-descend c = search needs
-
--- src/lib.rt:256:13
-descend-requires : tie.Need-descend-requires
-descend-requires c κs = search needs
-
--- src/lib.rt:257:9
-returns-2 : tie.Need-returns-2
-returns-2 c = ?
-
--- src/lib.rt:259:9
-from-table-requires : tie.Need-from-table-requires
-from-table-requires c κs = search needs
-
--- src/lib.rt:261:9
-returns-3 : tie.Need-returns-3
-returns-3 c = ?
-
--- src/lib.rt:263:38
-sub-identifier-below : tie.Need-sub-identifier-below
-sub-identifier-below c = search needs
-
--- src/lib.rt:263:5
-identifier-below-requires : tie.Need-identifier-below-requires
-identifier-below-requires c κs = ?
-
--- src/lib.rt:246:1
-returns-4 : tie.Need-returns-4
-returns-4 c = ?
+-- Named anchors: the states that the proofs below read from, each named with a later state that leads back to it.
+abbrev root-before-table : tie.After-from-table → tie.After-root-number
+root-before-table c = c .before .before .before
 
 pub identifier-spec : {M : Type 1} → statement M
 identifier-spec =
     tie.close
     (tie.spec
-    root-number-requires
-    add-result
-    returns
-    root-corners-requires
-    add-descend
-    descend-requires
-    returns-2
-    from-table-requires
-    returns-3
-    sub-identifier-below
-    identifier-below-requires
-    returns-4)
+    (λ c κs. c .pre .0)
+    (λ c. omega (arith, c .before .root-number .ensures .1))
+    (λ c. let g = c .before in at-root (g .before .args .p) (g .before .args .depth) _ (g .root-number .ensures .0) (c .if1 .taken))
+    (λ c κs. c .before .before .root-number .ensures .1)
+    (λ c. omega (arith, c .before .before .before .root-number .ensures .1))
+    (λ c κs.
+    let g = c .before .before .before in
+    (g .before .pre .0, (c .root-corners .ensures .1, (omega (arith, g .root-number .ensures .1), omega arith))))
+    (λ c.
+    let t = c .before .before in
+    let g = t .before .before in
+    let s = g .before in
+    let z : 1 ≡ s .args .depth - 1 = omega (arith, t .if2 .taken) in
+    c .descend .ensures .is
+    ∙ ap (λ m. rule.descend (s .args .p) m (bare (c .before .root-corners .result)) (8 + g .root-number .result)) z
+    ∙ from-root (s .args .p) (s .args .depth) _ (g .root-number .ensures .0) _ (c .before .root-corners .ensures .0))
+    (λ c κs. let g = c .before .before in (g .before .pre .0, g .root-number .ensures .1))
+    (λ c.
+    let t = c .before in
+    let g = root-before-table t in
+    at-three (g .before .args .p) (g .before .args .depth) _ (g .root-number .ensures .0) (t .from-table .result) (c .if3 .taken) (t .from-table .ensures))
+    (λ c. let t = c .before in omega (arith, t .before .before .if1 .left, t .before .if2 .left, root-before-table t .before .pre .1))
+    (λ c κs.
+    let t = c .before in
+    let g = root-before-table t in
+    (g .before .pre .0, (g .root-number .ensures .1, (t .from-table .ensures, omega (arith, g .before .pre .1)))))
+    (λ c.
+    let t = c .before .before in
+    let g = root-before-table t in
+    c .identifier-below .ensures
+    ∙ from-table-start (g .before .args .p) (g .before .args .depth) _ (g .root-number .ensures .0) (t .from-table .result)
+    (omega (arith, t .before .before .if1 .left, t .before .if2 .left, g .before .pre .1)) (t .from-table .ensures)))
