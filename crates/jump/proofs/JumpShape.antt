@@ -11,8 +11,7 @@ use Rattle.algebra.proofs.Claim.{_:≤_, _:<_, _:≡_, nat, hyp, sq, eqn, _⊕_
 use Rattle.algebra.proofs.Inequalities.{`0, `1, ≤ℤ-by-no, sq-≤ℤ, cancel-≤ℤ, <ℤ-mul, <ℤ→≤ℤ}
 use Rattle.algebra.proofs.Vec.{V3, dot, dot-nn}
 use Rattle.jump.proofs.Jump.{Size}
-use Rattle.jump.proofs.JumpChild.{Made, Bend, Apart, both}
-use Rattle.jump.proofs.JumpSide.{rests}
+use Rattle.jump.proofs.JumpInvariant.{Quotients, rests, Bend, Apart, both}
 use Rattle.jump.proofs.Lengths.{Long, sumOf, differenceOf, times, long-sum, long-times, long-divided, long-components, long-x, long-y, long-z}
 
 abbrev `2 : Expr
@@ -90,7 +89,7 @@ rest-square {n} r p q s = prove 4
     refl n (r .x) (r .y) (r .z) (p .low) (p .high) (q .low) (q .high) (s .low) (s .high)
 
 -- the rests have the signs of w: w·rest is not negative
-pub new-corner : {k h : ℤ} {m w : V3} (a : Made k h m w) → pos 4 ≤ℤ k → k ≤ℤ (pos 2 *ℤ k -ℤ h) → Rooted k h m → pos 0 ≤ℤ dot w (rests a) → Corner k w
+pub new-corner : {k h : ℤ} {m w : V3} (a : Quotients k h m w) → pos 4 ≤ℤ k → k ≤ℤ (pos 2 *ℤ k -ℤ h) → Rooted k h m → pos 0 ≤ℤ dot w (rests a) → Corner k w
 new-corner {k} {h} {m} {w} a k4 kn root sign =
     let n : ℤ = pos 2 *ℤ k -ℤ h in
     let r : V3 = rests a in
@@ -204,7 +203,7 @@ module _ {k A c c' j : ℤ} (l : Shaping k A c c' j) where
     high = prove 3 (λ k h r. record { given = (:neg `2 :≤ h) ∷ (r :≤ `2 :* k :- h) ∷ []; goal = r :≤ `2 :* k :+ `2; cert = hyp 0 ⊕ hyp 1 }) refl k h r (b .low) (s .high);
   }
 
-  pub rest-long : {h : ℤ} {m w : V3} → Bend A h → (a : Made k h m w) → Long j (rests a)
+  pub rest-long : {h : ℤ} {m w : V3} → Bend A h → (a : Quotients k h m w) → Long j (rests a)
   rest-long b a = long-components (l .j-nn) (l .rest) (rest-one b (a .x .size)) (rest-one b (a .y .size)) (rest-one b (a .z .size))
 
   negative-long : {t : ℤ} {r : V3} → Long t r → Long t (times (negℤ (pos 1)) r)
@@ -222,7 +221,7 @@ module _ {k A c c' j : ℤ} (l : Shaping k A c c' j) where
       e = ring 2 (λ x y. x :+ :neg `1 :* y :≡ x :- y) refl
 
   -- an edge between two new corners, one of which may be an old one
-  pub edge-halved : {h i : ℤ} {m n v w : V3} → Bend A h → Bend A i → (a : Made k h m v) → (b : Made k i n w) → Corner k w → Long c (differenceOf m n) → Long c' (differenceOf v w)
+  pub edge-halved : {h i : ℤ} {m n v w : V3} → Bend A h → Bend A i → (a : Quotients k h m v) → (b : Quotients k i n w) → Corner k w → Long c (differenceOf m n) → Long c' (differenceOf v w)
   edge-halved {h} {i} {m} {n} {v} {w} bh bi a b cw e =
       let sum : Long (k *ℤ c +ℤ (A *ℤ (k +ℤ pos 1) +ℤ (j +ℤ j))) (sumOf (times k (differenceOf m n)) (sumOf (times (h -ℤ i) w) (differenceOf (rests b) (rests a)))) =
       long-sum (long-times k-nn (itself k k-nn) e) (long-sum (long-times (l .A-nn) (apart bh bi) (corner-long cw)) (difference-long (rest-long bi b) (rest-long bh a))) in

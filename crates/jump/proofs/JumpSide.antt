@@ -1,5 +1,7 @@
 -- The side of a cut by the jump's numbers. With c = w2 × w1 and f0 = d0 − d1 − d2, K c·P = K f0 c·v0 + d1 c·r2 + d2 c·r1; so where f0 is beyond a margin M,
--- c·p is beyond 3 times the largest component of c, with the sign of f0. And the start, by Cramer. Assumes nothing.
+-- c·p is beyond 3 times the largest component of c, with the sign of f0. Assumes nothing.
+--   place      P = d0 v0 + d1 v1 + d2 v2
+--   Taxi       the sum of the sizes of a vector's components is at most t
 use mathlib.Core.Path.{_≡_, refl, subst, _∙_, ap}
 use mathlib.Core.List.{[], _∷_}
 use lib.IntN.{ℤ, pos, negℤ, _+ℤ_, _-ℤ_, _*ℤ_}
@@ -8,39 +10,14 @@ use Rattle.algebra.proofs.Ring.{Expr, con, _:+_, _:-_, _:*_, :neg}
 use Rattle.algebra.proofs.Claim.{_:≤_, _:<_, _:≡_, nat, hyp, eqn, _⊕_, _⊗_, prove}
 use Rattle.algebra.proofs.Inequalities.{`0, `1, <ℤ-by-no}
 use Rattle.algebra.proofs.Vec.{V3, E3, dot, cross, dotE, crossE, ringV}
-use Rattle.jump.proofs.Jump.{Size, size-mul, det, cramer-x, cramer-y, cramer-z}
-use Rattle.jump.proofs.JumpStep.{Near}
-use Rattle.jump.proofs.JumpChild.{Follows, Made, both}
+use Rattle.jump.proofs.Jump.{Size, size-mul}
+use Rattle.jump.proofs.JumpInvariant.{Quotients, rests, both}
 
 abbrev `2 : Expr
 `2 = con (pos 2)
 
 abbrev `3 : Expr
 `3 = con (pos 3)
-
--- ---- the start: e = 1, l = det(v0, v1, v2), and nothing is lost
-
-begins : (u S P g q : ℤ) → P ≡ g *ℤ q → Near u (pos 0) (pos 1) g S P q
-begins u S P g q h = record {
-  low = prove 5 (λ u S P g q. record { given = (P :≡ g :* q) ∷ []; goal = :neg (`0 :* `1 :* S) :≤ u :* (`1 :* P :- g :* q); cert = eqn 0 (:neg u) }) refl u S P g q h;
-  high = prove 5 (λ u S P g q. record { given = (P :≡ g :* q) ∷ []; goal = u :* (`1 :* P :- g :* q) :≤ `0 :* `1 :* S; cert = eqn 0 u }) refl u S P g q h;
-}
-
-pub start : (u : ℤ) (v0 v1 v2 p : V3) → pos 0 <ℤ det v0 v1 v2 → pos 0 ≤ℤ det v1 v2 p → pos 0 ≤ℤ det v2 v0 p → pos 0 ≤ℤ det v0 v1 p
-    → Follows u (pos 0) (det v1 v2 p +ℤ det v2 v0 p +ℤ det v0 v1 p) (det v1 v2 p) (det v2 v0 p) (det v0 v1 p) v0 v1 v2 p
-start u v0 v1 v2 p some n0 n1 n2 = record {
-  e = pos 1;
-  l = det v0 v1 v2;
-  e-positive = prove 0 (record { given = []; goal = `0 :< `1; cert = nat 0 }) refl;
-  l-positive = some;
-  d0-nn = n0;
-  d1-nn = n1;
-  d2-nn = n2;
-  sum = refl;
-  x = begins u _ _ (det v0 v1 v2) (p .x) (cramer-x v0 v1 v2 p);
-  y = begins u _ _ (det v0 v1 v2) (p .y) (cramer-y v0 v1 v2 p);
-  z = begins u _ _ (det v0 v1 v2) (p .z) (cramer-z v0 v1 v2 p);
-}
 
 -- ---- P, and products with it
 
@@ -64,9 +41,6 @@ place-along c d0 d1 d2 v0 v1 v2 = ringV 5
     (λ c d v0 v1 v2. dotE c (placeE d v0 v1 v2) :≡ d .x :* dotE c v0 :+ d .y :* dotE c v1 :+ d .z :* dotE c v2)
     refl c (record { x = d0; y = d1; z = d2 }) v0 v1 v2
 
-abbrev pub rests : {k h : ℤ} {m w : V3} → Made k h m w → V3
-rests c = record { x = c .x .rest; y = c .y .rest; z = c .z .rest }
-
 along : (n k cx cy cz mx my mz wx wy wz rx ry rz : ℤ)
     → n *ℤ wx ≡ k *ℤ mx -ℤ rx → n *ℤ wy ≡ k *ℤ my -ℤ ry → n *ℤ wz ≡ k *ℤ mz -ℤ rz
     → n *ℤ (cx *ℤ wx +ℤ cy *ℤ wy +ℤ cz *ℤ wz) ≡ k *ℤ (cx *ℤ mx +ℤ cy *ℤ my +ℤ cz *ℤ mz) -ℤ (cx *ℤ rx +ℤ cy *ℤ ry +ℤ cz *ℤ rz)
@@ -79,7 +53,7 @@ along = prove 14
     refl
 
 -- a corner along c
-pub made-along : {k h : ℤ} {m w : V3} (c : V3) (a : Made k h m w) → (pos 2 *ℤ k -ℤ h) *ℤ dot c w ≡ k *ℤ dot c m -ℤ dot c (rests a)
+pub made-along : {k h : ℤ} {m w : V3} (c : V3) (a : Quotients k h m w) → (pos 2 *ℤ k -ℤ h) *ℤ dot c w ≡ k *ℤ dot c m -ℤ dot c (rests a)
 made-along {k} {h} {m} {w} c a = along (pos 2 *ℤ k -ℤ h) k (c .x) (c .y) (c .z) (m .x) (m .y) (m .z) (w .x) (w .y) (w .z) (a .x .rest) (a .y .rest) (a .z .rest)
     (a .x .is) (a .y .is) (a .z .is)
 
@@ -106,7 +80,7 @@ side-of = prove 13
     })
     refl
 
-pub side-identity : {k h1 h2 : ℤ} (v0 v1 v2 : V3) {w1 w2 : V3} (d0 d1 d2 : ℤ) (c1 : Made k h1 (both v0 v2) w1) (c2 : Made k h2 (both v0 v1) w2)
+pub side-identity : {k h1 h2 : ℤ} (v0 v1 v2 : V3) {w1 w2 : V3} (d0 d1 d2 : ℤ) (c1 : Quotients k h1 (both v0 v2) w1) (c2 : Quotients k h2 (both v0 v1) w2)
     → k *ℤ dot (cross w2 w1) (place d0 d1 d2 v0 v1 v2)
     ≡ k *ℤ (d0 -ℤ d1 -ℤ d2) *ℤ dot (cross w2 w1) v0 +ℤ (d1 *ℤ dot (cross w2 w1) (rests c2) +ℤ d2 *ℤ dot (cross w2 w1) (rests c1))
 side-identity {k} {h1} {h2} v0 v1 v2 {w1} {w2} d0 d1 d2 c1 c2 =
@@ -163,21 +137,18 @@ cancel-<ℤ {a} {b} {c} h k = <ℤ-by-no
     })
     refl a b c h k)
 
--- g = c·v0, y = d1 c·r2 + d2 c·r1, o = c·p, i = u c·(e P − l p), t and m the sum and the largest of c's components, M the margin
-pub beyond : (k u e l b S f g y o i t n m M q q' : ℤ)
-    → u *ℤ k *ℤ l *ℤ o ≡ u *ℤ e *ℤ (k *ℤ f *ℤ g +ℤ y) -ℤ k *ℤ i
-    → negℤ (S *ℤ t *ℤ n) ≤ℤ y → i ≤ℤ (t *ℤ (b *ℤ e *ℤ S)) → (q *ℤ l) ≤ℤ (q' *ℤ e *ℤ S)
-    → (pos 3 *ℤ u *ℤ k *ℤ q' *ℤ S *ℤ m +ℤ q *ℤ (u *ℤ S *ℤ t *ℤ n +ℤ k *ℤ t *ℤ b *ℤ S)) ≤ℤ (q *ℤ u *ℤ k *ℤ M *ℤ g)
-    → M <ℤ f → pos 0 ≤ℤ g → pos 0 ≤ℤ k → pos 0 ≤ℤ u → pos 0 ≤ℤ e → pos 0 ≤ℤ q → pos 0 ≤ℤ m → pos 0 <ℤ (q *ℤ u *ℤ k *ℤ e *ℤ g)
-    → (q *ℤ u *ℤ k *ℤ l *ℤ (pos 3 *ℤ m)) <ℤ (q *ℤ u *ℤ k *ℤ l *ℤ o)
-beyond = prove 17
-    (λ k u e l b S f g y o i t n m M q q'. record {
-      given = (u :* k :* l :* o :≡ u :* e :* (k :* f :* g :+ y) :- k :* i)
-          ∷ (:neg (S :* t :* n) :≤ y) ∷ (i :≤ t :* (b :* e :* S)) ∷ (q :* l :≤ q' :* e :* S)
-          ∷ (`3 :* u :* k :* q' :* S :* m :+ q :* (u :* S :* t :* n :+ k :* t :* b :* S) :≤ q :* u :* k :* M :* g)
-          ∷ (M :< f) ∷ (`0 :≤ g) ∷ (`0 :≤ k) ∷ (`0 :≤ u) ∷ (`0 :≤ e) ∷ (`0 :≤ q) ∷ (`0 :≤ m) ∷ (`0 :< q :* u :* k :* e :* g) ∷ [];
-      goal = q :* u :* k :* l :* (`3 :* m) :< q :* u :* k :* l :* o;
-      cert = eqn 0 (:neg q) ⊕ hyp 10 ⊗ hyp 8 ⊗ hyp 9 ⊗ hyp 1 ⊕ hyp 10 ⊗ hyp 7 ⊗ hyp 2 ⊕ hyp 10 ⊗ hyp 8 ⊗ hyp 9 ⊗ hyp 7 ⊗ hyp 6 ⊗ hyp 5
-          ⊕ hyp 9 ⊗ hyp 4 ⊕ nat 3 ⊗ hyp 8 ⊗ hyp 7 ⊗ hyp 11 ⊗ hyp 3 ⊕ hyp 12;
+-- g = c·v0, o = c·p, i what else the numbers say along c, at most t E l in size after the factor s; m the largest of c's components, M the margin
+pub beyond : (k u e l f g o i t m M s E D G : ℤ) → s *ℤ (u *ℤ k *ℤ l *ℤ o) ≡ s *ℤ (u *ℤ e *ℤ (k *ℤ f *ℤ g)) +ℤ i → negℤ (t *ℤ (E *ℤ l)) ≤ℤ i → (D *ℤ l) ≤ℤ (e *ℤ G)
+    → (G *ℤ (t *ℤ E +ℤ pos 3 *ℤ m *ℤ (s *ℤ u *ℤ k))) ≤ℤ (s *ℤ u *ℤ k *ℤ M *ℤ (D *ℤ g))
+    → M <ℤ f → pos 0 ≤ℤ k → pos 0 ≤ℤ u → pos 0 ≤ℤ e → pos 0 ≤ℤ s → pos 0 ≤ℤ m → pos 0 ≤ℤ t → pos 0 ≤ℤ E → pos 0 ≤ℤ D → pos 0 <ℤ (D *ℤ s *ℤ u *ℤ k *ℤ e *ℤ g) → pos 0 ≤ℤ g
+    → (D *ℤ s *ℤ u *ℤ k *ℤ l *ℤ (pos 3 *ℤ m)) <ℤ (D *ℤ s *ℤ u *ℤ k *ℤ l *ℤ o)
+beyond = prove 15
+    (λ k u e l f g o i t m M s E D G. record {
+      given = (s :* (u :* k :* l :* o) :≡ s :* (u :* e :* (k :* f :* g)) :+ i) ∷ (:neg (t :* (E :* l)) :≤ i) ∷ (D :* l :≤ e :* G)
+          ∷ (G :* (t :* E :+ `3 :* m :* (s :* u :* k)) :≤ s :* u :* k :* M :* (D :* g))
+          ∷ (M :< f) ∷ (`0 :≤ k) ∷ (`0 :≤ u) ∷ (`0 :≤ e) ∷ (`0 :≤ s) ∷ (`0 :≤ m) ∷ (`0 :≤ t) ∷ (`0 :≤ E) ∷ (`0 :≤ D) ∷ (`0 :< D :* s :* u :* k :* e :* g) ∷ (`0 :≤ g) ∷ [];
+      goal = D :* s :* u :* k :* l :* (`3 :* m) :< D :* s :* u :* k :* l :* o;
+      cert = eqn 0 (:neg D) ⊕ hyp 12 ⊗ hyp 1 ⊕ (hyp 10 ⊗ hyp 11 ⊕ nat 3 ⊗ hyp 9 ⊗ hyp 8 ⊗ hyp 6 ⊗ hyp 5) ⊗ hyp 2 ⊕ hyp 7 ⊗ hyp 3
+          ⊕ hyp 12 ⊗ hyp 8 ⊗ hyp 6 ⊗ hyp 5 ⊗ hyp 7 ⊗ hyp 14 ⊗ hyp 4 ⊕ hyp 13;
     })
     refl

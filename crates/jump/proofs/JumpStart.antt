@@ -1,99 +1,102 @@
--- The start of the jump: the three determinants of exact corners and p follow p with nothing lost, and their sum S is nearly the volume. Assumes nothing.
-use mathlib.Core.Path.{_≡_, refl, subst}
+-- The start of the jump: the three determinants of exact corners and p, pushed outward, follow it with nothing lost, by Cramer, and their sum is nearly the volume.
+-- Assumes nothing.
+use mathlib.Core.Path.{_≡_, refl, subst, ap, _∙_}
 use mathlib.Core.List.{[], _∷_}
-use lib.IntN.{ℤ, pos, _+ℤ_, _-ℤ_, _*ℤ_}
-use lib.Signed.{_≤ℤ_, _<ℤ_, <ℤ-≤ℤ-trans}
+use lib.IntN.{ℤ, pos, negℤ, _+ℤ_, _-ℤ_, _*ℤ_}
+use lib.Signed.{_≤ℤ_, _<ℤ_, leZ-yes, ltZ-yes, <ℤ-≤ℤ-trans}
 use Rattle.algebra.proofs.Ring.{Expr, con, _:+_, _:-_, _:*_, :neg}
-use Rattle.algebra.proofs.Claim.{_:≤_, _:<_, _:≡_, nat, hyp, sq, eqn, _⊕_, _⊗_, prove}
-use Rattle.algebra.proofs.Inequalities.{`0, `1, <ℤ→≤ℤ, <ℤ-mul, <ℤ-by-no}
+use Rattle.algebra.proofs.Order.{≤ℤ-trans}
+use Rattle.algebra.proofs.Claim.{_:≤_, _:<_, _:≡_, nat, hyp, eqn, _⊕_, _⊗_, ring, prove}
+use Rattle.algebra.proofs.Inequalities.{`0, `1, cancel-≤ℤ, <ℤ→≤ℤ}
 use Rattle.algebra.proofs.Vec.{V3, dot, dotE, crossE, ringV}
-use Rattle.jump.proofs.Jump.{det}
-use Rattle.jump.proofs.JumpSide.{start}
-use Rattle.jump.proofs.Lengths.{Long, differenceOf, flip}
+use Rattle.jump.proofs.Jump.{Size, det, cramer-x, cramer-y, cramer-z}
+use Rattle.jump.proofs.JumpInvariant.{Near, Follows, pushed}
 use Rattle.jump.proofs.JumpShape.{Corner}
-use Rattle.jump.proofs.JumpVolume.{Shape}
-use Rattle.jump.proofs.JumpLevel.{Here, Pointing, meet}
+use Rattle.jump.proofs.JumpLevel.{Pointing, meet}
+use Rattle.jump.proofs.JumpConstants.{k, u, δ, D, least, constantsAt, boundsAt}
 
 abbrev `2 : Expr
 `2 = con (pos 2)
 
+abbrev `3 : Expr
+`3 = con (pos 3)
+
 -- Cramer along any f
-pub cramer-along : (f v0 v1 v2 q : V3) → det v1 v2 q *ℤ dot f v0 +ℤ det v2 v0 q *ℤ dot f v1 +ℤ det v0 v1 q *ℤ dot f v2 ≡ det v0 v1 v2 *ℤ dot f q
+cramer-along : (f v0 v1 v2 q : V3) → det v1 v2 q *ℤ dot f v0 +ℤ det v2 v0 q *ℤ dot f v1 +ℤ det v0 v1 q *ℤ dot f v2 ≡ det v0 v1 v2 *ℤ dot f q
 cramer-along = ringV 5
     (λ f v0 v1 v2 q. dotE (crossE v1 v2) q :* dotE f v0 :+ dotE (crossE v2 v0) q :* dotE f v1 :+ dotE (crossE v0 v1) q :* dotE f v2 :≡ dotE (crossE v0 v1) v2 :* dotE f q)
     refl
 
--- two corners at most c apart
-near-product : (k c : ℤ) (a b : V3) → Corner k a → Corner k b → Long c (differenceOf a b) → (pos 2 *ℤ ((k -ℤ pos 2) *ℤ (k -ℤ pos 2)) -ℤ c *ℤ c) ≤ℤ (pos 2 *ℤ dot a b)
-near-product k c a b p q e = prove 8
-    (λ k c x y z p q r. record {
-      given = ((k :- `2) :* (k :- `2) :≤ x :* x :+ y :* y :+ z :* z) ∷ ((k :- `2) :* (k :- `2) :≤ p :* p :+ q :* q :+ r :* r)
-          ∷ ((x :- p) :* (x :- p) :+ (y :- q) :* (y :- q) :+ (z :- r) :* (z :- r) :≤ c :* c) ∷ [];
-      goal = `2 :* ((k :- `2) :* (k :- `2)) :- c :* c :≤ `2 :* (x :* p :+ y :* q :+ z :* r);
-      cert = hyp 0 ⊕ hyp 1 ⊕ hyp 2;
-    })
-    refl k c (a .x) (a .y) (a .z) (b .x) (b .y) (b .z) (p .least) (q .least) (e .square)
+-- ---- nothing is lost
 
-own-product : (k c : ℤ) (a : V3) → Corner k a → (pos 2 *ℤ ((k -ℤ pos 2) *ℤ (k -ℤ pos 2)) -ℤ c *ℤ c) ≤ℤ (pos 2 *ℤ dot a a)
-own-product k c a p = prove 3
-    (λ k c s. record { given = ((k :- `2) :* (k :- `2) :≤ s) ∷ []; goal = `2 :* ((k :- `2) :* (k :- `2)) :- c :* c :≤ `2 :* s; cert = nat 2 ⊗ hyp 0 ⊕ sq c })
-    refl k c (dot a a) (p .least)
+begins : (u S P g q : ℤ) → P ≡ g *ℤ q → Near u (pos 0) (pos 0) (pos 1) g S P q
+begins u S P g q h = record {
+  behind = prove 5 (λ u S P g q. record { given = (P :≡ g :* q) ∷ []; goal = :neg (`0 :* `1 :* S) :≤ u :* (`1 :* P :- g :* q); cert = eqn 0 (:neg u) }) refl u S P g q h;
+  ahead = prove 5 (λ u S P g q. record { given = (P :≡ g :* q) ∷ []; goal = u :* (`1 :* P :- g :* q) :≤ `0 :* `1 :* S; cert = eqn 0 u }) refl u S P g q h;
+}
 
-bounded-by : (d0 d1 d2 g x0 x1 x2 y w q : ℤ) → d0 *ℤ x0 +ℤ d1 *ℤ x1 +ℤ d2 *ℤ x2 ≡ g *ℤ y → w ≤ℤ (pos 2 *ℤ x0) → w ≤ℤ (pos 2 *ℤ x1) → w ≤ℤ (pos 2 *ℤ x2) → y ≤ℤ q
-    → pos 0 ≤ℤ d0 → pos 0 ≤ℤ d1 → pos 0 ≤ℤ d2 → pos 0 ≤ℤ g → ((d0 +ℤ d1 +ℤ d2) *ℤ w) ≤ℤ (g *ℤ (pos 2 *ℤ q))
-bounded-by = prove 10
-    (λ d0 d1 d2 g x0 x1 x2 y w q. record {
-      given = (d0 :* x0 :+ d1 :* x1 :+ d2 :* x2 :≡ g :* y) ∷ (w :≤ `2 :* x0) ∷ (w :≤ `2 :* x1) ∷ (w :≤ `2 :* x2) ∷ (y :≤ q)
-          ∷ (`0 :≤ d0) ∷ (`0 :≤ d1) ∷ (`0 :≤ d2) ∷ (`0 :≤ g) ∷ [];
-      goal = (d0 :+ d1 :+ d2) :* w :≤ g :* (`2 :* q);
-      cert = eqn 0 `2 ⊕ hyp 5 ⊗ hyp 1 ⊕ hyp 6 ⊗ hyp 2 ⊕ hyp 7 ⊗ hyp 3 ⊕ nat 2 ⊗ hyp 8 ⊗ hyp 4;
+opposite : (d0 d1 d2 a b c g q : ℤ) → d0 *ℤ a +ℤ d1 *ℤ b +ℤ d2 *ℤ c ≡ g *ℤ q → d0 *ℤ negℤ a +ℤ d1 *ℤ negℤ b +ℤ d2 *ℤ negℤ c ≡ g *ℤ negℤ q
+opposite = prove 8
+    (λ d0 d1 d2 a b c g q. record {
+      given = (d0 :* a :+ d1 :* b :+ d2 :* c :≡ g :* q) ∷ [];
+      goal = d0 :* :neg a :+ d1 :* :neg b :+ d2 :* :neg c :≡ g :* :neg q;
+      cert = eqn 0 (:neg `1);
     })
     refl
 
-module _ {k c : ℤ} (u D : ℤ) (v0 v1 v2 p : V3) (t : Shape k c v0 v1 v2) (some : pos 0 <ℤ det v0 v1 v2)
-    (n0 : pos 0 ≤ℤ det v1 v2 p) (n1 : pos 0 ≤ℤ det v2 v0 p) (n2 : pos 0 ≤ℤ det v0 v1 p) where
-  pub here-start : Here k u (pos 0) c D (D *ℤ det v0 v1 v2) (det v1 v2 p +ℤ det v2 v0 p +ℤ det v0 v1 p) (det v1 v2 p) (det v2 v0 p) (det v0 v1 p) v0 v1 v2 p
-  here-start = record {
-    follows = start u v0 v1 v2 p some n0 n1 n2;
-    shape = t;
-    large = prove 1 (λ a. record { given = []; goal = a :≤ a; cert = nat 0 }) refl (D *ℤ det v0 v1 v2);
+-- ---- the sum is large
+
+-- p·(p pushed) is at least p·p less what the push may take
+pushed-least : (k δ : ℤ) (p : V3) → Pointing k p → pos 0 ≤ℤ δ → ((k -ℤ pos 2) *ℤ (k -ℤ pos 2) -ℤ pos 3 *ℤ k *ℤ δ) ≤ℤ dot p (pushed δ p)
+pushed-least k δ p pt h = prove 5
+    (λ k δ x y z. record {
+      given = ((k :- `2) :* (k :- `2) :≤ x :* x :+ y :* y :+ z :* z) ∷ (`0 :≤ δ) ∷ (:neg k :≤ x) ∷ (:neg k :≤ y) ∷ (z :≤ k) ∷ [];
+      goal = (k :- `2) :* (k :- `2) :- `3 :* k :* δ :≤ x :* (x :+ δ) :+ y :* (y :+ δ) :+ z :* (z :- δ);
+      cert = hyp 0 ⊕ hyp 1 ⊗ (hyp 2 ⊕ hyp 3 ⊕ hyp 4);
+    })
+    refl k δ (p .x) (p .y) (p .z) (pt .least) h (pt .x .low) (pt .y .low) (pt .z .high)
+
+sum-by : (d0 d1 d2 g x0 x1 x2 y q w v : ℤ) → d0 *ℤ x0 +ℤ d1 *ℤ x1 +ℤ d2 *ℤ x2 ≡ g *ℤ y → x0 ≤ℤ q → x1 ≤ℤ q → x2 ≤ℤ q → pos 0 ≤ℤ d0 → pos 0 ≤ℤ d1 → pos 0 ≤ℤ d2
+    → w ≤ℤ y → v ≤ℤ g → pos 0 ≤ℤ g → pos 0 ≤ℤ w → (w *ℤ v) ≤ℤ (q *ℤ (d0 +ℤ d1 +ℤ d2))
+sum-by = prove 11
+    (λ d0 d1 d2 g x0 x1 x2 y q w v. record {
+      given = (d0 :* x0 :+ d1 :* x1 :+ d2 :* x2 :≡ g :* y) ∷ (x0 :≤ q) ∷ (x1 :≤ q) ∷ (x2 :≤ q) ∷ (`0 :≤ d0) ∷ (`0 :≤ d1) ∷ (`0 :≤ d2) ∷ (w :≤ y) ∷ (v :≤ g) ∷ (`0 :≤ g) ∷ (`0 :≤ w) ∷ [];
+      goal = w :* v :≤ q :* (d0 :+ d1 :+ d2);
+      cert = hyp 10 ⊗ hyp 8 ⊕ hyp 9 ⊗ hyp 7 ⊕ eqn 0 (:neg `1) ⊕ hyp 4 ⊗ hyp 1 ⊕ hyp 5 ⊗ hyp 2 ⊕ hyp 6 ⊗ hyp 3;
+    })
+    refl
+
+module _ (v0 v1 v2 p : V3) (c0 : Corner k v0) (c1 : Corner k v1) (c2 : Corner k v2) (pt : Pointing k p) (large : least ≤ℤ det v0 v1 v2)
+    (n0 : pos 0 ≤ℤ det v1 v2 (pushed δ p)) (n1 : pos 0 ≤ℤ det v2 v0 (pushed δ p)) (n2 : pos 0 ≤ℤ det v0 v1 (pushed δ p)) where
+  abbrev q : V3
+  q = pushed δ p
+
+  abbrev g : ℤ
+  g = det v0 v1 v2
+
+  positive : pos 0 <ℤ g
+  positive = <ℤ-≤ℤ-trans {b = least} (ltZ-yes tt) large
+
+  sum-large : constantsAt 0 .floor ≤ℤ (det v1 v2 q +ℤ det v2 v0 q +ℤ det v0 v1 q)
+  unfolding constantsAt
+  sum-large = cancel-≤ℤ {c = (k +ℤ pos 2) *ℤ (k +ℤ pos 2)} (ltZ-yes tt) (≤ℤ-trans {b = ((k -ℤ pos 2) *ℤ (k -ℤ pos 2) -ℤ pos 3 *ℤ k *ℤ δ) *ℤ least} (leZ-yes tt)
+      (sum-by (det v1 v2 q) (det v2 v0 q) (det v0 v1 q) g (dot p v0) (dot p v1) (dot p v2) (dot p q) ((k +ℤ pos 2) *ℤ (k +ℤ pos 2)) _ least
+      (cramer-along p v0 v1 v2 q) (meet k p v0 (leZ-yes tt) (pt .most) (c0 .most)) (meet k p v1 (leZ-yes tt) (pt .most) (c1 .most)) (meet k p v2 (leZ-yes tt) (pt .most) (c2 .most))
+      n0 n1 n2 (pushed-least k δ p pt (leZ-yes tt)) large (<ℤ→≤ℤ positive) (leZ-yes tt)))
+
+  pub start : Follows u D (boundsAt 0 g) (det v1 v2 q) (det v2 v0 q) (det v0 v1 q) v0 v1 v2 q
+  unfolding constantsAt
+  start = record {
+    e = pos 1;
+    l = g;
+    e-positive = ltZ-yes tt;
+    l-positive = positive;
+    held = prove 1 (λ g. record { given = []; goal = con D :* g :≤ `1 :* (con D :* g); cert = nat 0 }) refl g;
+    d0-nn = n0;
+    d1-nn = n1;
+    d2-nn = n2;
+    large = sum-large;
+    x = begins u _ _ g (q .x) (cramer-x v0 v1 v2 q);
+    y = begins u _ _ g (q .y) (cramer-y v0 v1 v2 q);
+    z = begins u _ _ g (negℤ (q .z)) (opposite (det v1 v2 q) (det v2 v0 q) (det v0 v1 q) (v0 .z) (v1 .z) (v2 .z) g (q .z) (cramer-z v0 v1 v2 q));
   }
-
-  pub sum-bounded : pos 0 ≤ℤ k → Pointing k p
-      → ((det v1 v2 p +ℤ det v2 v0 p +ℤ det v0 v1 p) *ℤ (pos 2 *ℤ ((k -ℤ pos 2) *ℤ (k -ℤ pos 2)) -ℤ c *ℤ c)) ≤ℤ (det v0 v1 v2 *ℤ (pos 2 *ℤ ((k +ℤ pos 2) *ℤ (k +ℤ pos 2))))
-  sum-bounded h pt = bounded-by (det v1 v2 p) (det v2 v0 p) (det v0 v1 p) (det v0 v1 v2) (dot v0 v0) (dot v0 v1) (dot v0 v2) (dot v0 p) _ _
-      (cramer-along v0 v0 v1 v2 p) (own-product k c v0 (t .corner0)) (near-product k c v0 v1 (t .corner0) (t .corner1) (t .edge01))
-      (near-product k c v0 v2 (t .corner0) (t .corner2) (flip v2 v0 (t .edge20)))
-      (subst (λ z. z ≤ℤ ((k +ℤ pos 2) *ℤ (k +ℤ pos 2))) (swapped p v0) (meet k p v0 h (pt .most) (t .corner0 .most)))
-      n0 n1 n2 (<ℤ→≤ℤ some)
-    where
-      swapped : (a b : V3) → dot a b ≡ dot b a
-      swapped = ringV 2 (λ a b. dotE a b :≡ dotE b a) refl
-
-  -- the sum is positive: it is at least the volume times p·p over the most of a corner and p
-  pub sum-positive : pos 4 ≤ℤ k → Pointing k p → pos 0 <ℤ (det v1 v2 p +ℤ det v2 v0 p +ℤ det v0 v1 p)
-  sum-positive h pt = <ℤ-by-no
-      (none (det v1 v2 p) (det v2 v0 p) (det v0 v1 p) (det v0 v1 v2) (dot p v0) (dot p v1) (dot p v2) (dot p p) ((k +ℤ pos 2) *ℤ (k +ℤ pos 2))
-      (cramer-along p v0 v1 v2 p) (<ℤ-mul some (<ℤ-≤ℤ-trans (<ℤ-mul (less k h) (less k h)) (pt .least)))
-      (meet k p v0 (nn k h) (pt .most) (t .corner0 .most)) (meet k p v1 (nn k h) (pt .most) (t .corner1 .most)) (meet k p v2 (nn k h) (pt .most) (t .corner2 .most))
-      n0 n1 n2 (square-nn (k +ℤ pos 2)))
-    where
-      less : (k : ℤ) → pos 4 ≤ℤ k → pos 0 <ℤ (k -ℤ pos 2)
-      less = prove 1 (λ k. record { given = (con (pos 4) :≤ k) ∷ []; goal = `0 :< k :- `2; cert = hyp 0 ⊕ nat 1 }) refl
-
-      nn : (k : ℤ) → pos 4 ≤ℤ k → pos 0 ≤ℤ k
-      nn = prove 1 (λ k. record { given = (con (pos 4) :≤ k) ∷ []; goal = `0 :≤ k; cert = hyp 0 ⊕ nat 4 }) refl
-
-      square-nn : (a : ℤ) → pos 0 ≤ℤ (a *ℤ a)
-      square-nn = prove 1 (λ a. record { given = []; goal = `0 :≤ a :* a; cert = sq a }) refl
-
-      none : (d0 d1 d2 g x0 x1 x2 y q : ℤ) → d0 *ℤ x0 +ℤ d1 *ℤ x1 +ℤ d2 *ℤ x2 ≡ g *ℤ y → pos 0 <ℤ (g *ℤ y) → x0 ≤ℤ q → x1 ≤ℤ q → x2 ≤ℤ q
-          → pos 0 ≤ℤ d0 → pos 0 ≤ℤ d1 → pos 0 ≤ℤ d2 → pos 0 ≤ℤ q → (d0 +ℤ d1 +ℤ d2) ≤ℤ pos 0 → pos 1 ≤ℤ pos 0
-      none = prove 9
-          (λ d0 d1 d2 g x0 x1 x2 y q. record {
-            given = (d0 :* x0 :+ d1 :* x1 :+ d2 :* x2 :≡ g :* y) ∷ (`0 :< g :* y) ∷ (x0 :≤ q) ∷ (x1 :≤ q) ∷ (x2 :≤ q)
-                ∷ (`0 :≤ d0) ∷ (`0 :≤ d1) ∷ (`0 :≤ d2) ∷ (`0 :≤ q) ∷ (d0 :+ d1 :+ d2 :≤ `0) ∷ [];
-            goal = `1 :≤ `0;
-            cert = eqn 0 (:neg `1) ⊕ hyp 1 ⊕ hyp 5 ⊗ hyp 2 ⊕ hyp 6 ⊗ hyp 3 ⊕ hyp 7 ⊗ hyp 4 ⊕ hyp 8 ⊗ hyp 9;
-          })
-          refl

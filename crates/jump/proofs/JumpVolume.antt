@@ -10,8 +10,8 @@ use Rattle.algebra.proofs.Claim.{_:≤_, _:<_, _:≡_, nat, hyp, sq, eqn, _⊕_
 use Rattle.algebra.proofs.Inequalities.{`0, `1, ≤ℤ-by-no, ≤ℤ-mul, sq-≤ℤ, <ℤ-mul, <ℤ→≤ℤ}
 use Rattle.algebra.proofs.Vec.{V3, E3, dot, cross, dotE, crossE, ringV}
 use Rattle.jump.proofs.Jump.{Size, det}
-use Rattle.jump.proofs.JumpChild.{Made, Bend, both}
-use Rattle.jump.proofs.JumpSide.{rests, Taxi}
+use Rattle.jump.proofs.JumpInvariant.{Quotients, rests, Bend, both}
+use Rattle.jump.proofs.JumpSide.{Taxi}
 use Rattle.jump.proofs.Lengths.{Long, differenceOf, flip, times, long-dot, long-sum, long-cross}
 use Rattle.jump.proofs.JumpShape.{Corner, Shaping, corner-long, rest-long, same-vector}
 
@@ -23,7 +23,7 @@ abbrev `3 : Expr
 
 -- ---- vectors
 
-pub made-vector : {k h : ℤ} {m w : V3} (a : Made k h m w) → times (pos 2 *ℤ k -ℤ h) w ≡ differenceOf (times k m) (rests a)
+pub made-vector : {k h : ℤ} {m w : V3} (a : Quotients k h m w) → times (pos 2 *ℤ k -ℤ h) w ≡ differenceOf (times k m) (rests a)
 made-vector a = same-vector (a .x .is) (a .y .is) (a .z .is)
 
 abbrev detE : E3 → E3 → E3 → Expr
@@ -191,7 +191,7 @@ module _ {k A c c' j D G G' : ℤ} (l : Shaping k A c c' j) (v : Shrinking k c j
   n-most {h} b = prove 2 (λ k h. record { given = (:neg `2 :≤ h) ∷ []; goal = `2 :* k :- h :≤ `2 :* k :+ `2; cert = hyp 0 }) refl k h (b .low)
 
   -- child 0, with the normal of its cut: det(w2, w1, v0)
-  pub child-large : {h1 h2 : ℤ} {w1 w2 : V3} → Bend A h1 → Bend A h2 → (c1 : Made k h1 (both v0 v2) w1) → (c2 : Made k h2 (both v0 v1) w2) → G' ≤ℤ (D *ℤ det w2 w1 v0)
+  pub child-large : {h1 h2 : ℤ} {w1 w2 : V3} → Bend A h1 → Bend A h2 → (c1 : Quotients k h1 (both v0 v2) w1) → (c2 : Quotients k h2 (both v0 v1) w2) → G' ≤ℤ (D *ℤ det w2 w1 v0)
   child-large {h1} {h2} {w1} {w2} b1 b2 c1 c2 =
       two-divided (pos 2 *ℤ k -ℤ h2) (pos 2 *ℤ k -ℤ h1) (pos 2 *ℤ k +ℤ pos 2) (D *ℤ det w2 w1 v0) G' (n-nn b2) (n-most b2) (n-nn b1) (n-most b1) N-positive (v .some)
       (child-least k D G G' (det v0 v1 v2) (j *ℤ ((k +ℤ pos 1) *ℤ c)) ((k +ℤ pos 1) *ℤ (j *ℤ j)) (dot (rests c1) (cross v0 v1)) (dot (rests c2) (cross v2 v0)) (dot v0 (cross (rests c2) (rests c1)))
@@ -204,7 +204,7 @@ module _ {k A c c' j D G G' : ℤ} (l : Shaping k A c c' j) (v : Shrinking k c j
 
   -- the middle child
   pub middle-large : {h0 h1 h2 : ℤ} {w0 w1 w2 : V3} → Bend A h0 → Bend A h1 → Bend A h2
-      → (c0 : Made k h0 (both v1 v2) w0) → (c1 : Made k h1 (both v0 v2) w1) → (c2 : Made k h2 (both v0 v1) w2) → G' ≤ℤ (D *ℤ det w0 w1 w2)
+      → (c0 : Quotients k h0 (both v1 v2) w0) → (c1 : Quotients k h1 (both v0 v2) w1) → (c2 : Quotients k h2 (both v0 v1) w2) → G' ≤ℤ (D *ℤ det w0 w1 w2)
   middle-large {h0} {h1} {h2} {w0} {w1} {w2} b0 b1 b2 c0 c1 c2 =
       let s0 : V3 = both v1 v2 in
       let s1 : V3 = both v0 v2 in

@@ -1,11 +1,12 @@
 pub mod Jump
+pub mod JumpStep
 pub mod JumpChild
 pub mod JumpConstants
+pub mod JumpInvariant
 pub mod JumpLevel
 pub mod JumpShape
 pub mod JumpSide
 pub mod JumpStart
-pub mod JumpStep
 pub mod JumpSure
 pub mod JumpVolume
 pub mod Lengths

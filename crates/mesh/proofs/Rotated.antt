@@ -34,7 +34,7 @@ module _ {f : Vec3 → Vec3} (h : Rotates f) where
   cut-at-by : (a b c : Vec3) → cutAt (f a) (f b) (f c) ≡ cutBy (cutAt a b c)
   cut-at-by a b c = λ j. record { w0 = f a; w1 = f b; w2 = f c; c0 = normal-by c b j; c1 = normal-by a c j; c2 = normal-by b a j }
 
-  cut-by : (t : Trixel) → cut (trixelBy t) ≡ cutBy (cut t)
+  pub cut-by : (t : Trixel) → cut (trixelBy t) ≡ cutBy (cut t)
   unfolding cut
   cut-by t = (λ j. cutAt (middle-by (t .v1) (t .v2) j) (middle-by (t .v0) (t .v2) j) (middle-by (t .v0) (t .v1) j)) ∙ cut-at-by _ _ _
 

@@ -1,26 +1,29 @@
-// The jump in code: from exact corners of depth 6 the digits of a pointing by three numbers, doubled from level to level, as far as a margin makes them
-// sure. What the functions give stands in specs/Jumps; why the digits are those of the rule, in proofs/JumpPath and jump/proofs/JumpLevel.
-use limits::K;
+// The jump in code: from the corners of an entry of the table the digits of a pointing by three numbers, doubled from level to level and made less by the bends
+// of the edges, as far as a margin makes them sure; and the corners along sure digits. What the functions give stands in specs/Jumps; why the digits are those
+// of the rule, in proofs/JumpLaws and jump/proofs/JumpLevel.
 use mesh::Corners;
+use mesh_bends::Bends;
 use vector::Vec3;
 ghost use mathlib.Core.Path.{_≡_};
 ghost use mathlib.Core.Bool.{true};
-ghost use Prim.Native.Nat.{_*_, _^_, _≤_, _<_};
+ghost use Prim.Native.Nat.{_+_, _*_, _^_, _≤_, _<_};
+ghost use lib.Dec.{eqb};
+ghost use lib.IntN.{pos, _+ℤ_, _-ℤ_, _*ℤ_};
 ghost use lib.Signed.{_≤ℤ_};
 ghost use Rattle.algebra.proofs.Sizes.{Upto};
 ghost use Rattle.jump.proofs.Jump.{det};
-ghost use Rattle.jump.proofs.JumpShape.{Corner};
-ghost use Rattle.jump.proofs.JumpConstants.{least};
-ghost use Rattle.vector.specs.Numbers.{K};
-ghost use Rattle.vector.proofs.Sizes.{Small};
+ghost use Rattle.jump.proofs.JumpInvariant.{pushed};
+ghost use Rattle.jump.proofs.JumpConstants.{δ};
 ghost use Rattle.jump.proofs.UnitLaws.{three};
+ghost use Rattle.vector.proofs.Sizes.{AtMost, Small};
 ghost use Rattle.mesh.specs.Trixels.{child};
 ghost use Rattle.mesh.specs.Identifiers.{cornersOf};
 ghost use Rattle.mesh_trixels.specs.Corners.{bare, SmallCorners};
-ghost use Rattle.mesh_jump.specs.Jumps.{Above, Below, turnedOf, atCorner, inMiddle, beginOf, Within, NotNegative, ShortEdge, Shaped, Started, Sure, childAt, along, Jumped};
+ghost use Rattle.mesh_bends.specs.Bends.{SmallBends, bendsBelow};
+ghost use Rattle.mesh_jump.specs.Jumps.{Above, Below, turnedOf, lessOf, atCorner, InMiddle, inMiddle, beginOf, Within, NotNegative, Started, Sure, childAt, Entry, along, Jumped, Reached};
 
-// Three numbers that follow a pointing from a trixel to its children, and the margin beyond which their differences tell the child. At the start each is
-// the volume of two corners and the pointing.
+// Three numbers that follow a pointing from a trixel to its children, and the margin beyond which their differences give the child. At the start each is
+// the volume of two corners and the pointing, pushed outward.
 pub struct Numbers {
     pub d0: i64,
     pub d1: i64,
@@ -40,30 +43,47 @@ pub struct SureDigits {
     pub id: u64,
 }
 
-// What the start of a jump is tested for: edges at most 80200 long, corners between K − 2 and K + 1, a volume of at least 2767 · 10^12.
-const LONGEST_EDGE: u64 = 80200;
+// The same with the numbers that are reached.
+pub struct BentDigits {
+    pub count: u32,
+    pub id: u64,
+    pub numbers: Numbers,
+}
 
-const LONGEST_EDGE_SQUARE: u64 = LONGEST_EDGE * LONGEST_EDGE;
+// How far a pointing is pushed outward in each component: half of what rounding toward zero may take from corners nine levels below.
+const PUSH: i64 = 5;
 
-const SHORTEST_CORNER_SQUARE: u64 = ((K - 2) * (K - 2)) as u64;
+// The margin of the first level, 24 · 2^40. It doubles from level to level, as the numbers do.
+const FIRST_MARGIN: i64 = 26388279066624;
 
-const LONGEST_CORNER_SQUARE: u64 = ((K + 1) * (K + 1)) as u64;
+// What a bend is a part of.
+const BEND_UNIT: u64 = 16777216;
 
-const LEAST_VOLUME: i64 = 2767000000000000;
+// So many levels from the table on are bent: further down the edges are short enough.
+const BENT_LEVELS: u32 = 4;
 
-// The margin of the first level, 6 · 2^40. It doubles from level to level, as the numbers do.
-const FIRST_MARGIN: i64 = 6597069766656;
+// The bends of the levels below.
+const UNBENT: Bends = Bends { a0: 0, a1: 0, a2: 0 };
 
 // The digit of a child that is not sure.
 const UNSURE: u64 = 4;
 
-// (a × b)·c
+// How much a push outward in S0's octant adds along n.
+fn push_along(n: Vec3) -> i64
+    requires { ⌜ AtMost (2 ^ 41) n ⌝ }
+    ensures { λ r. ⌜ (r ≡ δ *ℤ (n .x +ℤ n .y -ℤ n .z)) × Upto (15 * 2 ^ 41) r ⌝ }
+{
+    PUSH * (n.x + n.y - n.z)
+}
+
+// (a × b)·c, with c pushed outward in S0's octant.
 fn volume(a: Vec3, b: Vec3, c: Vec3) -> i64
     requires { ⌜ Small a × Small b ⌝ }
     requires { ⌜ Small c ⌝ }
-    ensures { λ r. ⌜ (r ≡ det (three a) (three b) (three c)) × Upto (3 * 2 ^ 61) r ⌝ }
+    ensures { λ r. ⌜ (r ≡ det (three a) (three b) (pushed δ (three c))) × Upto (3 * 2 ^ 61 + 15 * 2 ^ 41) r ⌝ }
 {
-    vector_products::dot(c, vector_products::cross(a, b))
+    let n = vector_products::cross(a, b);
+    vector_products::dot(c, n) + push_along(n)
 }
 
 // The numbers of p at the corners c, with the first margin.
@@ -83,68 +103,9 @@ fn begin(p: Vec3, c: Corners) -> Numbers
     }
 }
 
-// Whether the edge from a to b is short enough for a jump.
-fn is_edge(a: Vec3, b: Vec3) -> bool
-    requires { ⌜ Small a ⌝ }
-    requires { ⌜ Small b ⌝ }
-    ensures { λ t. ⌜ (t ≡ true → ShortEdge a b) ⌝ }
-{
-    vector_products::square_length(vector_products::sum(a, vector_products::negated(b)))
-        <= LONGEST_EDGE_SQUARE
-}
-
-// Whether v is as long as a corner.
-fn is_corner(v: Vec3) -> bool
-    requires { ⌜ Small v ⌝ }
-    ensures { λ t. ⌜ (t ≡ true → Corner K (three v)) ⌝ }
-{
-    let s = vector_products::square_length(v);
-    if s < SHORTEST_CORNER_SQUARE {
-        return false;
-    }
-    s <= LONGEST_CORNER_SQUARE
-}
-
-// Whether the trixel with the corners c has the shape of one of depth 6.
-fn is_shaped(c: Corners) -> bool
-    requires { ⌜ SmallCorners c ⌝ }
-    ensures { λ t. ⌜ (t ≡ true → Shaped c) ⌝ }
-{
-    let v0 = c.v0;
-    let v1 = c.v1;
-    let v2 = c.v2;
-    if !is_edge(v0, v1) {
-        return false;
-    }
-    if !is_edge(v1, v2) {
-        return false;
-    }
-    if !is_edge(v2, v0) {
-        return false;
-    }
-    if !is_corner(v0) {
-        return false;
-    }
-    if !is_corner(v1) {
-        return false;
-    }
-    is_corner(v2)
-}
-
-// Whether its volume is that of one.
-fn is_large(c: Corners) -> bool
-    requires { ⌜ SmallCorners c ⌝ }
-    ensures { λ t. ⌜ (t ≡ true → least ≤ℤ det (three (c .v0)) (three (c .v1)) (three (c .v2))) ⌝ }
-{
-    let v0 = c.v0;
-    let v1 = c.v1;
-    let v2 = c.v2;
-    LEAST_VOLUME <= volume(v0, v1, v2)
-}
-
 // Whether no number is below 0.
 fn not_negative(n: Numbers) -> bool
-    ensures { λ t. ⌜ (t ≡ true → NotNegative n) ⌝ }
+    ensures { λ t. ⌜ (t ≡ true → (pos 0 ≤ℤ n .d0) × (pos 0 ≤ℤ n .d1) × (pos 0 ≤ℤ n .d2)) ⌝ }
 {
     if n.d0 < 0 {
         return false;
@@ -155,21 +116,14 @@ fn not_negative(n: Numbers) -> bool
     0 <= n.d2
 }
 
-// Whether p can be followed from the corners c by the numbers n.
-fn can_start(p: Vec3, c: Corners, n: Numbers) -> bool
-    requires { ⌜ SmallCorners c ⌝ }
-    ensures { λ t. ⌜ (t ≡ true → Started p c n) ⌝ }
+// Whether p can be followed by the numbers n.
+fn can_start(p: Vec3, n: Numbers) -> bool
+    ensures { λ t. ⌜ (t ≡ true → Started p n) ⌝ }
 {
     if !vector_products::is_vector(p) {
         return false;
     }
-    if !not_negative(n) {
-        return false;
-    }
-    if !is_large(c) {
-        return false;
-    }
-    is_shaped(c)
+    not_negative(n)
 }
 
 // Whether the place that the numbers follow is beyond the cut at the first corner, by more than the margin.
@@ -191,7 +145,8 @@ fn is_below(n: Numbers) -> bool
 // The numbers from the next corner on.
 fn turned(n: Numbers) -> Numbers
     requires { ⌜ Within n ⌝ }
-    ensures { λ r. ⌜ (r ≡ turnedOf n) × Within r ⌝ }
+    requires { ⌜ NotNegative n ⌝ }
+    ensures { λ r. ⌜ (r ≡ turnedOf n) × Within r × NotNegative r ⌝ }
 {
     Numbers {
         d0: n.d1,
@@ -201,28 +156,60 @@ fn turned(n: Numbers) -> Numbers
     }
 }
 
-// The numbers of the child at the first corner.
-fn at_corner(n: Numbers) -> Numbers
+// d, less the part a of BEND_UNIT of it.
+fn less(d: i64, a: i64) -> i64
+    requires { ⌜ (pos 0 ≤ℤ d) × Upto (3 * 2 ^ 61) d ⌝ }
+    requires { ⌜ Upto (2 ^ 20) a ⌝ }
+    ensures { λ r. ⌜ (r ≡ lessOf d a) × Upto (3 * 2 ^ 61 + 2 ^ 59) r ⌝ }
+{
+    d - (d as u64 / BEND_UNIT) as i64 * a
+}
+
+// Twice d, less that part of it.
+fn twice_less(d: i64, a: i64) -> i64
+    requires { ⌜ (pos 0 ≤ℤ d) × Upto (2 ^ 61) d ⌝ }
+    requires { ⌜ Upto (2 ^ 20) a ⌝ }
+    ensures { λ r. ⌜ (r ≡ lessOf (pos 2 *ℤ d) a) × Upto (3 * 2 ^ 61 + 2 ^ 59) r ⌝ }
+{
+    less(2 * d, a)
+}
+
+// What x and y have beyond z, less that part of it.
+fn excess_less(x: i64, y: i64, z: i64, a: i64) -> i64
+    requires { ⌜ Upto (2 ^ 61) x × Upto (2 ^ 61) y × Upto (2 ^ 61) z ⌝ }
+    requires { ⌜ pos 0 ≤ℤ (x +ℤ y -ℤ z) ⌝ }
+    requires { ⌜ Upto (2 ^ 20) a ⌝ }
+    ensures { λ r. ⌜ (r ≡ lessOf (x +ℤ y -ℤ z) a) × Upto (3 * 2 ^ 61 + 2 ^ 59) r ⌝ }
+{
+    less(x + y - z, a)
+}
+
+// The numbers of the child at the first corner; b and c are the bends of the edges to the second and the third.
+fn at_corner(n: Numbers, b: i64, c: i64) -> Numbers
     requires { ⌜ Within n ⌝ }
-    ensures { λ r. ⌜ r ≡ atCorner n ⌝ }
+    requires { ⌜ NotNegative n ⌝ }
+    requires { ⌜ Upto (2 ^ 20) b × Upto (2 ^ 20) c ⌝ }
+    ensures { λ r. ⌜ r ≡ atCorner n b c ⌝ }
 {
     Numbers {
         d0: n.d0 - n.d1 - n.d2,
-        d1: 2 * n.d1,
-        d2: 2 * n.d2,
+        d1: twice_less(n.d1, b),
+        d2: twice_less(n.d2, c),
         margin: 2 * n.margin,
     }
 }
 
-// Those of the child in the middle.
-fn in_middle(n: Numbers) -> Numbers
+// Those of the child in the middle, with the bends a.
+fn in_middle(n: Numbers, a: Bends) -> Numbers
     requires { ⌜ Within n ⌝ }
-    ensures { λ r. ⌜ r ≡ inMiddle n ⌝ }
+    requires { ⌜ InMiddle n ⌝ }
+    requires { ⌜ SmallBends a ⌝ }
+    ensures { λ r. ⌜ r ≡ inMiddle n a ⌝ }
 {
     Numbers {
-        d0: n.d1 + n.d2 - n.d0,
-        d1: n.d0 + n.d2 - n.d1,
-        d2: n.d0 + n.d1 - n.d2,
+        d0: excess_less(n.d1, n.d2, n.d0, a.a0),
+        d1: excess_less(n.d0, n.d2, n.d1, a.a1),
+        d2: excess_less(n.d0, n.d1, n.d2, a.a2),
         margin: 2 * n.margin,
     }
 }
@@ -236,49 +223,101 @@ fn chosen(digit: u64, numbers: Numbers) -> ChildNumbers
     }
 }
 
-// The child that the numbers tell, with its own; UNSURE where one of them is within the margin.
-fn child_numbers(n: Numbers) -> ChildNumbers
+// The child that the numbers give, with its own, a being the bends; UNSURE where one of them is within the margin.
+fn child_numbers(n: Numbers, a: Bends) -> ChildNumbers
     requires { ⌜ Within n ⌝ }
-    ensures { λ r. ⌜ Sure n (r .digit) (r .numbers) ⌝ }
+    requires { ⌜ NotNegative n ⌝ }
+    requires { ⌜ SmallBends a ⌝ }
+    ensures { λ r. ⌜ Sure n a (r .digit) (r .numbers) ⌝ }
 {
     if is_above(n) {
-        return chosen(0, at_corner(n));
+        return chosen(0, at_corner(n, a.a2, a.a1));
     }
     if !is_below(n) {
         return chosen(UNSURE, n);
     }
     let next = turned(n);
     if is_above(next) {
-        return chosen(1, at_corner(next));
+        return chosen(1, at_corner(next, a.a0, a.a2));
     }
     if !is_below(next) {
         return chosen(UNSURE, n);
     }
     let last = turned(next);
     if is_above(last) {
-        return chosen(2, at_corner(last));
+        return chosen(2, at_corner(last, a.a1, a.a0));
     }
     if !is_below(last) {
         return chosen(UNSURE, n);
     }
-    chosen(3, in_middle(n))
+    chosen(3, in_middle(n, a))
 }
 
-// The digits of p below the trixel with the corners c and the identifier id, as many of n as are sure.
+// The bends of the child number d, k levels below the table.
+fn bends_below(k: u32, a: Bends, d: u64) -> Bends
+    requires { ⌜ SmallBends a ⌝ }
+    ensures { λ r. ⌜ r ≡ bendsBelow (eqb k 0) d a ⌝ }
+{
+    if k == 0 {
+        mesh_bends::first_below(a, d)
+    } else {
+        mesh_bends::later_below(a, d)
+    }
+}
+
+// How many of n levels are bent.
+fn bent_levels(n: u32) -> u32
+    ensures { λ r. ⌜ (r ≤ n) × (r ≤ 4) ⌝ }
+{
+    if n < BENT_LEVELS { n } else { BENT_LEVELS }
+}
+
+// The digits of p below the entry of the table with the corners c and the identifier id, as many of n as are sure, but at most those of the bent levels.
+fn bent_digits(p: Vec3, c: Corners, id: u64, n: u32) -> BentDigits
+    requires { ⌜ Small p ⌝ }
+    requires { ⌜ SmallCorners c ⌝ }
+    requires { ⌜ Entry c ⌝ }
+    requires { ⌜ (id < 2 ^ 40) × (n ≤ 9) ⌝ }
+    ensures { λ r. ⌜ Reached p c id n r ⌝ }
+{
+    let mut numbers = begin(p, c);
+    if !can_start(p, numbers) {
+        return BentDigits { count: 0, id: id, numbers: numbers };
+    }
+    let limit = bent_levels(n);
+    let mut bends = mesh_bends::bends_of(c);
+    let mut i = id;
+    let mut k: u32 = 0;
+    while k < limit {
+        let s = child_numbers(numbers, bends);
+        if s.digit == UNSURE {
+            return BentDigits { count: k, id: i, numbers: numbers };
+        }
+        bends = bends_below(k, bends, s.digit);
+        numbers = s.numbers;
+        i = 4 * i + s.digit;
+        k += 1;
+    }
+    BentDigits { count: k, id: i, numbers: numbers }
+}
+
+// The digits of p below the entry of the table with the corners c and the identifier id, as many of n as are sure.
 pub fn jump(p: Vec3, c: Corners, id: u64, n: u32) -> SureDigits
     requires { ⌜ Small p ⌝ }
     requires { ⌜ SmallCorners c ⌝ }
-    requires { ⌜ (id < 2 ^ 40) × (n ≤ 6) ⌝ }
+    requires { ⌜ Entry c ⌝ }
+    requires { ⌜ (id < 2 ^ 40) × (n ≤ 9) ⌝ }
     ensures { λ r. ⌜ Jumped p c id n r ⌝ }
 {
-    let mut numbers = begin(p, c);
-    if !can_start(p, c, numbers) {
-        return SureDigits { count: 0, id: id };
+    let bent = bent_digits(p, c, id, n);
+    let mut i = bent.id;
+    let mut k = bent.count;
+    if k < BENT_LEVELS {
+        return SureDigits { count: k, id: i };
     }
-    let mut i = id;
-    let mut k: u32 = 0;
+    let mut numbers = bent.numbers;
     while k < n {
-        let s = child_numbers(numbers);
+        let s = child_numbers(numbers, UNBENT);
         if s.digit == UNSURE {
             return SureDigits { count: k, id: i };
         }

@@ -9,14 +9,15 @@ use lib.Dec.{lit<}
 use Rattle.vector.specs.declared.Vec3.{Vec3}
 use Rattle.mesh.specs.declared.Corners.{Corners}
 use Rattle.mesh.specs.Trixels.{child}
-use Rattle.mesh.specs.Identifiers.{cornersOf}
 use Rattle.mesh.specs.Lookup.{digit, descend}
+use Rattle.mesh.specs.Rotations.{turned}
 use Rattle.mesh_trixels.specs.Corners.{bare, SmallCorners}
 use Rattle.mesh_trixels.proofs.CornerLaws.{descend-corners}
 use Rattle.mesh_jump.specs.declared.SureDigits.{SureDigits}
 use Rattle.mesh_jump.specs.Jumps.{along, Jumped}
 use Rattle.mesh_lookup.specs.declared.Child.{Child}
-use Rattle.mesh_lookup.specs.LookupSteps.{ChildStep, Descent}
+use Rattle.mesh_lookup.specs.LookupSteps.{ChildStep, Descent, turnedCorners}
+use Rattle.mesh_lookup.proofs.TurnedLaws.{turned-descent, turned-along}
 
 -- after k levels from the corners c₀ and the identifier i₀
 pub record Descending (p : Vec3) (c₀ : Corners) (i₀ : ℕ) (c : Corners) (i k : ℕ) : Type 0 where
@@ -69,24 +70,25 @@ module _ (p : Vec3) (c₀ : Corners) (i₀ : ℕ) (c : Corners) (i k : ℕ) (d :
         room = subst (λ l. (b : ℕ) → i₀ < b → i < b * 4 ^ l) (sym e) (d .room);
       }
 
--- ---- below depth 6: the sure digits, and those that are left
+-- ---- below the table: the sure digits, and those that are left
 
-module _ (p : Vec3) (c : Corners) (i n : ℕ) (r : SureDigits) (j : Jumped p c i n r) where
-  pub all-sure : r .count ≡ n → r .id ≡ descend p n (bare c) i
+module _ (r : ℕ) (h : r < 8) (p q : Vec3) (back : turned r q ≡ p) (c : Corners) (i n : ℕ) (s : SureDigits) (j : Jumped q c i n s) where
+  pub all-sure : s .count ≡ n → s .id ≡ descend p n (bare (turnedCorners r c)) i
   unfolding descend
   all-sure e =
-      let z : r .count + 0 ≡ n = omega arith in
-      sym (j .goes-on 0) ∙ ap (λ l. descend p l (bare c) i) z
+      let z : s .count + 0 ≡ n = omega arith in
+      sym (j .goes-on 0) ∙ ap (λ l. descend q l (bare c) i) z ∙ sym (turned-descent r h p q back n i c)
 
-  pub some-left : (d : Corners) → d ≡ cornersOf (along (r .count) (r .id) (bare c)) → descend p (n - r .count) (bare d) (r .id) ≡ descend p n (bare c) i
-  some-left d e =
-      let z : r .count + (n - r .count) ≡ n = omega (arith, j .upto) in
-      descend-corners p (n - r .count) (bare d) (along (r .count) (r .id) (bare c)) (r .id) e
-      ∙ sym (j .goes-on (n - r .count))
-      ∙ ap (λ l. descend p l (bare c) i) z
+  pub some-left : descend p (n - s .count) (along (s .count) (s .id) (bare (turnedCorners r c))) (s .id) ≡ descend p n (bare (turnedCorners r c)) i
+  some-left =
+      let z : s .count + (n - s .count) ≡ n = omega (arith, j .upto) in
+      turned-along r h p q back (n - s .count) (s .count) (s .id) (s .id) c
+      ∙ sym (j .goes-on (n - s .count))
+      ∙ ap (λ l. descend q l (bare c) i) z
+      ∙ sym (turned-descent r h p q back n i c)
 
-  pub sure-below : i < 2 ^ 20 → n ≤ 6 → r .id < 2 ^ 40
+  pub sure-below : i < 256 → n ≤ 9 → s .id < 2 ^ 40
   sure-below h l =
-      let w : 4 ^ r .count ≤ 4 ^ 6 = pow-le-pow-right {n = 4} (lit< tt) {i = r .count} {j = 6} (omega (arith, j .upto)) in
-      let b : r .id < 1048576 * 4 ^ r .count = j .room 1048576 h in
+      let w : 4 ^ s .count ≤ 4 ^ 9 = pow-le-pow-right {n = 4} (lit< tt) {i = s .count} {j = 9} (omega (arith, j .upto)) in
+      let b : s .id < 256 * 4 ^ s .count = j .room 256 h in
       omega arith

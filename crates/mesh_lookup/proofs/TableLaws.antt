@@ -16,15 +16,16 @@ use Rattle.mesh.specs.declared.Trixel.{Trixel}
 use Rattle.mesh.specs.Trixels.{rootTrixel, cut, child}
 use Rattle.mesh.specs.Identifiers.{trixel}
 use Rattle.mesh.specs.Lookup.{notNegative, digit, descend}
-use Rattle.mesh.specs.Rotations.{turned, turnedTrixel}
+use Rattle.mesh.specs.declared.Corners.{Corners}
+use Rattle.mesh.specs.Rotations.{rotation, turned, turnedTrixel}
 use Rattle.mesh.proofs.Path.{child-trixel}
 use Rattle.mesh.proofs.RotationLaws.{turned-rotates}
 use Rattle.mesh.proofs.Rotated.{rotated}
 use Rattle.mesh_table.specs.Table.{partOf, vectorAt}
 use Rattle.mesh_trixels.specs.Corners.{tripleOf, bare}
 use Rattle.mesh_trixels.proofs.CornerLaws.{descend-corners}
-use Rattle.mesh_lookup.specs.declared.LocatedTrixel.{LocatedTrixel}
-use Rattle.mesh_lookup.specs.LookupSteps.{digitBy}
+use Rattle.mesh_jump.specs.Jumps.{entryTrixel, Entry}
+use Rattle.mesh_lookup.specs.LookupSteps.{digitBy, turnedCorners}
 
 -- ---- entry e of child d of the root r is that of S0, turned
 
@@ -103,18 +104,27 @@ module _ (r : ℕ) (h : r < 8) (p q : Vec3) (back : turned r q ≡ p) where
 -- ---- the start
 
 -- two levels down by the digits d and e, with the corners of the entry, turned
-pub table-start : (p : Vec3) (r d e : ℕ) (s : LocatedTrixel) → r < 8 → d ≡ digit p (rootTrixel r) → e ≡ digit p (child d (rootTrixel r)) → d < 4 → e < 4
-    → s .id ≡ 128 + 16 * r + 4 * d + e
-    → s .corners ≡ tripleOf (turned r (vectorAt (24 * d + 6 * e))) (turned r (vectorAt (24 * d + 6 * e + 1))) (turned r (vectorAt (24 * d + 6 * e + 2)))
-    → (n : ℕ) → descend p n (bare (s .corners)) (s .id) ≡ descend p (suc (suc n)) (rootTrixel r) (8 + r)
+pub table-start : (p : Vec3) (r d e i : ℕ) (c : Corners) → r < 8 → d ≡ digit p (rootTrixel r) → e ≡ digit p (child d (rootTrixel r)) → d < 4 → e < 4
+    → i ≡ 128 + 16 * r + 4 * d + e
+    → c ≡ tripleOf (vectorAt (24 * d + 6 * e)) (vectorAt (24 * d + 6 * e + 1)) (vectorAt (24 * d + 6 * e + 2))
+    → (n : ℕ) → descend p n (bare (turnedCorners r c)) i ≡ descend p (suc (suc n)) (rootTrixel r) (8 + r)
 unfolding descend
-table-start p r d e s h ed ee hd he ei ec n =
+table-start p r d e i c h ed ee hd he ei ec n =
     let t = rootTrixel r in
     let c0 : turned r (vectorAt (24 * d + 6 * e)) ≡ child e (child d t) .v0 = entry r h d e 0 (24 * d + 6 * e) hd he (lit< tt) (omega arith) in
     let c1 : turned r (vectorAt (24 * d + 6 * e + 1)) ≡ child e (child d t) .v1 = entry r h d e 1 (24 * d + 6 * e + 1) hd he (lit< tt) refl in
     let c2 : turned r (vectorAt (24 * d + 6 * e + 2)) ≡ child e (child d t) .v2 = entry r h d e 2 (24 * d + 6 * e + 2) hd he (lit< tt) refl in
-    let i : s .id ≡ 4 * (4 * (8 + r) + d) + e = omega arith in
-    ap (descend p n (bare (s .corners))) i
-    ∙ descend-corners p n (bare (s .corners)) (child e (child d t)) (4 * (4 * (8 + r) + d) + e) (ec ∙ (λ j. tripleOf (c0 j) (c1 j) (c2 j)))
+    let i′ : i ≡ 4 * (4 * (8 + r) + d) + e = omega arith in
+    ap (descend p n (bare (turnedCorners r c))) i′
+    ∙ descend-corners p n (bare (turnedCorners r c)) (child e (child d t)) (4 * (4 * (8 + r) + d) + e) (ap (turnedCorners r) ec ∙ (λ j. tripleOf (c0 j) (c1 j) (c2 j)))
     ∙ ap (λ m. descend p n (child m (child d t)) (4 * (4 * (8 + r) + d) + m)) ee
     ∙ ap (λ m. descend p n (child (digit p (child m t)) (child m t)) (4 * (4 * (8 + r) + m) + digit p (child m t))) ed
+
+-- an entry of the table is one of the sixteen trixels of depth 3 below S0
+pub entry-of : (d e : ℕ) → d < 4 → e < 4 → (c : Corners) → c ≡ tripleOf (vectorAt (24 * d + 6 * e)) (vectorAt (24 * d + 6 * e + 1)) (vectorAt (24 * d + 6 * e + 2)) → Entry c
+unfolding rotation
+entry-of d e hd he c ec =
+    let c0 : vectorAt (24 * d + 6 * e) ≡ entryTrixel d e .v0 = entry 0 (lit< tt) d e 0 (24 * d + 6 * e) hd he (lit< tt) (omega arith) in
+    let c1 : vectorAt (24 * d + 6 * e + 1) ≡ entryTrixel d e .v1 = entry 0 (lit< tt) d e 1 (24 * d + 6 * e + 1) hd he (lit< tt) refl in
+    let c2 : vectorAt (24 * d + 6 * e + 2) ≡ entryTrixel d e .v2 = entry 0 (lit< tt) d e 2 (24 * d + 6 * e + 2) hd he (lit< tt) refl in
+    record { d = d; e = e; d-low = hd; e-low = he; is = ec ∙ (λ j. tripleOf (c0 j) (c1 j) (c2 j)) }

@@ -3,7 +3,7 @@
 --   digitBy p a b c   the child that p goes to, by the normals a, b and c of the cuts turned round
 --   ChildStep p c r   r has the digit of p in the trixel with corners c, and the corners of that child
 --   Descent p c i n r  r is the trixel n levels below that with the corners c and the identifier i, on p's way: the descent goes on from it
---   TableStart p k s  s is the trixel of depth 3 on p's way from the root k: the descent goes on from it as from the root
+--   TableStart p k s  s has the entry of S0's that, turned to the root k, is the trixel of depth 3 on p's way, and p turned back: the descent goes on as from k
 use Prim.Native.Nat.{ℕ, suc, _+_, _*_, _^_, _<_}
 use mathlib.Core.Path.{_≡_}
 use mathlib.Core.Bool.{cond}
@@ -11,13 +11,17 @@ use lib.IntN.{pos}
 use lib.Signed.{leZ}
 use Rattle.vector.specs.declared.Vec3.{Vec3}
 use Rattle.vector.specs.Vectors.{dot}
+use Rattle.vector.proofs.Sizes.{Small}
 use Rattle.mesh.specs.declared.Corners.{Corners}
 use Rattle.mesh.specs.Trixels.{rootTrixel, child}
 use Rattle.mesh.specs.Identifiers.{cornersOf}
 use Rattle.mesh.specs.Lookup.{digit, descend}
-use Rattle.mesh_trixels.specs.Corners.{bare, SmallCorners}
+use Rattle.mesh.specs.Rotations.{turned}
+use Rattle.mesh_trixels.specs.Corners.{tripleOf, bare, SmallCorners}
+use Rattle.mesh_jump.specs.Jumps.{Entry}
 use Rattle.mesh_lookup.specs.declared.Child.{Child}
 use Rattle.mesh_lookup.specs.declared.LocatedTrixel.{LocatedTrixel}
+use Rattle.mesh_lookup.specs.declared.TableTrixel.{TableTrixel}
 
 abbrev pub childAt : ℕ → Corners → Child
 childAt d c = record { digit = d; corners = c }
@@ -37,7 +41,14 @@ pub record Descent (p : Vec3) (c : Corners) (i n : ℕ) (r : LocatedTrixel) : Ty
   pub small : SmallCorners (r .corners)
   pub room : (b : ℕ) → i < b → r .id < b * 4 ^ n
 
-pub record TableStart (p : Vec3) (k : ℕ) (s : LocatedTrixel) : Type 0 where
-  pub goes-on : (n : ℕ) → descend p n (bare (s .corners)) (s .id) ≡ descend p (suc (suc n)) (rootTrixel k) (8 + k)
-  pub small : SmallCorners (s .corners)
+-- the corners of S0's, turned to the root k
+abbrev pub turnedCorners : ℕ → Corners → Corners
+turnedCorners k c = tripleOf (turned k (c .v0)) (turned k (c .v1)) (turned k (c .v2))
+
+pub record TableStart (p : Vec3) (k : ℕ) (s : TableTrixel) : Type 0 where
+  pub back : turned k (s .pointing) ≡ p
+  pub pointing : Small (s .pointing)
+  pub entry : Entry (s .entry)
+  pub small : SmallCorners (s .entry)
   pub low : s .id < 256
+  pub goes-on : (n : ℕ) → descend p n (bare (turnedCorners k (s .entry))) (s .id) ≡ descend p (suc (suc n)) (rootTrixel k) (8 + k)

@@ -1,13 +1,14 @@
-// The lookup in code: the root by the signs, the trixel of depth 3 by the table, then step by step from corners to depth 6, and from there by a jump. The
-// rule stands in mesh/specs/Lookup, what the steps give in specs/LookupSteps.
+// The lookup in code: the root by the signs, the trixel of depth 3 by the table, and from there by a jump; where a digit is not sure, step by step from
+// corners. The rule stands in mesh/specs/Lookup, what the steps give in specs/LookupSteps.
 use answer::DEPTH;
 use answer::Number;
 use answer::VECTOR;
 use mesh::Corners;
+use mesh_jump::SureDigits;
 use vector::Vec3;
 ghost use mathlib.Core.Path.{_≡_};
 ghost use mathlib.Core.Bool.{cond};
-ghost use Prim.Native.Nat.{_^_, _≤_, _<_};
+ghost use Prim.Native.Nat.{_-_, _^_, _≤_, _<_};
 ghost use lib.IntN.{pos};
 ghost use lib.Signed.{leZ};
 ghost use Rattle.answer.specs.Calls.{numberOf};
@@ -17,7 +18,8 @@ ghost use Rattle.mesh.specs.Lookup as rule;
 ghost use Rattle.mesh.specs.Lookup.{notNegative, northRoot, southRoot, rootNumber};
 ghost use Rattle.mesh_table.specs.Table.{table, vectorAt};
 ghost use Rattle.mesh_trixels.specs.Corners.{bare, SmallCorners};
-ghost use Rattle.mesh_lookup.specs.LookupSteps.{childAt, digitBy, ChildStep, Descent, TableStart};
+ghost use Rattle.mesh_jump.specs.Jumps.{along};
+ghost use Rattle.mesh_lookup.specs.LookupSteps.{childAt, digitBy, ChildStep, Descent, turnedCorners, TableStart};
 
 // A digit, and the corners of that child.
 pub struct Child {
@@ -29,6 +31,13 @@ pub struct Child {
 pub struct LocatedTrixel {
     pub id: u64,
     pub corners: Corners,
+}
+
+// A trixel of depth 3: its identifier, the corners of its entry in S0, and the pointing turned back into S0.
+pub struct TableTrixel {
+    pub id: u64,
+    pub entry: Corners,
+    pub pointing: Vec3,
 }
 
 // Whether p is on the side of the cut by a and b: Scale(a × b)·p ≥ 0.
@@ -180,45 +189,57 @@ fn table_digit(entries: &[i32; 288], p: Vec3, a: usize, b: usize, c: usize) -> u
     )
 }
 
-// The trixel of depth 3 that p goes to, from the table of S0: p is turned back into S0, and the corners that are found there to the root. The cuts of S0
-// stand in the table as normals of two children of its middle child, those of a trixel of depth 2 as the normals of its middle child.
-fn from_table(p: Vec3, root: u64) -> LocatedTrixel
+// The trixel of depth 3 that p goes to, from the table of S0, with p turned back into S0. The cuts of S0 stand in the table as normals of two children of its
+// middle child, those of a trixel of depth 2 as the normals of its middle child.
+fn from_table(p: Vec3, root: u64) -> TableTrixel
     requires { ⌜ Small p ⌝ }
     requires { ⌜ root < 8 ⌝ }
     ensures { λ r. ⌜ TableStart p root r ⌝ }
 {
     let entries = mesh_table::entries();
-    let k = mesh_table::rotation(root);
-    let q = mesh_table::turned_back(k, p);
+    let q = mesh_table::turned_back(mesh_table::rotation(root), p);
     let d = table_digit(&entries, q, 83, 76, 77);
     let below = 24 * d as usize;
     let e = table_digit(&entries, q, below + 21, below + 22, below + 23);
-    LocatedTrixel {
+    TableTrixel {
         id: 128 + 16 * root + 4 * d + e,
-        corners: mesh_table::corners_at(&entries, k, below + 6 * e as usize),
+        entry: mesh_table::corners_at(&entries, below + 6 * e as usize),
+        pointing: q,
     }
 }
 
-// The identifier n levels below the trixel of depth 6 with the identifier id and the corners c: the sure digits by a jump, those that are left level by
-// level.
-fn identifier_below(p: Vec3, c: Corners, id: u64, n: u32) -> u64
+// The identifier n levels below an entry of S0's, turned to a root, behind the first digits of id, which are sure: the corners are found along them, and
+// the others level by level.
+fn rest_of(p: Vec3, c: Corners, sure: SureDigits, n: u32) -> u64
     requires { ⌜ Small p ⌝ }
     requires { ⌜ SmallCorners c ⌝ }
-    requires { ⌜ (id < 2 ^ 20) × (n ≤ 6) ⌝ }
-    ensures { λ r. ⌜ r ≡ rule.descend p n (bare c) id ⌝ }
+    requires { ⌜ (sure .id < 2 ^ 40) × (sure .count ≤ n) × (n ≤ 9) ⌝ }
+    ensures { λ r. ⌜ r ≡ rule.descend p (n - sure .count) (along (sure .count) (sure .id) (bare c)) (sure .id) ⌝ }
 {
-    let sure = mesh_jump::jump(p, c, id, n);
+    let id = sure.id;
     let count = sure.count;
-    if count == n {
+    let end = descend(p, mesh_jump::corners_along(c, id, count), id, n - count);
+    end.id
+}
+
+// The identifier of p n levels below the trixel t of a root: the sure digits by a jump in S0, those that are left from the entry turned to the root.
+fn identifier_below(p: Vec3, root: u64, t: TableTrixel, n: u32) -> u64
+    requires { ⌜ Small p ⌝ }
+    requires { ⌜ root < 8 ⌝ }
+    requires { ⌜ TableStart p root t ⌝ }
+    requires { ⌜ n ≤ 9 ⌝ }
+    ensures { λ r. ⌜ r ≡ rule.descend p n (bare (turnedCorners root (t .entry))) (t .id) ⌝ }
+{
+    let sure = mesh_jump::jump(t.pointing, t.entry, t.id, n);
+    if sure.count == n {
         return sure.id;
     }
-    let end = descend(
+    rest_of(
         p,
-        mesh_jump::corners_along(c, sure.id, count),
-        sure.id,
-        n - count,
-    );
-    end.id
+        mesh_table::turned_corners(mesh_table::rotation(root), t.entry),
+        sure,
+        n,
+    )
 }
 
 // The identifier of p at a depth.
@@ -239,14 +260,7 @@ fn identifier(p: Vec3, depth: u32) -> u64
     if depth == 3 {
         return start.id;
     }
-    let c = start.corners;
-    if depth <= 6 {
-        let end = descend(p, c, start.id, depth - 3);
-        return end.id;
-    }
-    let six = descend(p, c, start.id, 3);
-    let corners = six.corners;
-    identifier_below(p, corners, six.id, depth - 6)
+    identifier_below(p, root, start, depth - 3)
 }
 
 // The identifier of the trixel that a pointing lies in, or the refusal 5 or 8.

@@ -107,15 +107,26 @@ fn turned(k: Rotation, a: Vec3) -> Vec3
     }
 }
 
-// The corners v0 v1 v2 of the entry that begins at vector i, turned to a root.
-pub fn corners_at(entries: &[i32; 288], k: Rotation, i: usize) -> Corners
+// The corners v0 v1 v2 of the entry that begins at vector i.
+pub fn corners_at(entries: &[i32; 288], i: usize) -> Corners
     requires { ⌜ now entries ≡ table ⌝ }
     requires { ⌜ i + 2 < 96 ⌝ }
-    ensures { λ r. ⌜ r ≡ tripleOf (rule.turnedBy k (vectorAt i)) (rule.turnedBy k (vectorAt (i + 1))) (rule.turnedBy k (vectorAt (i + 2))) ⌝ }
+    ensures { λ r. ⌜ (r ≡ tripleOf (vectorAt i) (vectorAt (i + 1)) (vectorAt (i + 2))) × SmallCorners r ⌝ }
+{
+    let v0 = vector_at(entries, i);
+    let v1 = vector_at(entries, i + 1);
+    let v2 = vector_at(entries, i + 2);
+    mesh_trixels::triple(v0, v1, v2)
+}
+
+// The corners of an entry of S0's, turned to a root.
+pub fn turned_corners(k: Rotation, c: Corners) -> Corners
+    requires { ⌜ SmallCorners c ⌝ }
+    ensures { λ r. ⌜ r ≡ tripleOf (rule.turnedBy k (c .v0)) (rule.turnedBy k (c .v1)) (rule.turnedBy k (c .v2)) ⌝ }
     ensures { λ r. ⌜ SmallCorners r ⌝ }
 {
-    let v0 = turned(k, vector_at(entries, i));
-    let v1 = turned(k, vector_at(entries, i + 1));
-    let v2 = turned(k, vector_at(entries, i + 2));
+    let v0 = turned(k, c.v0);
+    let v1 = turned(k, c.v1);
+    let v2 = turned(k, c.v2);
     mesh_trixels::triple(v0, v1, v2)
 }

@@ -25,5 +25,5 @@ begin-spec =
     let a = held (first .volume .ensures .1) tt .eq ∙ first .volume .ensures .0 in
     let b = held (second .volume2 .ensures .1) tt .eq ∙ second .volume2 .ensures .0 in
     let d = held (c .volume3 .ensures .1) tt .eq ∙ c .volume3 .ensures .0 in
-    let e : _ ≡ beginOf (s .args .p) (s .args .c) = λ i. record { d0 = a i; d1 = b i; d2 = d i; margin = pos 6597069766656 } in
+    let e : _ ≡ beginOf (s .args .p) (s .args .c) = λ i. record { d0 = a i; d1 = b i; d2 = d i; margin = pos 26388279066624 } in
     e))

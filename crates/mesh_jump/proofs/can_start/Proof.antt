@@ -13,20 +13,9 @@ can-start-spec =
     (λ c κs. search needs)
     (λ c. λ e. absurd (false≢true e))
     (λ c κs. search needs)
-    (λ c. λ e. absurd (false≢true e))
-    (λ c κs. search needs)
-    (λ c. λ e. absurd (false≢true e))
-    (λ c κs. search needs)
     (λ c.
-    let e3 = c .before in
-    let large = e3 .before in
-    let e2 = large .before in
-    let numbers = e2 .before in
-    let e1 = numbers .before in
+    let e1 = c .before in
     let vector = e1 .before in
-    λ t. record {
-      vector = sym (vector .is-vector .ensures) ∙ not-false _ (e1 .if1 .left);
-      numbers = numbers .not-negative .ensures (not-false _ (e2 .if2 .left));
-      large = large .is-large .ensures (not-false _ (e3 .if3 .left));
-      shape = c .is-shaped .ensures t;
-    }))
+    λ t.
+    let n = c .not-negative .ensures t in
+    record { vector = sym (vector .is-vector .ensures) ∙ not-false _ (e1 .if1 .left); d0 = n .0; d1 = n .1; d2 = n .2 }))

@@ -1,65 +1,63 @@
--- `mesh_jump::jump` gives digits of the rule. The loop's invariant: for whatever p and c the first numbers were made, what is left of the descent from here is
+-- `mesh_jump::jump` gives digits of the rule. The loop's invariant: for whatever p and c the bent levels were passed, what is left of the descent from here is
 -- what it was from the start, and the numbers follow p here. The measure is the levels left. Assumes nothing.
 use Prim.Native.Nat.{_^_, _-_, _≤_, _<_}
+use borrow.Author.Needs.{needs}
 use native.Mathlib.Omega.{arith}
 use mathlib.Core.Path.{_≡_, refl}
-use borrow.Author.Tests.{not-false}
+use lib.Dec.{lit≤}
+use lib.IntN.{pos}
 use Rattle.vector.specs.declared.Vec3.{Vec3}
 use Rattle.vector.proofs.Sizes.{Small}
 use Rattle.mesh.specs.declared.Corners.{Corners}
-use Rattle.mesh_jump.specs.Jumps.{beginOf, Within, Started, Jumped}
-use Rattle.mesh_jump.proofs.JumpLoop.{Jumping, sure-low, starting, within, advance, jumped, far-below, none}
+use Rattle.mesh_bends.specs.Bends.{SmallBends}
+use Rattle.mesh_jump.specs.Jumps.{Jumped, Reached}
+use Rattle.mesh_jump.proofs.JumpLoop.{Jumping, sure-low, within, not-negative, advance-flat, jumped, far-below, reached}
 use Rattle.mesh_jump.proofs.jump.Statement.{statement}
 use Rattle.mesh_jump.proofs.jump.Tie as tie
 
 abbrev Inv-loop : tie.InvT-loop
-Inv-loop id n numbers₀ i₀ k₀ numbers i k =
-    (n ≤ 6) × (id < 2 ^ 40) × (i₀ ≡ id) × ((p : Vec3) (c : Corners) → Small p → numbers₀ ≡ beginOf p c → Started p c numbers₀ → Jumping p c n id i k numbers)
+Inv-loop id n i₀ k₀ numbers₀ i k numbers =
+    (n ≤ 9) × (id < 2 ^ 40) × (4 ≤ k)
+    × ((p : Vec3) (c : Corners) → Small p → Reached p c id n (record { count = k₀; id = i₀; numbers = numbers₀ }) → Jumping p c n id i k numbers)
 
 abbrev μ-loop : tie.MeasureT-loop
-μ-loop id n numbers₀ i₀ k₀ numbers i k = n - k
+μ-loop id n i₀ k₀ numbers₀ i k numbers = n - k
 
 -- Named anchors: the states that the proofs below read from, each named with a later state that leads back to it.
-abbrev start-before-else1 : tie.Else1 Inv-loop μ-loop → tie.Start Inv-loop μ-loop
-start-before-else1 c = c .before .before .before
+abbrev bent-before-loop : tie.At-loop Inv-loop μ-loop → tie.After-bent-digits Inv-loop μ-loop
+bent-before-loop c = c .before .before .before
 
 abbrev start-before-loop : tie.At-loop Inv-loop μ-loop → tie.Start Inv-loop μ-loop
-start-before-loop c = start-before-else1 (c .before)
-
-abbrev child-before-else2 : tie.Else2 Inv-loop μ-loop → tie.After-child-numbers Inv-loop μ-loop
-child-before-else2 c = c .before .before
+start-before-loop c = bent-before-loop c .before
 
 abbrev loop-before-child : tie.After-child-numbers Inv-loop μ-loop → tie.At-loop Inv-loop μ-loop
 loop-before-child c = c .before .before
 
-abbrev child-before-numbers : tie.After-numbers Inv-loop μ-loop → tie.After-child-numbers Inv-loop μ-loop
-child-before-numbers c = child-before-else2 (c .before)
+abbrev else2-before-numbers2 : tie.After-numbers2 Inv-loop μ-loop → tie.Else2 Inv-loop μ-loop
+else2-before-numbers2 c = c .before
 
-abbrev loop-before-numbers : tie.After-numbers Inv-loop μ-loop → tie.At-loop Inv-loop μ-loop
-loop-before-numbers c = loop-before-child (child-before-numbers c)
+abbrev child-before-numbers2 : tie.After-numbers2 Inv-loop μ-loop → tie.After-child-numbers Inv-loop μ-loop
+child-before-numbers2 c = else2-before-numbers2 c .before .before
 
--- the start was tested
-started : (c : tie.Else1 Inv-loop μ-loop) → Started (start-before-else1 c .args .p) (start-before-else1 c .args .c) (c .before .before .begin .result)
-started c = c .before .can-start .ensures (not-false _ (c .if1 .left))
+abbrev loop-before-numbers2 : tie.After-numbers2 Inv-loop μ-loop → tie.At-loop Inv-loop μ-loop
+loop-before-numbers2 c = loop-before-child (child-before-numbers2 c)
 
 jumping : (l : tie.At-loop Inv-loop μ-loop)
     → Jumping (start-before-loop l .args .p) (start-before-loop l .args .c) (start-before-loop l .args .n) (start-before-loop l .args .id) (l .loop .i) (l .loop .k) (l .loop .numbers)
-jumping l = let s = start-before-loop l in l .loop .inv .3 (s .args .p) (s .args .c) (s .pre .0) (l .before .before .before .begin .ensures) (started (l .before))
+jumping l = let s = start-before-loop l in l .loop .inv .3 (s .args .p) (s .args .c) (s .pre .0) (bent-before-loop l .bent-digits .ensures)
 
-all-within : (l : tie.At-loop Inv-loop μ-loop) → Within (l .loop .numbers)
-all-within l =
-    let s = start-before-loop l in
-    within (s .args .p) (s .args .c) (s .pre .0) _ (l .before .before .before .begin .ensures) (started (l .before)) _ _ _ _ _ (jumping l) (l .loop .inv .0)
-
-at-most : (l : tie.At-loop Inv-loop μ-loop) → l .loop .i < 2 ^ 52
+at-most : (l : tie.At-loop Inv-loop μ-loop) → l .loop .i < 2 ^ 58
 at-most l =
     let s = start-before-loop l in
-    far-below (s .args .p) (s .args .c) (s .pre .0) _ (l .before .before .before .begin .ensures) (started (l .before)) _ _ _ _ _ (jumping l) (l .loop .inv .0) (l .loop .inv .1)
+    far-below (s .args .p) (s .args .c) (s .pre .0) _ _ _ _ _ (jumping l) (l .loop .inv .0) (l .loop .inv .1)
 
 so-far : (l : tie.At-loop Inv-loop μ-loop) → Jumped (start-before-loop l .args .p) (start-before-loop l .args .c) (start-before-loop l .args .id) (start-before-loop l .args .n) (record { count = l .loop .k; id = l .loop .i })
 so-far l =
     let s = start-before-loop l in
-    jumped (s .args .p) (s .args .c) (s .pre .0) _ (l .before .before .before .begin .ensures) (started (l .before)) _ _ _ _ _ (jumping l) (l .loop .inv .0)
+    jumped (s .args .p) (s .args .c) (s .pre .0) _ _ _ _ _ (jumping l) (l .loop .inv .0)
+
+unbent : SmallBends (record { a0 = pos 0; a1 = pos 0; a2 = pos 0 })
+unbent = record { a0 = record { le = lit≤ tt }; a1 = record { le = lit≤ tt }; a2 = record { le = lit≤ tt } }
 
 pub jump-spec : {M : Type 1} → statement M
 jump-spec =
@@ -67,21 +65,25 @@ jump-spec =
     (tie.spec
     Inv-loop
     μ-loop
-    (λ c κs. (c .pre .0, c .pre .1 .0))
-    (λ c κs. c .before .pre .1 .0)
-    (λ c. let s = c .before .before .before in none (s .args .p) (s .args .c) (s .args .id) (s .args .n))
+    (λ c κs. c .pre)
+    (λ c. c .before .bent-digits .ensures .jumped)
     (λ c.
-    let s = start-before-else1 c in
-    (s .pre .1 .1 .1, s .pre .1 .1 .0, refl, λ p q small is start. starting p q small _ is start (s .args .n) (s .args .id)))
-    (λ c κs. all-within (c .before))
+    let e = c .before in
+    let s = e .before .before in
+    (s .pre .1 .1 .1 .1, s .pre .1 .1 .1 .0, omega (arith, e .if1 .left), λ p q small r. reached _ r (omega (arith, e .if1 .left))))
+    (λ c κs.
+    let l = c .before in
+    let j = jumping l in
+    (within (j .following) (omega (arith, j .upto, l .loop .inv .0)), (not-negative (j .following) (omega (arith, j .upto, l .loop .inv .0)), unbent)))
     (λ c. so-far (loop-before-child (c .before .before)))
-    (λ c. omega (arith, at-most (loop-before-numbers c)))
-    (λ c. omega (arith, at-most (loop-before-numbers (c .before)), sure-low (child-before-numbers (c .before) .child-numbers .ensures)))
-    (λ c. omega (arith, loop-before-numbers (c .before) .loop .inv .0))
+    (λ c. omega (arith, at-most (loop-before-numbers2 c)))
+    (λ c. omega (arith, at-most (loop-before-numbers2 (c .before)), sure-low (child-before-numbers2 (c .before) .child-numbers .ensures)))
+    (λ c. omega (arith, loop-before-numbers2 (c .before) .loop .inv .0))
     (λ c. omega arith)
     (λ c.
-    let l = loop-before-numbers (c .before) in
-    let r = child-before-numbers (c .before) .child-numbers in
+    let l = loop-before-numbers2 (c .before) in
+    let r = child-before-numbers2 (c .before) .child-numbers in
     let v = l .loop .inv in
-    (v .0, v .1, v .2, λ p q small is start. advance p q small _ is start _ _ _ _ _ (v .3 p q small is start) (v .0) (omega arith) (r .result .digit) (r .result .numbers) (r .ensures) (c .before .before .if2 .left)))
+    (v .0, v .1, omega (arith, v .2), λ p q small t.
+    advance-flat p q small _ _ _ _ _ (v .3 p q small t) (v .0) (omega arith) (v .2) (r .result .digit) (r .result .numbers) (r .ensures) (else2-before-numbers2 (c .before) .if2 .left)))
     (λ c. so-far (c .before)))

@@ -1,7 +1,7 @@
 -- `mesh_jump::not_negative` tests the three numbers one after the other. Assumes nothing.
 use Prim.Native.Nat.{_^_, _<_}
 use mathlib.Core.Path.{_≡_, sym, ap, _∙_}
-use mathlib.Core.Bool.{true, false, true≢false, false≢true}
+use mathlib.Core.Bool.{false, true≢false, false≢true}
 use lib.IntN.{ℤ, pos}
 use lib.Signed.{mag, ltZ, leZ, _≤ℤ_}
 use mir.Syntax.{w64}
@@ -28,8 +28,8 @@ not-negative-spec =
     let first = told2 .before .before in
     let told1 = first .before in
     let n = told1 .before .before .args .n in
-    λ e. record {
-      d0 = not-below (n .d0) (told1 .struct-told .given .0 .1) (first .if1 .left);
-      d1 = not-below (n .d1) (told2 .struct-told2 .given .1 .0 .1) (second .if2 .left);
-      d2 = le-yes (sym (ap (λ v. leZ (pos 0) v) (stored-same (n .d2) (c .struct-told3 .given .1 .1 .0 .1))) ∙ e);
-    }))
+    λ e. (
+      not-below (n .d0) (told1 .struct-told .given .0 .1) (first .if1 .left),
+      not-below (n .d1) (told2 .struct-told2 .given .1 .0 .1) (second .if2 .left),
+      le-yes (sym (ap (λ v. leZ (pos 0) v) (stored-same (n .d2) (c .struct-told3 .given .1 .1 .0 .1))) ∙ e),
+    )))

@@ -1,23 +1,16 @@
--- `mesh_lookup::identifier` is the identifier at a depth: to depth 2 from the root, deeper from the table, below depth 6 from the trixel of depth 6.
--- Assumes nothing.
+-- `mesh_lookup::identifier` is the identifier at a depth: to depth 2 from the root, deeper from the table. Assumes nothing.
 use Prim.Native.Nat.{_+_, _-_}
 use native.Mathlib.Omega.{arith}
 use mathlib.Core.Path.{_≡_, ap, _∙_}
 use Rattle.mesh.specs.Lookup as rule
 use Rattle.mesh_trixels.specs.Corners.{bare}
-use Rattle.mesh_lookup.proofs.AnswerLaws.{at-root, from-root, at-three, from-table-start, from-six}
+use Rattle.mesh_lookup.proofs.AnswerLaws.{at-root, from-root, at-three, from-table-start}
 use Rattle.mesh_lookup.proofs.identifier.Statement.{statement}
 use Rattle.mesh_lookup.proofs.identifier.Tie as tie
 
 -- Named anchors: the states that the proofs below read from, each named with a later state that leads back to it.
 abbrev root-before-table : tie.After-from-table → tie.After-root-number
 root-before-table c = c .before .before .before
-
-abbrev table-before-then4 : tie.Then4 → tie.After-from-table
-table-before-then4 c = c .before .before .before
-
-abbrev table-before-else4 : tie.Else4 → tie.After-from-table
-table-before-else4 c = c .before .before .before
 
 pub identifier-spec : {M : Type 1} → statement M
 identifier-spec =
@@ -44,29 +37,14 @@ identifier-spec =
     let t = c .before in
     let g = root-before-table t in
     at-three (g .before .args .p) (g .before .args .depth) _ (g .root-number .ensures .0) (t .from-table .result) (c .if3 .taken) (t .from-table .ensures))
-    (λ c. let t = table-before-then4 c in omega (arith, t .before .before .if1 .left, t .before .if2 .left, root-before-table t .before .pre .1))
+    (λ c. let t = c .before in omega (arith, t .before .before .if1 .left, t .before .if2 .left, root-before-table t .before .pre .1))
     (λ c κs.
-    let t = table-before-then4 c in
-    (root-before-table t .before .pre .0, (t .from-table .ensures .small, (omega (arith, t .from-table .ensures .low), omega arith))))
-    (λ c.
-    let t = table-before-then4 (c .before) in
+    let t = c .before in
     let g = root-before-table t in
-    c .descend2 .ensures .is
-    ∙ from-table-start (g .before .args .p) (g .before .args .depth) _ (g .root-number .ensures .0) (t .from-table .result)
-    (omega (arith, t .before .before .if1 .left, t .before .if2 .left, g .before .pre .1)) (t .from-table .ensures))
-    (λ c κs.
-    let t = table-before-else4 c in
-    (root-before-table t .before .pre .0, (t .from-table .ensures .small, (omega (arith, t .from-table .ensures .low), omega arith))))
-    (λ c. omega arith)
-    (λ c κs.
-    let d = c .before in
-    let t = table-before-else4 (d .before) in
-    let g = root-before-table t in
-    (g .before .pre .0, (d .descend3 .ensures .small, (omega (arith, d .descend3 .ensures .room 256 (t .from-table .ensures .low)), omega (arith, g .before .pre .1)))))
+    (g .before .pre .0, (g .root-number .ensures .1, (t .from-table .ensures, omega (arith, g .before .pre .1)))))
     (λ c.
-    let d = c .before .before in
-    let t = table-before-else4 (d .before) in
+    let t = c .before .before in
     let g = root-before-table t in
     c .identifier-below .ensures
-    ∙ from-six (g .before .args .p) (g .before .args .depth) _ (g .root-number .ensures .0) (t .from-table .result) (d .descend3 .result) (omega arith) (t .from-table .ensures)
-    (d .descend3 .ensures)))
+    ∙ from-table-start (g .before .args .p) (g .before .args .depth) _ (g .root-number .ensures .0) (t .from-table .result)
+    (omega (arith, t .before .before .if1 .left, t .before .if2 .left, g .before .pre .1)) (t .from-table .ensures)))
