@@ -14,7 +14,7 @@ use lib.IntN.{ℤ, pos, _+ℤ_, _-ℤ_, _*ℤ_}
 use lib.Signed.{_≤ℤ_, _<ℤ_, leZ-yes, ltZ-yes}
 use Rattle.algebra.proofs.Ring.{_:+_, _:-_, _:*_}
 use Rattle.algebra.proofs.Order.{≤ℤ-trans, nn-mul}
-use Rattle.algebra.proofs.Claim.{_:≤_, _:<_, nat, hyp, _⊕_, _⊗_, prove}
+use Rattle.algebra.proofs.Claim.{_:≤_, _:<_, hyp, _⊕_, _⊗_, prove}
 use Rattle.algebra.proofs.Inequalities.{`0}
 use Rattle.jump.proofs.JumpInvariant.{Bounds, Level}
 use Rattle.jump.proofs.JumpShape.{Shaping}
@@ -60,7 +60,18 @@ pub record Constants : Type 0 where
 
 abbrev pub row : (edge part low high grow floor bend lost behind ahead normal error : ℕ) → Constants
 row e p l h g f b a c d n x = record {
-  edge = e; part = pos p; low = pos l; high = pos h; grow = pos g; floor = pos f; bend = pos b; lost = pos a; behind = pos c; ahead = pos d; normal = pos n; error = pos x;
+  edge = e;
+  part = pos p;
+  low = pos l;
+  high = pos h;
+  grow = pos g;
+  floor = pos f;
+  bend = pos b;
+  lost = pos a;
+  behind = pos c;
+  ahead = pos d;
+  normal = pos n;
+  error = pos x;
 }
 
 unfoldable pub constantsAt : ℕ → Constants
@@ -141,15 +152,15 @@ record Computed (i : ℕ) : Type 0 where
 
 computed : (i : ℕ) → i < 9 → Computed i
 unfolding constantsAt marginAt
-computed zero h = record { lost-nn = leZ-yes tt; behind-nn = leZ-yes tt; ahead-nn = leZ-yes tt; edge-nn = leZ-yes tt; low-nn = leZ-yes tt; high-nn = leZ-yes tt; grow-nn = leZ-yes tt; floor-positive = ltZ-yes tt; floor-nn = leZ-yes tt; rounded = leZ-yes tt; positive = ltZ-yes tt; more = leZ-yes tt; grows-low = leZ-yes tt; grows-high = leZ-yes tt; grows-most = leZ-yes tt; falls = leZ-yes tt; bent = leZ-yes tt; half = leZ-yes tt; S-positive = ltZ-yes tt; part-positive = ltZ-yes tt; error-nn = leZ-yes tt; normal-nn = leZ-yes tt; margin-nn = leZ-yes tt; normal-large = leZ-yes tt; error-behind = leZ-yes tt; error-ahead = leZ-yes tt; wide = leZ-yes tt; }
-computed (suc zero) h = record { lost-nn = leZ-yes tt; behind-nn = leZ-yes tt; ahead-nn = leZ-yes tt; edge-nn = leZ-yes tt; low-nn = leZ-yes tt; high-nn = leZ-yes tt; grow-nn = leZ-yes tt; floor-positive = ltZ-yes tt; floor-nn = leZ-yes tt; rounded = leZ-yes tt; positive = ltZ-yes tt; more = leZ-yes tt; grows-low = leZ-yes tt; grows-high = leZ-yes tt; grows-most = leZ-yes tt; falls = leZ-yes tt; bent = leZ-yes tt; half = leZ-yes tt; S-positive = ltZ-yes tt; part-positive = ltZ-yes tt; error-nn = leZ-yes tt; normal-nn = leZ-yes tt; margin-nn = leZ-yes tt; normal-large = leZ-yes tt; error-behind = leZ-yes tt; error-ahead = leZ-yes tt; wide = leZ-yes tt; }
-computed (suc (suc zero)) h = record { lost-nn = leZ-yes tt; behind-nn = leZ-yes tt; ahead-nn = leZ-yes tt; edge-nn = leZ-yes tt; low-nn = leZ-yes tt; high-nn = leZ-yes tt; grow-nn = leZ-yes tt; floor-positive = ltZ-yes tt; floor-nn = leZ-yes tt; rounded = leZ-yes tt; positive = ltZ-yes tt; more = leZ-yes tt; grows-low = leZ-yes tt; grows-high = leZ-yes tt; grows-most = leZ-yes tt; falls = leZ-yes tt; bent = leZ-yes tt; half = leZ-yes tt; S-positive = ltZ-yes tt; part-positive = ltZ-yes tt; error-nn = leZ-yes tt; normal-nn = leZ-yes tt; margin-nn = leZ-yes tt; normal-large = leZ-yes tt; error-behind = leZ-yes tt; error-ahead = leZ-yes tt; wide = leZ-yes tt; }
-computed (suc (suc (suc zero))) h = record { lost-nn = leZ-yes tt; behind-nn = leZ-yes tt; ahead-nn = leZ-yes tt; edge-nn = leZ-yes tt; low-nn = leZ-yes tt; high-nn = leZ-yes tt; grow-nn = leZ-yes tt; floor-positive = ltZ-yes tt; floor-nn = leZ-yes tt; rounded = leZ-yes tt; positive = ltZ-yes tt; more = leZ-yes tt; grows-low = leZ-yes tt; grows-high = leZ-yes tt; grows-most = leZ-yes tt; falls = leZ-yes tt; bent = leZ-yes tt; half = leZ-yes tt; S-positive = ltZ-yes tt; part-positive = ltZ-yes tt; error-nn = leZ-yes tt; normal-nn = leZ-yes tt; margin-nn = leZ-yes tt; normal-large = leZ-yes tt; error-behind = leZ-yes tt; error-ahead = leZ-yes tt; wide = leZ-yes tt; }
-computed (suc (suc (suc (suc zero)))) h = record { lost-nn = leZ-yes tt; behind-nn = leZ-yes tt; ahead-nn = leZ-yes tt; edge-nn = leZ-yes tt; low-nn = leZ-yes tt; high-nn = leZ-yes tt; grow-nn = leZ-yes tt; floor-positive = ltZ-yes tt; floor-nn = leZ-yes tt; rounded = leZ-yes tt; positive = ltZ-yes tt; more = leZ-yes tt; grows-low = leZ-yes tt; grows-high = leZ-yes tt; grows-most = leZ-yes tt; falls = leZ-yes tt; bent = leZ-yes tt; half = leZ-yes tt; S-positive = ltZ-yes tt; part-positive = ltZ-yes tt; error-nn = leZ-yes tt; normal-nn = leZ-yes tt; margin-nn = leZ-yes tt; normal-large = leZ-yes tt; error-behind = leZ-yes tt; error-ahead = leZ-yes tt; wide = leZ-yes tt; }
-computed (suc (suc (suc (suc (suc zero))))) h = record { lost-nn = leZ-yes tt; behind-nn = leZ-yes tt; ahead-nn = leZ-yes tt; edge-nn = leZ-yes tt; low-nn = leZ-yes tt; high-nn = leZ-yes tt; grow-nn = leZ-yes tt; floor-positive = ltZ-yes tt; floor-nn = leZ-yes tt; rounded = leZ-yes tt; positive = ltZ-yes tt; more = leZ-yes tt; grows-low = leZ-yes tt; grows-high = leZ-yes tt; grows-most = leZ-yes tt; falls = leZ-yes tt; bent = leZ-yes tt; half = leZ-yes tt; S-positive = ltZ-yes tt; part-positive = ltZ-yes tt; error-nn = leZ-yes tt; normal-nn = leZ-yes tt; margin-nn = leZ-yes tt; normal-large = leZ-yes tt; error-behind = leZ-yes tt; error-ahead = leZ-yes tt; wide = leZ-yes tt; }
-computed (suc (suc (suc (suc (suc (suc zero)))))) h = record { lost-nn = leZ-yes tt; behind-nn = leZ-yes tt; ahead-nn = leZ-yes tt; edge-nn = leZ-yes tt; low-nn = leZ-yes tt; high-nn = leZ-yes tt; grow-nn = leZ-yes tt; floor-positive = ltZ-yes tt; floor-nn = leZ-yes tt; rounded = leZ-yes tt; positive = ltZ-yes tt; more = leZ-yes tt; grows-low = leZ-yes tt; grows-high = leZ-yes tt; grows-most = leZ-yes tt; falls = leZ-yes tt; bent = leZ-yes tt; half = leZ-yes tt; S-positive = ltZ-yes tt; part-positive = ltZ-yes tt; error-nn = leZ-yes tt; normal-nn = leZ-yes tt; margin-nn = leZ-yes tt; normal-large = leZ-yes tt; error-behind = leZ-yes tt; error-ahead = leZ-yes tt; wide = leZ-yes tt; }
-computed (suc (suc (suc (suc (suc (suc (suc zero))))))) h = record { lost-nn = leZ-yes tt; behind-nn = leZ-yes tt; ahead-nn = leZ-yes tt; edge-nn = leZ-yes tt; low-nn = leZ-yes tt; high-nn = leZ-yes tt; grow-nn = leZ-yes tt; floor-positive = ltZ-yes tt; floor-nn = leZ-yes tt; rounded = leZ-yes tt; positive = ltZ-yes tt; more = leZ-yes tt; grows-low = leZ-yes tt; grows-high = leZ-yes tt; grows-most = leZ-yes tt; falls = leZ-yes tt; bent = leZ-yes tt; half = leZ-yes tt; S-positive = ltZ-yes tt; part-positive = ltZ-yes tt; error-nn = leZ-yes tt; normal-nn = leZ-yes tt; margin-nn = leZ-yes tt; normal-large = leZ-yes tt; error-behind = leZ-yes tt; error-ahead = leZ-yes tt; wide = leZ-yes tt; }
-computed (suc (suc (suc (suc (suc (suc (suc (suc zero)))))))) h = record { lost-nn = leZ-yes tt; behind-nn = leZ-yes tt; ahead-nn = leZ-yes tt; edge-nn = leZ-yes tt; low-nn = leZ-yes tt; high-nn = leZ-yes tt; grow-nn = leZ-yes tt; floor-positive = ltZ-yes tt; floor-nn = leZ-yes tt; rounded = leZ-yes tt; positive = ltZ-yes tt; more = leZ-yes tt; grows-low = leZ-yes tt; grows-high = leZ-yes tt; grows-most = leZ-yes tt; falls = leZ-yes tt; bent = leZ-yes tt; half = leZ-yes tt; S-positive = ltZ-yes tt; part-positive = ltZ-yes tt; error-nn = leZ-yes tt; normal-nn = leZ-yes tt; margin-nn = leZ-yes tt; normal-large = leZ-yes tt; error-behind = leZ-yes tt; error-ahead = leZ-yes tt; wide = leZ-yes tt; }
+computed zero h = record { lost-nn = leZ-yes tt; behind-nn = leZ-yes tt; ahead-nn = leZ-yes tt; edge-nn = leZ-yes tt; low-nn = leZ-yes tt; high-nn = leZ-yes tt; grow-nn = leZ-yes tt; floor-positive = ltZ-yes tt; floor-nn = leZ-yes tt; rounded = leZ-yes tt; positive = ltZ-yes tt; more = leZ-yes tt; grows-low = leZ-yes tt; grows-high = leZ-yes tt; grows-most = leZ-yes tt; falls = leZ-yes tt; bent = leZ-yes tt; half = leZ-yes tt; S-positive = ltZ-yes tt; part-positive = ltZ-yes tt; error-nn = leZ-yes tt; normal-nn = leZ-yes tt; margin-nn = leZ-yes tt; normal-large = leZ-yes tt; error-behind = leZ-yes tt; error-ahead = leZ-yes tt; wide = leZ-yes tt }
+computed (suc zero) h = record { lost-nn = leZ-yes tt; behind-nn = leZ-yes tt; ahead-nn = leZ-yes tt; edge-nn = leZ-yes tt; low-nn = leZ-yes tt; high-nn = leZ-yes tt; grow-nn = leZ-yes tt; floor-positive = ltZ-yes tt; floor-nn = leZ-yes tt; rounded = leZ-yes tt; positive = ltZ-yes tt; more = leZ-yes tt; grows-low = leZ-yes tt; grows-high = leZ-yes tt; grows-most = leZ-yes tt; falls = leZ-yes tt; bent = leZ-yes tt; half = leZ-yes tt; S-positive = ltZ-yes tt; part-positive = ltZ-yes tt; error-nn = leZ-yes tt; normal-nn = leZ-yes tt; margin-nn = leZ-yes tt; normal-large = leZ-yes tt; error-behind = leZ-yes tt; error-ahead = leZ-yes tt; wide = leZ-yes tt }
+computed (suc (suc zero)) h = record { lost-nn = leZ-yes tt; behind-nn = leZ-yes tt; ahead-nn = leZ-yes tt; edge-nn = leZ-yes tt; low-nn = leZ-yes tt; high-nn = leZ-yes tt; grow-nn = leZ-yes tt; floor-positive = ltZ-yes tt; floor-nn = leZ-yes tt; rounded = leZ-yes tt; positive = ltZ-yes tt; more = leZ-yes tt; grows-low = leZ-yes tt; grows-high = leZ-yes tt; grows-most = leZ-yes tt; falls = leZ-yes tt; bent = leZ-yes tt; half = leZ-yes tt; S-positive = ltZ-yes tt; part-positive = ltZ-yes tt; error-nn = leZ-yes tt; normal-nn = leZ-yes tt; margin-nn = leZ-yes tt; normal-large = leZ-yes tt; error-behind = leZ-yes tt; error-ahead = leZ-yes tt; wide = leZ-yes tt }
+computed (suc (suc (suc zero))) h = record { lost-nn = leZ-yes tt; behind-nn = leZ-yes tt; ahead-nn = leZ-yes tt; edge-nn = leZ-yes tt; low-nn = leZ-yes tt; high-nn = leZ-yes tt; grow-nn = leZ-yes tt; floor-positive = ltZ-yes tt; floor-nn = leZ-yes tt; rounded = leZ-yes tt; positive = ltZ-yes tt; more = leZ-yes tt; grows-low = leZ-yes tt; grows-high = leZ-yes tt; grows-most = leZ-yes tt; falls = leZ-yes tt; bent = leZ-yes tt; half = leZ-yes tt; S-positive = ltZ-yes tt; part-positive = ltZ-yes tt; error-nn = leZ-yes tt; normal-nn = leZ-yes tt; margin-nn = leZ-yes tt; normal-large = leZ-yes tt; error-behind = leZ-yes tt; error-ahead = leZ-yes tt; wide = leZ-yes tt }
+computed (suc (suc (suc (suc zero)))) h = record { lost-nn = leZ-yes tt; behind-nn = leZ-yes tt; ahead-nn = leZ-yes tt; edge-nn = leZ-yes tt; low-nn = leZ-yes tt; high-nn = leZ-yes tt; grow-nn = leZ-yes tt; floor-positive = ltZ-yes tt; floor-nn = leZ-yes tt; rounded = leZ-yes tt; positive = ltZ-yes tt; more = leZ-yes tt; grows-low = leZ-yes tt; grows-high = leZ-yes tt; grows-most = leZ-yes tt; falls = leZ-yes tt; bent = leZ-yes tt; half = leZ-yes tt; S-positive = ltZ-yes tt; part-positive = ltZ-yes tt; error-nn = leZ-yes tt; normal-nn = leZ-yes tt; margin-nn = leZ-yes tt; normal-large = leZ-yes tt; error-behind = leZ-yes tt; error-ahead = leZ-yes tt; wide = leZ-yes tt }
+computed (suc (suc (suc (suc (suc zero))))) h = record { lost-nn = leZ-yes tt; behind-nn = leZ-yes tt; ahead-nn = leZ-yes tt; edge-nn = leZ-yes tt; low-nn = leZ-yes tt; high-nn = leZ-yes tt; grow-nn = leZ-yes tt; floor-positive = ltZ-yes tt; floor-nn = leZ-yes tt; rounded = leZ-yes tt; positive = ltZ-yes tt; more = leZ-yes tt; grows-low = leZ-yes tt; grows-high = leZ-yes tt; grows-most = leZ-yes tt; falls = leZ-yes tt; bent = leZ-yes tt; half = leZ-yes tt; S-positive = ltZ-yes tt; part-positive = ltZ-yes tt; error-nn = leZ-yes tt; normal-nn = leZ-yes tt; margin-nn = leZ-yes tt; normal-large = leZ-yes tt; error-behind = leZ-yes tt; error-ahead = leZ-yes tt; wide = leZ-yes tt }
+computed (suc (suc (suc (suc (suc (suc zero)))))) h = record { lost-nn = leZ-yes tt; behind-nn = leZ-yes tt; ahead-nn = leZ-yes tt; edge-nn = leZ-yes tt; low-nn = leZ-yes tt; high-nn = leZ-yes tt; grow-nn = leZ-yes tt; floor-positive = ltZ-yes tt; floor-nn = leZ-yes tt; rounded = leZ-yes tt; positive = ltZ-yes tt; more = leZ-yes tt; grows-low = leZ-yes tt; grows-high = leZ-yes tt; grows-most = leZ-yes tt; falls = leZ-yes tt; bent = leZ-yes tt; half = leZ-yes tt; S-positive = ltZ-yes tt; part-positive = ltZ-yes tt; error-nn = leZ-yes tt; normal-nn = leZ-yes tt; margin-nn = leZ-yes tt; normal-large = leZ-yes tt; error-behind = leZ-yes tt; error-ahead = leZ-yes tt; wide = leZ-yes tt }
+computed (suc (suc (suc (suc (suc (suc (suc zero))))))) h = record { lost-nn = leZ-yes tt; behind-nn = leZ-yes tt; ahead-nn = leZ-yes tt; edge-nn = leZ-yes tt; low-nn = leZ-yes tt; high-nn = leZ-yes tt; grow-nn = leZ-yes tt; floor-positive = ltZ-yes tt; floor-nn = leZ-yes tt; rounded = leZ-yes tt; positive = ltZ-yes tt; more = leZ-yes tt; grows-low = leZ-yes tt; grows-high = leZ-yes tt; grows-most = leZ-yes tt; falls = leZ-yes tt; bent = leZ-yes tt; half = leZ-yes tt; S-positive = ltZ-yes tt; part-positive = ltZ-yes tt; error-nn = leZ-yes tt; normal-nn = leZ-yes tt; margin-nn = leZ-yes tt; normal-large = leZ-yes tt; error-behind = leZ-yes tt; error-ahead = leZ-yes tt; wide = leZ-yes tt }
+computed (suc (suc (suc (suc (suc (suc (suc (suc zero)))))))) h = record { lost-nn = leZ-yes tt; behind-nn = leZ-yes tt; ahead-nn = leZ-yes tt; edge-nn = leZ-yes tt; low-nn = leZ-yes tt; high-nn = leZ-yes tt; grow-nn = leZ-yes tt; floor-positive = ltZ-yes tt; floor-nn = leZ-yes tt; rounded = leZ-yes tt; positive = ltZ-yes tt; more = leZ-yes tt; grows-low = leZ-yes tt; grows-high = leZ-yes tt; grows-most = leZ-yes tt; falls = leZ-yes tt; bent = leZ-yes tt; half = leZ-yes tt; S-positive = ltZ-yes tt; part-positive = ltZ-yes tt; error-nn = leZ-yes tt; normal-nn = leZ-yes tt; margin-nn = leZ-yes tt; normal-large = leZ-yes tt; error-behind = leZ-yes tt; error-ahead = leZ-yes tt; wide = leZ-yes tt }
 computed (suc (suc (suc (suc (suc (suc (suc (suc (suc i))))))))) h = absurd (omega arith)
 
 -- ---- the same with the volume
@@ -264,11 +275,11 @@ record Shrinks (i : ℕ) : Type 0 where
 
 shrinks : (i : ℕ) → i < 5 → Shrinks (4 + i)
 unfolding constantsAt
-shrinks zero h = record { A-nn = leZ-yes tt; A-below = ltZ-yes tt; half = leZ-yes tt; two = leZ-yes tt; edge-nn = leZ-yes tt; bent = leZ-yes tt; halved = leZ-yes tt; unlost = refl; behind = leZ-yes tt; ahead = leZ-yes tt; some = ltZ-yes tt; child-spare = leZ-yes tt; child = leZ-yes tt; middle-spare = leZ-yes tt; middle = leZ-yes tt; }
-shrinks (suc zero) h = record { A-nn = leZ-yes tt; A-below = ltZ-yes tt; half = leZ-yes tt; two = leZ-yes tt; edge-nn = leZ-yes tt; bent = leZ-yes tt; halved = leZ-yes tt; unlost = refl; behind = leZ-yes tt; ahead = leZ-yes tt; some = ltZ-yes tt; child-spare = leZ-yes tt; child = leZ-yes tt; middle-spare = leZ-yes tt; middle = leZ-yes tt; }
-shrinks (suc (suc zero)) h = record { A-nn = leZ-yes tt; A-below = ltZ-yes tt; half = leZ-yes tt; two = leZ-yes tt; edge-nn = leZ-yes tt; bent = leZ-yes tt; halved = leZ-yes tt; unlost = refl; behind = leZ-yes tt; ahead = leZ-yes tt; some = ltZ-yes tt; child-spare = leZ-yes tt; child = leZ-yes tt; middle-spare = leZ-yes tt; middle = leZ-yes tt; }
-shrinks (suc (suc (suc zero))) h = record { A-nn = leZ-yes tt; A-below = ltZ-yes tt; half = leZ-yes tt; two = leZ-yes tt; edge-nn = leZ-yes tt; bent = leZ-yes tt; halved = leZ-yes tt; unlost = refl; behind = leZ-yes tt; ahead = leZ-yes tt; some = ltZ-yes tt; child-spare = leZ-yes tt; child = leZ-yes tt; middle-spare = leZ-yes tt; middle = leZ-yes tt; }
-shrinks (suc (suc (suc (suc zero)))) h = record { A-nn = leZ-yes tt; A-below = ltZ-yes tt; half = leZ-yes tt; two = leZ-yes tt; edge-nn = leZ-yes tt; bent = leZ-yes tt; halved = leZ-yes tt; unlost = refl; behind = leZ-yes tt; ahead = leZ-yes tt; some = ltZ-yes tt; child-spare = leZ-yes tt; child = leZ-yes tt; middle-spare = leZ-yes tt; middle = leZ-yes tt; }
+shrinks zero h = record { A-nn = leZ-yes tt; A-below = ltZ-yes tt; half = leZ-yes tt; two = leZ-yes tt; edge-nn = leZ-yes tt; bent = leZ-yes tt; halved = leZ-yes tt; unlost = refl; behind = leZ-yes tt; ahead = leZ-yes tt; some = ltZ-yes tt; child-spare = leZ-yes tt; child = leZ-yes tt; middle-spare = leZ-yes tt; middle = leZ-yes tt }
+shrinks (suc zero) h = record { A-nn = leZ-yes tt; A-below = ltZ-yes tt; half = leZ-yes tt; two = leZ-yes tt; edge-nn = leZ-yes tt; bent = leZ-yes tt; halved = leZ-yes tt; unlost = refl; behind = leZ-yes tt; ahead = leZ-yes tt; some = ltZ-yes tt; child-spare = leZ-yes tt; child = leZ-yes tt; middle-spare = leZ-yes tt; middle = leZ-yes tt }
+shrinks (suc (suc zero)) h = record { A-nn = leZ-yes tt; A-below = ltZ-yes tt; half = leZ-yes tt; two = leZ-yes tt; edge-nn = leZ-yes tt; bent = leZ-yes tt; halved = leZ-yes tt; unlost = refl; behind = leZ-yes tt; ahead = leZ-yes tt; some = ltZ-yes tt; child-spare = leZ-yes tt; child = leZ-yes tt; middle-spare = leZ-yes tt; middle = leZ-yes tt }
+shrinks (suc (suc (suc zero))) h = record { A-nn = leZ-yes tt; A-below = ltZ-yes tt; half = leZ-yes tt; two = leZ-yes tt; edge-nn = leZ-yes tt; bent = leZ-yes tt; halved = leZ-yes tt; unlost = refl; behind = leZ-yes tt; ahead = leZ-yes tt; some = ltZ-yes tt; child-spare = leZ-yes tt; child = leZ-yes tt; middle-spare = leZ-yes tt; middle = leZ-yes tt }
+shrinks (suc (suc (suc (suc zero)))) h = record { A-nn = leZ-yes tt; A-below = ltZ-yes tt; half = leZ-yes tt; two = leZ-yes tt; edge-nn = leZ-yes tt; bent = leZ-yes tt; halved = leZ-yes tt; unlost = refl; behind = leZ-yes tt; ahead = leZ-yes tt; some = ltZ-yes tt; child-spare = leZ-yes tt; child = leZ-yes tt; middle-spare = leZ-yes tt; middle = leZ-yes tt }
 shrinks (suc (suc (suc (suc (suc i))))) h = absurd (omega arith)
 
 module _ (i : ℕ) (h : i < 5) (g : ℤ) (large : least ≤ℤ g) where

@@ -15,15 +15,15 @@ use lib.Signed.{_≤ℤ_, _<ℤ_, <ℤ-≤ℤ-trans}
 use Rattle.algebra.proofs.Ring.{Expr, con, _:+_, _:-_, _:*_, :neg}
 use Rattle.algebra.proofs.Order.{nn-mul, ≤ℤ-trans}
 use Rattle.algebra.proofs.Claim.{_:≤_, _:<_, _:≡_, nat, hyp, sq, eqn, _⊕_, _⊗_, ring, prove}
-use Rattle.algebra.proofs.Inequalities.{`0, `1, cancel-≤ℤ, <ℤ-mul, <ℤ→≤ℤ, <ℤ-by-no}
+use Rattle.algebra.proofs.Inequalities.{`0, `1, cancel-≤ℤ, <ℤ→≤ℤ, <ℤ-by-no}
 use Rattle.algebra.proofs.Vec.{V3, dot, cross, dotE, crossE, ringV}
 use Rattle.jump.proofs.Jump.{Size, det}
 use Rattle.jump.proofs.JumpInvariant.{Cornered, Moved, Bounds, Level, Follows, Made, Quotients, rests, quotients, Bend, Apart, both, pushed}
-use Rattle.jump.proofs.JumpChild.{kept-made, flat-moved, child-step, middle-step, turned}
-use Rattle.jump.proofs.JumpSide.{Taxi, place, place-along}
+use Rattle.jump.proofs.JumpChild.{kept-made, child-step, middle-step, turned}
+use Rattle.jump.proofs.JumpSide.{place, place-along}
 use Rattle.jump.proofs.JumpSure.{Margin, sure-above, sure-below}
 use Rattle.jump.proofs.Lengths.{Long, differenceOf, flip, long-x, long-y, long-z}
-use Rattle.jump.proofs.JumpShape.{Rooted, Corner, Shaping, new-corner, bend, edge-halved, corner-long, same-vector}
+use Rattle.jump.proofs.JumpShape.{Rooted, Corner, Shaping, new-corner, bend, edge-halved, same-vector}
 use Rattle.jump.proofs.JumpVolume.{Shape, Shrinking, child-large, middle-large, taxi, cross-long, sums-apart, sums-apart-cross, sums-apart-right}
 
 abbrev `2 : Expr
@@ -118,10 +118,6 @@ new-swapped {k} a b {w} n = record {
   where
     e : (x y : ℤ) → x +ℤ y ≡ y +ℤ x
     e = ring 2 (λ x y. x :+ y :≡ y :+ x) refl
-
-pub swapped-h : {k : ℤ} (a b : V3) {w : V3} (n : New k (both a b) w) → new-swapped a b n .h ≡ n .h
-unfolding new-swapped
-swapped-h a b n = refl
 
 -- ---- S is at most about l / e
 

@@ -11,8 +11,8 @@ use Rattle.algebra.proofs.Claim.{_:≤_, _:<_, _:≡_, nat, hyp, sq, eqn, _⊕_
 use Rattle.algebra.proofs.Inequalities.{`0, `1, ≤ℤ-by-no, sq-≤ℤ, cancel-≤ℤ, <ℤ-mul, <ℤ→≤ℤ}
 use Rattle.algebra.proofs.Vec.{V3, dot, dot-nn}
 use Rattle.jump.proofs.Jump.{Size}
-use Rattle.jump.proofs.JumpInvariant.{Quotients, rests, Bend, Apart, both}
-use Rattle.jump.proofs.Lengths.{Long, sumOf, differenceOf, times, long-sum, long-times, long-divided, long-components, long-x, long-y, long-z}
+use Rattle.jump.proofs.JumpInvariant.{Quotients, rests, Bend, both}
+use Rattle.jump.proofs.Lengths.{Long, sumOf, differenceOf, times, long-sum, long-times, long-divided, long-components}
 
 abbrev `2 : Expr
 `2 = con (pos 2)
@@ -242,6 +242,3 @@ module _ {k A c c' j : ℤ} (l : Shaping k A c c' j) where
         low = prove 3 (λ A h i. record { given = (:neg `2 :≤ h) ∷ (i :+ `2 :≤ A) ∷ []; goal = :neg A :≤ h :- i; cert = hyp 0 ⊕ hyp 1 }) refl A h i (p .low) (q .high);
         high = prove 3 (λ A h i. record { given = (:neg `2 :≤ i) ∷ (h :+ `2 :≤ A) ∷ []; goal = h :- i :≤ A; cert = hyp 0 ⊕ hyp 1 }) refl A h i (q .low) (p .high);
       }
-
-  pub long-apart : {v w : V3} → Long c' (differenceOf v w) → Apart c' v w
-  long-apart p = record { x = long-x p; y = long-y p; z = long-z p }

@@ -1,15 +1,15 @@
 -- The start of the jump: the three determinants of exact corners and p, pushed outward, follow it with nothing lost, by Cramer, and their sum is nearly the volume.
 -- Assumes nothing.
-use mathlib.Core.Path.{_≡_, refl, subst, ap, _∙_}
+use mathlib.Core.Path.{_≡_, refl}
 use mathlib.Core.List.{[], _∷_}
 use lib.IntN.{ℤ, pos, negℤ, _+ℤ_, _-ℤ_, _*ℤ_}
 use lib.Signed.{_≤ℤ_, _<ℤ_, leZ-yes, ltZ-yes, <ℤ-≤ℤ-trans}
 use Rattle.algebra.proofs.Ring.{Expr, con, _:+_, _:-_, _:*_, :neg}
 use Rattle.algebra.proofs.Order.{≤ℤ-trans}
-use Rattle.algebra.proofs.Claim.{_:≤_, _:<_, _:≡_, nat, hyp, eqn, _⊕_, _⊗_, ring, prove}
+use Rattle.algebra.proofs.Claim.{_:≤_, _:≡_, nat, hyp, eqn, _⊕_, _⊗_, prove}
 use Rattle.algebra.proofs.Inequalities.{`0, `1, cancel-≤ℤ, <ℤ→≤ℤ}
 use Rattle.algebra.proofs.Vec.{V3, dot, dotE, crossE, ringV}
-use Rattle.jump.proofs.Jump.{Size, det, cramer-x, cramer-y, cramer-z}
+use Rattle.jump.proofs.Jump.{det, cramer-x, cramer-y, cramer-z}
 use Rattle.jump.proofs.JumpInvariant.{Near, Follows, pushed}
 use Rattle.jump.proofs.JumpShape.{Corner}
 use Rattle.jump.proofs.JumpLevel.{Pointing, meet}

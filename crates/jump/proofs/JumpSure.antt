@@ -13,7 +13,7 @@ use Rattle.algebra.proofs.Claim.{_:≤_, _:≡_, nat, hyp, eqn, _⊕_, _⊗_, r
 use Rattle.algebra.proofs.Inequalities.{`0, `1, <ℤ-mul, <ℤ→≤ℤ, <ℤ-turn}
 use Rattle.algebra.proofs.Vec.{V3, E3, dot, cross, dotE, ringV}
 use Rattle.jump.proofs.Jump.{Size}
-use Rattle.jump.proofs.JumpInvariant.{Near, Cornered, Bounds, Follows, Made, Quotients, rests, quotients, Bend, both, pushed}
+use Rattle.jump.proofs.JumpInvariant.{Near, Cornered, Bounds, Follows, Made, rests, quotients, both, pushed}
 use Rattle.jump.proofs.JumpSide.{Taxi, taxi-dot, place, side-identity, beyond, cancel-<ℤ}
 
 abbrev `2 : Expr

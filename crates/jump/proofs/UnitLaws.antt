@@ -2,7 +2,7 @@
 -- negative, since quotients are rounded toward zero. In S0's octant this holds of x, y and −z. Assumes nothing.
 --   Truncated   z = n q + rest, z, q and the rest not negative, the rest at most n − 1
 --   three       a vector of document 01 as one of the algebra
-use Prim.Native.Nat.{ℕ, suc, _+_, _*_, _/_, _%_, _<_, _≤_}
+use Prim.Native.Nat.{ℕ, _+_, _*_, _/_, _%_, _<_, _≤_}
 use native.Mathlib.Nat.{div-add-mod', mod-lt, mul-comm}
 use native.Mathlib.Omega.{arith}
 use mathlib.Core.Path.{_≡_, refl, sym, ap, subst, _∙_}
@@ -12,9 +12,9 @@ use lib.Dec.{le→leb, lt→ltb}
 use lib.IntN.{ℤ, pos, negsuc, negℤ, natAbs, _+ℤ_, _-ℤ_, _*ℤ_}
 use lib.Signed.{_≤ℤ_, _<ℤ_, leZ-yes, ltZ-yes}
 use Rattle.algebra.proofs.Ring.{Expr, con, _:+_, _:-_, _:*_, :neg}
-use Rattle.algebra.proofs.Claim.{_:≤_, _:≡_, nat, hyp, eqn, _⊕_, _⊗_, ring, prove}
+use Rattle.algebra.proofs.Claim.{_:≤_, _:≡_, hyp, eqn, _⊕_, _⊗_, ring, prove}
 use Rattle.algebra.proofs.Inequalities.{`0, `1}
-use Rattle.algebra.proofs.Order.{nn-pos, nn-mul, nn-add}
+use Rattle.algebra.proofs.Order.{nn-pos, nn-mul}
 use Rattle.algebra.proofs.Vec.{V3}
 use Rattle.algebra.proofs.Vec as vec3
 use Rattle.jump.proofs.JumpInvariant.{Cornered, Made, rests, quotients}

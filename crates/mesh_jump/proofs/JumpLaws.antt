@@ -2,9 +2,9 @@
 -- of the number, so that the rule's digit is known; and the numbers of that child follow p at its corners. Assumes nothing.
 --   Moves i v w a     a number that is made less by the bend a fits the edge from v to w
 use Prim.Native.Nat.{ℕ, zero, suc, _+_, _*_, _/_, _%_, _<_, _≤_}
-use native.Mathlib.Nat.{div-add-mod', mod-lt, mul-comm}
+use native.Mathlib.Nat.{div-add-mod', mod-lt}
 use native.Mathlib.Omega.{arith}
-use mathlib.Core.Path.{_≡_, refl, sym, ap, subst, _∙_}
+use mathlib.Core.Path.{_≡_, refl, sym, ap, subst}
 use mathlib.Core.List.{[], _∷_}
 use mathlib.Core.Bool.{Bool, true, false}
 use lib.Dec.{T, leb, leb→le, le→leb, ltb→lt, lit<}
@@ -17,7 +17,7 @@ use Rattle.algebra.proofs.Order.{nn-pos, nn-add}
 use Rattle.algebra.proofs.Sizes.{Upto}
 use Rattle.algebra.proofs.Vec.{V3}
 use Rattle.jump.proofs.Jump.{Size}
-use Rattle.jump.proofs.JumpInvariant.{Moved, Follows, Bend, both, pushed}
+use Rattle.jump.proofs.JumpInvariant.{Moved, Bend, both}
 use Rattle.jump.proofs.JumpChild.{flat-moved, bent-moved, turned}
 use Rattle.jump.proofs.Lengths.{Long, differenceOf, flip, long-x, long-y, long-z}
 use Rattle.jump.proofs.JumpShape.{Corner, bend}

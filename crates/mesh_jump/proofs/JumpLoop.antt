@@ -4,19 +4,19 @@
 --   starting, known-at       the start, with what is known of an entry of the table
 --   advance-bent, advance-flat   a level whose trixels are known, with their bends; a level from depth 7 on
 --   within, not-negative, far-below   no number leaves its type
-use Prim.Native.Nat.{ℕ, zero, suc, _+_, _-_, _*_, _/_, _%_, _^_, _≤_, _<_}
+use Prim.Native.Nat.{ℕ, suc, _+_, _-_, _*_, _/_, _%_, _^_, _≤_, _<_}
 use native.Mathlib.Nat.{mul-comm, mul-assoc, pow-suc, pow-le-pow-right}
 use native.Mathlib.Numerals.{add-one}
 use native.Mathlib.Omega.{arith}
 use mathlib.Core.Path.{_≡_, refl, sym, ap, subst, _∙_}
 use mathlib.Core.List.{[], _∷_}
 use lib.Dec.{eqb, lit<, lit≤}
-use lib.IntN.{ℤ, pos, negℤ, natAbs, _+ℤ_, _-ℤ_, _*ℤ_}
-use lib.Signed.{_≤ℤ_, _<ℤ_, leZ-yes}
+use lib.IntN.{ℤ, pos, natAbs, _+ℤ_, _-ℤ_, _*ℤ_}
+use lib.Signed.{_≤ℤ_, leZ-yes}
 use Rattle.algebra.proofs.Ring.{con, _:+_, _:-_, _:*_}
-use Rattle.algebra.proofs.Claim.{_:≤_, hyp, nat, _⊕_, _⊗_, prove}
+use Rattle.algebra.proofs.Claim.{_:≤_, hyp, _⊕_, _⊗_, prove}
 use Rattle.algebra.proofs.Inequalities.{`0}
-use Rattle.algebra.proofs.Order.{nn-pos, ≤ℤ-trans}
+use Rattle.algebra.proofs.Order.{nn-pos}
 use Rattle.algebra.proofs.Sizes.{Upto}
 use Rattle.jump.proofs.JumpConstants.{marginAt}
 use Rattle.jump.proofs.JumpStart.{start}
@@ -224,8 +224,7 @@ module _ (p : Vec3) (c : Corners) (small : Small p) (n i₀ i k : ℕ) (d : Numb
       let g = j .following in
       let t = next-known k l (volumeOf c) p small (pointing p (g .vector)) x a known d (g .margin) (g .follows) s m sure f in
       let fit = facts known (omega arith) in
-      let under = below known l s (t .low) in
-      (
+      let under = below known l s (t .low) in (
         advance h a (record { a0 = fit .fit0 .least; a1 = fit .fit1 .least; a2 = fit .fit2 .least }) s m sure f t (stands-known (suc k) (omega arith) (facts under (omega arith))),
         subst (Known (k + 1) (bendsBelow (eqb k 0) s a) (volumeOf c)) (sym (along-next k i s (bare c) (t .low))) (subst (λ u. Known u (bendsBelow (eqb k 0) s a) (volumeOf c) (child s x)) (sym (add-one k)) under),
       )
@@ -237,7 +236,7 @@ module _ (p : Vec3) (c : Corners) (small : Small p) (n i₀ i k : ℕ) (d : Numb
       let five : k - 4 < 5 = omega arith in
       let stands = subst (λ u. StandsAt u (volumeOf c) x) (sym e) (g .stands) in
       let t = next-flat (k - 4) five (volumeOf c) (g .large) p small (pointing p (g .vector)) x stands d (g .margin ∙ ap marginAt (sym e))
-          (subst (λ u. FollowsAt u (volumeOf c) p x (d .d0) (d .d1) (d .d2)) (sym e) (g .follows)) s m sure f in
+      (subst (λ u. FollowsAt u (volumeOf c) p x (d .d0) (d .d1) (d .d2)) (sym e) (g .follows)) s m sure f in
       advance h (record { a0 = pos 0; a1 = pos 0; a2 = pos 0 }) (record { a0 = leZ-yes tt; a1 = leZ-yes tt; a2 = leZ-yes tt }) s m sure f
       (subst (λ u. Next (volumeOf c) p u x s m) e t)
       (subst (λ u. StandsAt (suc u) (volumeOf c) (child s x)) e (stands-below (k - 4) five (volumeOf c) (g .large) x stands s (t .low)))

@@ -3,13 +3,12 @@
 --   Next          one level: the rule's digit, where the child stands, and that its numbers follow p
 --   next-known    at a level whose trixels are known, with their bends
 --   next-flat     at a level from depth 7 on, without bends
-use Prim.Native.Nat.{ℕ, zero, suc, _+_, _*_, _≤_, _<_}
+use Prim.Native.Nat.{ℕ, zero, suc, _+_, _≤_, _<_}
 use native.Mathlib.Omega.{arith}
 use mathlib.Core.Path.{_≡_, refl, subst}
 use mathlib.Core.List.{[], _∷_}
-use mathlib.Core.Bool.{Bool}
-use lib.Dec.{eqb, lit<}
-use lib.IntN.{ℤ, pos, negsuc, negℤ, natAbs, _+ℤ_, _-ℤ_, _*ℤ_}
+use lib.Dec.{lit<}
+use lib.IntN.{ℤ, pos, negℤ, _+ℤ_, _-ℤ_}
 use lib.Signed.{_≤ℤ_, _<ℤ_, leZ-yes}
 use Rattle.algebra.proofs.Ring.{_:+_, _:-_, :neg}
 use Rattle.algebra.proofs.Claim.{_:≤_, _:<_, nat, hyp, _⊕_, prove}
@@ -26,11 +25,10 @@ use Rattle.mesh.specs.declared.Trixel.{Trixel}
 use Rattle.mesh.specs.Trixels.{child}
 use Rattle.mesh.specs.Lookup.{digit}
 use Rattle.mesh_bends.specs.declared.Bends.{Bends}
-use Rattle.mesh_bends.specs.Bends.{bendsBelow}
 use Rattle.mesh_bends.proofs.BendFacts.{Octant, Fit, Facts, limitsAt}
 use Rattle.mesh_bends.proofs.Known.{Known, facts, below, volume-large}
 use Rattle.mesh_jump.specs.declared.Numbers.{Numbers}
-use Rattle.mesh_jump.specs.Jumps.{excessOf, turnedOf, Sure, at0, at1, at2, at3, unsure, StandsAt, FollowsAt}
+use Rattle.mesh_jump.specs.Jumps.{Sure, at0, at1, at2, at3, unsure, StandsAt, FollowsAt}
 use Rattle.mesh_jump.proofs.JumpLaws.{Moves, moves-bent, digit-0, digit-1, digit-2, digit-3, follows-0, follows-1, follows-2, follows-3, stands-below, flat-moves}
 
 -- ---- what is computed, as the laws read it

@@ -1,9 +1,9 @@
 -- What the tests at the start of a jump say: a pointing, numbers that follow it, and how large they are. Assumes nothing.
 use Prim.Native.Nat.{ℕ, _^_}
-use mathlib.Core.Path.{_≡_, refl, ap, subst, sym, _∙_}
+use mathlib.Core.Path.{_≡_, refl}
 use mathlib.Core.Bool.{Bool, true, _&&_}
 use mathlib.Core.List.{[], _∷_}
-use lib.Dec.{leb→le, lit≤}
+use lib.Dec.{leb→le}
 use lib.IntN.{ℤ, pos, negsuc, negℤ, _+ℤ_, _-ℤ_, _*ℤ_}
 use lib.Signed.{leZ, _≤ℤ_, leZ-yes}
 use Rattle.algebra.proofs.Ring.{Expr, con, _:+_, _:-_, _:*_, :neg}
@@ -25,7 +25,6 @@ use Rattle.vector.specs.declared.Vec3.{Vec3}
 use Rattle.vector.specs.Numbers.{K, between}
 use Rattle.vector.specs.Vectors.{isVector}
 use Rattle.vector.specs.Vectors as rule
-use Rattle.mesh_jump.specs.Jumps.{StandsAt}
 
 -- ---- a pointing
 

@@ -63,7 +63,11 @@ const BEND_UNIT: u64 = 16777216;
 const BENT_LEVELS: u32 = 4;
 
 // The bends of the levels below.
-const UNBENT: Bends = Bends { a0: 0, a1: 0, a2: 0 };
+const UNBENT: Bends = Bends {
+    a0: 0,
+    a1: 0,
+    a2: 0,
+};
 
 // The digit of a child that is not sure.
 const UNSURE: u64 = 4;
@@ -282,7 +286,11 @@ fn bent_digits(p: Vec3, c: Corners, id: u64, n: u32) -> BentDigits
 {
     let mut numbers = begin(p, c);
     if !can_start(p, numbers) {
-        return BentDigits { count: 0, id: id, numbers: numbers };
+        return BentDigits {
+            count: 0,
+            id: id,
+            numbers: numbers,
+        };
     }
     let limit = bent_levels(n);
     let mut bends = mesh_bends::bends_of(c);
@@ -291,14 +299,22 @@ fn bent_digits(p: Vec3, c: Corners, id: u64, n: u32) -> BentDigits
     while k < limit {
         let s = child_numbers(numbers, bends);
         if s.digit == UNSURE {
-            return BentDigits { count: k, id: i, numbers: numbers };
+            return BentDigits {
+                count: k,
+                id: i,
+                numbers: numbers,
+            };
         }
         bends = bends_below(k, bends, s.digit);
         numbers = s.numbers;
         i = 4 * i + s.digit;
         k += 1;
     }
-    BentDigits { count: k, id: i, numbers: numbers }
+    BentDigits {
+        count: k,
+        id: i,
+        numbers: numbers,
+    }
 }
 
 // The digits of p below the entry of the table with the corners c and the identifier id, as many of n as are sure.

@@ -1,12 +1,11 @@
 -- A rotation keeps the descent: the tests of a pointing in S0 are those of the turned pointing at the turned trixel, and cutting commutes with the rotation.
 -- So the digits that a jump finds in S0 are those of the root. Assumes nothing.
 use Prim.Native.Nat.{ℕ, zero, suc, _+_, _*_, _/_, _%_, _<_}
-use mathlib.Core.Path.{_≡_, refl, sym, ap, subst, _∙_}
+use mathlib.Core.Path.{_≡_, refl, sym, ap, _∙_}
 use mathlib.Core.Bool.{cond}
 use Rattle.vector.specs.declared.Vec3.{Vec3}
 use Rattle.vector.specs.Vectors.{dot}
 use Rattle.mesh.specs.declared.Trixel.{Trixel}
-use Rattle.mesh.specs.declared.Cut.{Cut}
 use Rattle.mesh.specs.declared.Corners.{Corners}
 use Rattle.mesh.specs.Trixels.{cut, child}
 use Rattle.mesh.specs.Identifiers.{cornersOf}

@@ -1,9 +1,7 @@
 -- `mesh_jump::at_corner` gives the numbers of the child at the first corner; none of them is near 2⁶³. Assumes nothing.
-use Prim.Native.Nat.{_^_}
 use mathlib.Core.Path.{_≡_, subst, sym, _∙_}
 use lib.IntN.{pos, _*ℤ_}
 use lib.Signed.{_≤ℤ_}
-use Rattle.algebra.proofs.Sizes.{Upto}
 use Rattle.algebra.proofs.Sized.{held, upto-held, lit, is-sub, is-mul, fits-sub, fits-mul}
 use Rattle.mesh_jump.specs.Jumps.{lessOf, atCorner}
 use Rattle.mesh_jump.proofs.at_corner.Statement.{statement}

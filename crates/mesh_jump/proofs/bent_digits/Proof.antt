@@ -1,18 +1,16 @@
 -- `mesh_jump::bent_digits` gives digits of the rule, and numbers that follow p. The loop's invariant: for whatever p and c the first numbers and bends were made,
 -- what is left of the descent from here is what it was from the start, and the trixel here is known with its bends. The measure is the levels left. Assumes nothing.
-use Prim.Native.Nat.{ℕ, _-_, _+_, _*_, _^_, _≤_, _<_}
+use Prim.Native.Nat.{_-_, _+_, _*_, _^_, _≤_, _<_}
 use borrow.Author.Needs.{needs}
 use borrow.Author.Tests.{not-false}
 use native.Mathlib.Omega.{arith}
-use mathlib.Core.Path.{_≡_, refl, sym, subst, _∙_}
+use mathlib.Core.Path.{_≡_, sym, subst}
 use Rattle.vector.specs.declared.Vec3.{Vec3}
 use Rattle.vector.proofs.Sizes.{Small}
 use Rattle.mesh.specs.declared.Corners.{Corners}
 use Rattle.mesh_trixels.specs.Corners.{bare}
 use Rattle.mesh_bends.specs.Bends.{SmallBends, bendsOf}
 use Rattle.mesh_bends.proofs.Known.{Known, small-bends}
-use Rattle.mesh_jump.specs.declared.Numbers.{Numbers}
-use Rattle.mesh_jump.specs.declared.BentDigits.{BentDigits}
 use Rattle.mesh_jump.specs.Jumps.{beginOf, Started, Entry, along, volumeOf, Following, Reached}
 use Rattle.mesh_jump.proofs.JumpLoop.{Jumping, sure-low, starting, known-at, within, not-negative, advance-bent, jumped, far-below, none}
 use Rattle.mesh_jump.proofs.bent_digits.Statement.{statement}
@@ -96,9 +94,14 @@ bent-digits-spec =
     (λ c κs. start-before-else1 (c .before) .pre .1 .0)
     (λ c.
     let levels = c .before in
-    let s = start-before-else1 (levels .before) in
-    (s .pre .1 .1 .1 .1, s .pre .1 .1 .1 .0, levels .bent-levels .ensures .0, levels .bent-levels .ensures .1, omega arith,
-    λ p q small entry is start bent. (starting p q entry _ is start (s .args .n) (s .args .id), subst (λ a. Known 0 a (volumeOf q) (along 0 (s .args .id) (bare q))) (sym bent) (known-at q (s .args .id) entry))))
+    let s = start-before-else1 (levels .before) in (
+      s .pre .1 .1 .1 .1,
+      s .pre .1 .1 .1 .0,
+      levels .bent-levels .ensures .0,
+      levels .bent-levels .ensures .1,
+      omega arith,
+      λ p q small entry is start bent. (starting p q entry _ is start (s .args .n) (s .args .id), subst (λ a. Known 0 a (volumeOf q) (along 0 (s .args .id) (bare q))) (sym bent) (known-at q (s .args .id) entry)),
+    ))
     (λ c κs.
     let l = c .before in
     let j = all l .0 in
@@ -115,9 +118,15 @@ bent-digits-spec =
     let child = child-before-else2 e in
     let l = loop-before-child child in
     let v = l .loop .inv in
-    let r = child .child-numbers in
-    (v .0, v .1, v .2, v .3, omega arith, λ p q small entry is start bent.
-    let w = v .5 p q small entry is start bent in
-    let a = advance-bent p q small _ _ _ _ _ (w .0) (v .0) (omega (arith, v .2)) (omega (arith, v .3)) _ (w .1) (r .result .digit) (r .result .numbers) (r .ensures) (e .if2 .left) in
-    (a .0, subst (λ b. Known (l .loop .k + 1) b (volumeOf q) (along (l .loop .k + 1) (4 * l .loop .i + r .result .digit) (bare q))) (sym (c .before .before .bends-below .ensures)) (a .1))))
+    let r = child .child-numbers in (
+      v .0,
+      v .1,
+      v .2,
+      v .3,
+      omega arith,
+      λ p q small entry is start bent.
+          let w = v .5 p q small entry is start bent in
+          let a = advance-bent p q small _ _ _ _ _ (w .0) (v .0) (omega (arith, v .2)) (omega (arith, v .3)) _ (w .1) (r .result .digit) (r .result .numbers) (r .ensures) (e .if2 .left) in
+          (a .0, subst (λ b. Known (l .loop .k + 1) b (volumeOf q) (along (l .loop .k + 1) (4 * l .loop .i + r .result .digit) (bare q))) (sym (c .before .before .bends-below .ensures)) (a .1)),
+    ))
     (λ c. so-far (c .before)))

@@ -24,14 +24,20 @@ use Rattle.mesh_jump.proofs.child_numbers.Tie as tie
 abbrev above-before-told2 : tie.After-struct-told2 → tie.After-is-above
 above-before-told2 c = c .before .before .before
 
+abbrev above-before-below : tie.After-is-below → tie.After-is-above
+above-before-below c = c .before .before
+
 abbrev start-before-else2 : tie.Else2 → tie.Start
-start-before-else2 c = c .before .before .before .before
+start-before-else2 c = above-before-below (c .before) .before
 
 abbrev above-before-told4 : tie.After-struct-told4 → tie.After-is-above2
 above-before-told4 c = c .before .before .before
 
+abbrev above-before-below2 : tie.After-is-below2 → tie.After-is-above2
+above-before-below2 c = c .before .before
+
 abbrev turn-before-else4 : tie.Else4 → tie.After-turned
-turn-before-else4 c = c .before .before .before .before
+turn-before-else4 c = above-before-below2 (c .before) .before
 
 abbrev start-before-else4 : tie.Else4 → tie.Start
 start-before-else4 c = start-before-else2 (turn-before-else4 c .before)
@@ -39,8 +45,11 @@ start-before-else4 c = start-before-else2 (turn-before-else4 c .before)
 abbrev above-before-told6 : tie.After-struct-told6 → tie.After-is-above3
 above-before-told6 c = c .before .before .before
 
+abbrev above-before-below3 : tie.After-is-below3 → tie.After-is-above3
+above-before-below3 c = c .before .before
+
 abbrev turn2-before-else6 : tie.Else6 → tie.After-turned2
-turn2-before-else6 c = c .before .before .before .before
+turn2-before-else6 c = above-before-below3 (c .before) .before
 
 abbrev start-before-else6 : tie.Else6 → tie.Start
 start-before-else6 c = start-before-else4 (turn2-before-else6 c .before)

@@ -1,5 +1,5 @@
 -- `mesh_jump::excess_less` calls `less` with what two numbers have beyond a third. Assumes nothing.
-use Prim.Native.Nat.{_+_, _*_, _^_}
+use Prim.Native.Nat.{_*_, _^_}
 use native.Mathlib.Omega.{arith}
 use mathlib.Core.Path.{subst, sym, _∙_}
 use lib.IntN.{ℤ, pos}
@@ -23,8 +23,7 @@ excess-less-spec =
     (λ c.
     let s = c .before in
     let w = s .pre .0 in
-    let r = c .less .ensures in
-    (
+    let r = c .less .ensures in (
       held (r .1) tt .eq ∙ r .0 ∙ (λ i. lessOf (is-sub (is-add (held (w .0) tt) (held (w .1) tt) tt) (held (w .2) tt) tt .eq i) (held (s .pre .1 .1) tt .eq i)),
       upto-held (r .1) tt,
     )))

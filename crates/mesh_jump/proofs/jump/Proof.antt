@@ -1,9 +1,7 @@
 -- `mesh_jump::jump` gives digits of the rule. The loop's invariant: for whatever p and c the bent levels were passed, what is left of the descent from here is
 -- what it was from the start, and the numbers follow p here. The measure is the levels left. Assumes nothing.
 use Prim.Native.Nat.{_^_, _-_, _≤_, _<_}
-use borrow.Author.Needs.{needs}
 use native.Mathlib.Omega.{arith}
-use mathlib.Core.Path.{_≡_, refl}
 use lib.Dec.{lit≤}
 use lib.IntN.{pos}
 use Rattle.vector.specs.declared.Vec3.{Vec3}
@@ -83,7 +81,11 @@ jump-spec =
     (λ c.
     let l = loop-before-numbers2 (c .before) in
     let r = child-before-numbers2 (c .before) .child-numbers in
-    let v = l .loop .inv in
-    (v .0, v .1, omega (arith, v .2), λ p q small t.
-    advance-flat p q small _ _ _ _ _ (v .3 p q small t) (v .0) (omega arith) (v .2) (r .result .digit) (r .result .numbers) (r .ensures) (else2-before-numbers2 (c .before) .if2 .left)))
+    let v = l .loop .inv in (
+      v .0,
+      v .1,
+      omega (arith, v .2),
+      λ p q small t.
+          advance-flat p q small _ _ _ _ _ (v .3 p q small t) (v .0) (omega arith) (v .2) (r .result .digit) (r .result .numbers) (r .ensures) (else2-before-numbers2 (c .before) .if2 .left),
+    ))
     (λ c. so-far (c .before)))

@@ -1,5 +1,5 @@
 -- `mesh_jump::twice_less` calls `less` with twice the number. Assumes nothing.
-use Prim.Native.Nat.{_+_, _*_, _^_}
+use Prim.Native.Nat.{_*_, _^_}
 use native.Mathlib.Omega.{arith}
 use mathlib.Core.Path.{refl, subst, sym, _∙_}
 use mathlib.Core.List.{[], _∷_}
@@ -27,8 +27,7 @@ twice-less-spec =
     ((subst (λ z. pos 0 ≤ℤ z) (sym (r .eq)) (twice-nn (c .args .d) (c .pre .0 .0)), subst (Upto (3 * 2 ^ 61)) (sym (r .eq)) (upto-mono (omega arith) (r .size))), upto-held (c .pre .1) tt))
     (λ c.
     let s = c .before in
-    let r = c .less .ensures in
-    (
+    let r = c .less .ensures in (
       held (r .1) tt .eq ∙ r .0 ∙ (λ i. lessOf (is-mul (lit 2 tt) (held (s .pre .0 .1) tt) tt .eq i) (held (s .pre .1) tt .eq i)),
       upto-held (r .1) tt,
     )))

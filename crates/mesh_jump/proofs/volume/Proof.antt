@@ -35,8 +35,7 @@ volume-spec =
     let d = c .before in
     let x = d .before in
     let s = x .before in
-    let r = is-add (held (d .dot .ensures .1) tt) (held (c .push-along .ensures .1) tt) tt in
-    (
+    let r = is-add (held (d .dot .ensures .1) tt) (held (c .push-along .ensures .1) tt) tt in (
       r .eq ∙ (λ i. d .dot .ensures .0 i +ℤ c .push-along .ensures .0 i) ∙ pushed-volume (s .args .a) (s .args .b) (s .args .c) (x .cross .result) (x .cross .ensures .0),
       subst (Upto (3 * 2 ^ 61 + 15 * 2 ^ 41)) (sym (r .eq)) (r .size),
     )))

@@ -3,7 +3,6 @@ use borrow.Author.Needs.{needs}
 use native.Mathlib.Omega.{arith}
 use mathlib.Core.Path.{_≡_, ap, _∙_}
 use Prim.Native.Nat.{_-_}
-use Rattle.mesh.specs.declared.Corners.{Corners}
 use Rattle.mesh.specs.Lookup.{descend}
 use Rattle.mesh.specs.Rotations.{turnedBy}
 use Rattle.mesh_trixels.specs.Corners.{tripleOf, bare}
@@ -43,10 +42,17 @@ identifier-below-spec =
     let j = jump-before-else1 (c .before .before) in
     let s = j .before in
     let q = s .pre in
-    let t = q .1 .1 .0 in
-    (q .0, (c .turned-corners .ensures .1,
-    (sure-below (s .args .root) (q .1 .0) (s .args .p) (s .args .t .pointing) (t .back) (s .args .t .entry) (s .args .t .id) (s .args .n) (j .jump .result) (j .jump .ensures) (t .low) (q .1 .1 .1),
-    j .jump .ensures .upto, q .1 .1 .1))))
+    let t = q .1 .1 .0 in (
+      q .0,
+      (
+        c .turned-corners .ensures .1,
+        (
+          sure-below (s .args .root) (q .1 .0) (s .args .p) (s .args .t .pointing) (t .back) (s .args .t .entry) (s .args .t .id) (s .args .n) (j .jump .result) (j .jump .ensures) (t .low) (q .1 .1 .1),
+          j .jump .ensures .upto,
+          q .1 .1 .1,
+        ),
+      ),
+    ))
     (λ c.
     let turn = c .before in
     let j = jump-before-else1 (turn .before .before) in
