@@ -34,7 +34,7 @@ use Rattle.mesh_bends.proofs.Known.{Known, facts, below, volume-large, known-ba
 use Rattle.mesh_bends.proofs.Computed.{known-start}
 use Rattle.mesh_jump.specs.declared.Numbers.{Numbers}
 use Rattle.mesh_jump.specs.declared.BentDigits.{BentDigits}
-use Rattle.mesh_jump.specs.Jumps.{lessOf, beginOf, Within, NotNegative, Started, Sure, at0, at1, at2, at3, unsure, Entry, along, volumeOf, StandsAt, FollowsAt, Following, Jumped, Reached}
+use Rattle.mesh_jump.specs.Jumps.{lessOf, beginOf, Within, NotNegative, Started, unbent, Sure, at0, at1, at2, at3, unsure, Entry, along, volumeOf, StandsAt, FollowsAt, Following, Jumped, Reached}
 use Rattle.mesh_jump.proofs.StartLaws.{pointing, upto-of, sum-most}
 use Rattle.mesh_jump.proofs.JumpLaws.{stands-below}
 use Rattle.mesh_jump.proofs.JumpPath.{Next, stands-known, next-known, next-flat}
@@ -55,13 +55,6 @@ along-next k i s t h =
     ap (λ m. along m (4 * i + s) t) (add-one k) ∙ (λ j. child (last j) (along k (rest j) t))
 
 -- ---- numbers
-
-pub sure-low : {d : Numbers} {a : Bends} {s : ℕ} {m : Numbers} → Sure d a s m → s ≤ 4
-sure-low (at0 a) = lit≤ tt
-sure-low (at1 b a) = lit≤ tt
-sure-low (at2 b c a) = lit≤ tt
-sure-low (at3 b c a) = lit≤ tt
-sure-low (unsure m) = lit≤ tt
 
 margin-next : (k : ℕ) → pos 2 *ℤ marginAt k ≡ marginAt (k + 1)
 unfolding marginAt
@@ -229,7 +222,7 @@ module _ (p : Vec3) (c : Corners) (small : Small p) (n i₀ i k : ℕ) (d : Numb
         subst (Known (k + 1) (bendsBelow (eqb k 0) s a) (volumeOf c)) (sym (along-next k i s (bare c) (t .low))) (subst (λ u. Known u (bendsBelow (eqb k 0) s a) (volumeOf c) (child s x)) (sym (add-one k)) under),
       )
 
-  pub advance-flat : k < n → 4 ≤ k → (s : ℕ) (m : Numbers) → Sure d (record { a0 = pos 0; a1 = pos 0; a2 = pos 0 }) s m → (s ≡ 4 → ⊥) → Jumping p c n i₀ (4 * i + s) (k + 1) m
+  pub advance-flat : k < n → 4 ≤ k → (s : ℕ) (m : Numbers) → Sure d unbent s m → (s ≡ 4 → ⊥) → Jumping p c n i₀ (4 * i + s) (k + 1) m
   advance-flat h l s m sure f =
       let e : 4 + (k - 4) ≡ k = omega arith in
       let g = j .following in
@@ -237,7 +230,7 @@ module _ (p : Vec3) (c : Corners) (small : Small p) (n i₀ i k : ℕ) (d : Numb
       let stands = subst (λ u. StandsAt u (volumeOf c) x) (sym e) (g .stands) in
       let t = next-flat (k - 4) five (volumeOf c) (g .large) p small (pointing p (g .vector)) x stands d (g .margin ∙ ap marginAt (sym e))
       (subst (λ u. FollowsAt u (volumeOf c) p x (d .d0) (d .d1) (d .d2)) (sym e) (g .follows)) s m sure f in
-      advance h (record { a0 = pos 0; a1 = pos 0; a2 = pos 0 }) (record { a0 = leZ-yes tt; a1 = leZ-yes tt; a2 = leZ-yes tt }) s m sure f
+      advance h unbent (record { a0 = leZ-yes tt; a1 = leZ-yes tt; a2 = leZ-yes tt }) s m sure f
       (subst (λ u. Next (volumeOf c) p u x s m) e t)
       (subst (λ u. StandsAt (suc u) (volumeOf c) (child s x)) e (stands-below (k - 4) five (volumeOf c) (g .large) x stands s (t .low)))
 

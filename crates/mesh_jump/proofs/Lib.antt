@@ -1,3 +1,4 @@
+pub mod GivenLaws
 pub mod JumpLaws
 pub mod JumpLoop
 pub mod JumpPath

@@ -9,7 +9,8 @@
 --   NotNegative n       none is below 0; Within n, small enough for sums and doubles
 --   InMiddle n          none is more than the other two together
 --   Started p n         what the start is tested for
---   Sure n a k m        k is the child that the numbers n give and m its numbers; or k is 4, not sure
+--   Given n k           k is the child that the numbers n give; or k is 4, not sure
+--   Sure n a k m        and m are its numbers, a being the bends of the trixel; unbent, where nothing is bent
 --   Entry c             the corners of an entry of the table
 --   along n i t         the trixel n levels below t, by the last n digits of i
 --   volumeOf c          det(v0, v1, v2)
@@ -40,7 +41,6 @@ use Rattle.mesh.specs.Lookup.{descend}
 use Rattle.mesh_trixels.specs.Corners.{bare}
 use Rattle.mesh_bends.specs.declared.Bends.{Bends}
 use Rattle.mesh_jump.specs.declared.Numbers.{Numbers}
-use Rattle.mesh_jump.specs.declared.ChildNumbers.{ChildNumbers}
 use Rattle.mesh_jump.specs.declared.SureDigits.{SureDigits}
 use Rattle.mesh_jump.specs.declared.BentDigits.{BentDigits}
 
@@ -78,8 +78,9 @@ beginOf p c = record {
   margin = pos 26388279066624;
 }
 
-abbrev pub childAt : ℕ → Numbers → ChildNumbers
-childAt k n = record { digit = k; numbers = n }
+-- no bends
+abbrev pub unbent : Bends
+unbent = record { a0 = pos 0; a1 = pos 0; a2 = pos 0 }
 
 pub record Within (n : Numbers) : Type 0 where
   pub d0 : Upto (2 ^ 61) (n .d0)
@@ -104,6 +105,13 @@ pub record Started (p : Vec3) (n : Numbers) : Type 0 where
   pub d0 : pos 0 ≤ℤ n .d0
   pub d1 : pos 0 ≤ℤ n .d1
   pub d2 : pos 0 ≤ℤ n .d2
+
+pub data Given (n : Numbers) : ℕ → Type 0 where
+  given0 : Above n → Given n 0
+  given1 : Below n → Above (turnedOf n) → Given n 1
+  given2 : Below n → Below (turnedOf n) → Above (turnedOf (turnedOf n)) → Given n 2
+  given3 : Below n → Below (turnedOf n) → Below (turnedOf (turnedOf n)) → Given n 3
+  not-given : Given n 4
 
 pub data Sure (n : Numbers) (a : Bends) : ℕ → Numbers → Type 0 where
   at0 : Above n → Sure n a 0 (atCorner n (a .a2) (a .a1))

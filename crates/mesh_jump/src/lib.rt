@@ -20,7 +20,7 @@ ghost use Rattle.mesh.specs.Trixels.{child};
 ghost use Rattle.mesh.specs.Identifiers.{cornersOf};
 ghost use Rattle.mesh_trixels.specs.Corners.{bare, SmallCorners};
 ghost use Rattle.mesh_bends.specs.Bends.{SmallBends, bendsBelow};
-ghost use Rattle.mesh_jump.specs.Jumps.{Above, Below, turnedOf, lessOf, atCorner, InMiddle, inMiddle, beginOf, Within, NotNegative, Started, Sure, childAt, Entry, along, Jumped, Reached};
+ghost use Rattle.mesh_jump.specs.Jumps.{Above, Below, turnedOf, lessOf, atCorner, InMiddle, inMiddle, beginOf, Within, NotNegative, Started, unbent, Given, Sure, Entry, along, Jumped, Reached};
 
 // Three numbers that follow a pointing from a trixel to its children, and the margin beyond which their differences give the child. At the start each is
 // the volume of two corners and the pointing, pushed outward.
@@ -29,12 +29,6 @@ pub struct Numbers {
     pub d1: i64,
     pub d2: i64,
     pub margin: i64,
-}
-
-// A digit, and the numbers of that child.
-pub struct ChildNumbers {
-    pub digit: u64,
-    pub numbers: Numbers,
 }
 
 // How many digits are sure, and the identifier that ends with them.
@@ -61,13 +55,6 @@ const BEND_UNIT: u64 = 16777216;
 
 // So many levels from the table on are bent: further down the edges are short enough.
 const BENT_LEVELS: u32 = 4;
-
-// The bends of the levels below.
-const UNBENT: Bends = Bends {
-    a0: 0,
-    a1: 0,
-    a2: 0,
-};
 
 // The digit of a child that is not sure.
 const UNSURE: u64 = 4;
@@ -218,43 +205,100 @@ fn in_middle(n: Numbers, a: Bends) -> Numbers
     }
 }
 
-fn chosen(digit: u64, numbers: Numbers) -> ChildNumbers
-    ensures { λ r. ⌜ r ≡ childAt digit numbers ⌝ }
+// The numbers of the child at the first corner where nothing is bent.
+fn flat_at_corner(n: Numbers) -> Numbers
+    requires { ⌜ Within n ⌝ }
+    ensures { λ r. ⌜ r ≡ atCorner n (pos 0) (pos 0) ⌝ }
 {
-    ChildNumbers {
-        digit: digit,
-        numbers: numbers,
+    Numbers {
+        d0: n.d0 - n.d1 - n.d2,
+        d1: 2 * n.d1,
+        d2: 2 * n.d2,
+        margin: 2 * n.margin,
     }
 }
 
-// The child that the numbers give, with its own, a being the bends; UNSURE where one of them is within the margin.
-fn child_numbers(n: Numbers, a: Bends) -> ChildNumbers
+// Those of the child in the middle.
+fn flat_in_middle(n: Numbers) -> Numbers
+    requires { ⌜ Within n ⌝ }
+    ensures { λ r. ⌜ r ≡ inMiddle n unbent ⌝ }
+{
+    Numbers {
+        d0: n.d1 + n.d2 - n.d0,
+        d1: n.d0 + n.d2 - n.d1,
+        d2: n.d0 + n.d1 - n.d2,
+        margin: 2 * n.margin,
+    }
+}
+
+// The child that the numbers give; UNSURE where one of them is within the margin.
+fn sure_digit(n: Numbers) -> u64
     requires { ⌜ Within n ⌝ }
     requires { ⌜ NotNegative n ⌝ }
-    requires { ⌜ SmallBends a ⌝ }
-    ensures { λ r. ⌜ Sure n a (r .digit) (r .numbers) ⌝ }
+    ensures { λ r. ⌜ Given n r ⌝ }
 {
     if is_above(n) {
-        return chosen(0, at_corner(n, a.a2, a.a1));
+        return 0;
     }
     if !is_below(n) {
-        return chosen(UNSURE, n);
+        return UNSURE;
     }
     let next = turned(n);
     if is_above(next) {
-        return chosen(1, at_corner(next, a.a0, a.a2));
+        return 1;
     }
     if !is_below(next) {
-        return chosen(UNSURE, n);
+        return UNSURE;
     }
     let last = turned(next);
     if is_above(last) {
-        return chosen(2, at_corner(last, a.a1, a.a0));
+        return 2;
     }
     if !is_below(last) {
-        return chosen(UNSURE, n);
+        return UNSURE;
     }
-    chosen(3, in_middle(n, a))
+    3
+}
+
+// The numbers of the child that they give, with the bends a.
+fn bent_child(n: Numbers, a: Bends, digit: u64) -> Numbers
+    requires { ⌜ Within n ⌝ }
+    requires { ⌜ NotNegative n ⌝ }
+    requires { ⌜ SmallBends a ⌝ }
+    requires { ⌜ Given n digit × (digit < 4) ⌝ }
+    ensures { λ r. ⌜ Sure n a digit r ⌝ }
+{
+    if digit == 0 {
+        return at_corner(n, a.a2, a.a1);
+    }
+    let next = turned(n);
+    if digit == 1 {
+        return at_corner(next, a.a0, a.a2);
+    }
+    if digit == 2 {
+        return at_corner(turned(next), a.a1, a.a0);
+    }
+    in_middle(n, a)
+}
+
+// The same where nothing is bent.
+fn flat_child(n: Numbers, digit: u64) -> Numbers
+    requires { ⌜ Within n ⌝ }
+    requires { ⌜ NotNegative n ⌝ }
+    requires { ⌜ Given n digit × (digit < 4) ⌝ }
+    ensures { λ r. ⌜ Sure n unbent digit r ⌝ }
+{
+    if digit == 0 {
+        return flat_at_corner(n);
+    }
+    let next = turned(n);
+    if digit == 1 {
+        return flat_at_corner(next);
+    }
+    if digit == 2 {
+        return flat_at_corner(turned(next));
+    }
+    flat_in_middle(n)
 }
 
 // The bends of the child number d, k levels below the table.
@@ -297,17 +341,17 @@ fn bent_digits(p: Vec3, c: Corners, id: u64, n: u32) -> BentDigits
     let mut i = id;
     let mut k: u32 = 0;
     while k < limit {
-        let s = child_numbers(numbers, bends);
-        if s.digit == UNSURE {
+        let digit = sure_digit(numbers);
+        if digit == UNSURE {
             return BentDigits {
                 count: k,
                 id: i,
                 numbers: numbers,
             };
         }
-        bends = bends_below(k, bends, s.digit);
-        numbers = s.numbers;
-        i = 4 * i + s.digit;
+        numbers = bent_child(numbers, bends, digit);
+        bends = bends_below(k, bends, digit);
+        i = 4 * i + digit;
         k += 1;
     }
     BentDigits {
@@ -333,12 +377,12 @@ pub fn jump(p: Vec3, c: Corners, id: u64, n: u32) -> SureDigits
     }
     let mut numbers = bent.numbers;
     while k < n {
-        let s = child_numbers(numbers, UNBENT);
-        if s.digit == UNSURE {
+        let digit = sure_digit(numbers);
+        if digit == UNSURE {
             return SureDigits { count: k, id: i };
         }
-        numbers = s.numbers;
-        i = 4 * i + s.digit;
+        numbers = flat_child(numbers, digit);
+        i = 4 * i + digit;
         k += 1;
     }
     SureDigits { count: k, id: i }

@@ -11,8 +11,9 @@ use Rattle.mesh.specs.declared.Corners.{Corners}
 use Rattle.mesh_trixels.specs.Corners.{bare}
 use Rattle.mesh_bends.specs.Bends.{SmallBends, bendsOf}
 use Rattle.mesh_bends.proofs.Known.{Known, small-bends}
-use Rattle.mesh_jump.specs.Jumps.{beginOf, Started, Entry, along, volumeOf, Following, Reached}
-use Rattle.mesh_jump.proofs.JumpLoop.{Jumping, sure-low, starting, known-at, within, not-negative, advance-bent, jumped, far-below, none}
+use Rattle.mesh_jump.specs.Jumps.{beginOf, Within, Started, Entry, along, volumeOf, Following, Reached}
+use Rattle.mesh_jump.proofs.JumpLoop.{Jumping, starting, known-at, within, not-negative, advance-bent, jumped, far-below, none}
+use Rattle.mesh_jump.proofs.GivenLaws.{given-low, given-sure}
 use Rattle.mesh_jump.proofs.bent_digits.Statement.{statement}
 use Rattle.mesh_jump.proofs.bent_digits.Tie as tie
 
@@ -35,17 +36,14 @@ else1-before-loop c = c .before .before .before
 abbrev start-before-loop : tie.At-loop Inv-loop μ-loop → tie.Start Inv-loop μ-loop
 start-before-loop c = start-before-else1 (else1-before-loop c)
 
-abbrev loop-before-child : tie.After-child-numbers Inv-loop μ-loop → tie.At-loop Inv-loop μ-loop
-loop-before-child c = c .before .before
+abbrev loop-before-digit : tie.After-sure-digit Inv-loop μ-loop → tie.At-loop Inv-loop μ-loop
+loop-before-digit c = c .before .before
 
-abbrev child-before-else2 : tie.Else2 Inv-loop μ-loop → tie.After-child-numbers Inv-loop μ-loop
-child-before-else2 c = c .before .before
+abbrev else2-before-bends : tie.After-bends-below Inv-loop μ-loop → tie.Else2 Inv-loop μ-loop
+else2-before-bends c = c .before .before
 
-abbrev else2-before-numbers : tie.After-numbers Inv-loop μ-loop → tie.Else2 Inv-loop μ-loop
-else2-before-numbers c = c .before .before
-
-abbrev loop-before-numbers : tie.After-numbers Inv-loop μ-loop → tie.At-loop Inv-loop μ-loop
-loop-before-numbers c = loop-before-child (child-before-else2 (else2-before-numbers c))
+abbrev loop-before-bends : tie.After-bends-below Inv-loop μ-loop → tie.At-loop Inv-loop μ-loop
+loop-before-bends c = loop-before-digit (else2-before-bends c .before)
 
 -- the start was tested
 started : (c : tie.Else1 Inv-loop μ-loop) → Started (start-before-else1 c .args .p) (c .before .before .begin .result)
@@ -66,6 +64,12 @@ at-most l =
 
 small : (l : tie.At-loop Inv-loop μ-loop) → SmallBends (l .loop .bends)
 small l = let v = l .loop .inv in small-bends (all l .1) (omega (arith, v .3, v .4))
+
+nine : (l : tie.At-loop Inv-loop μ-loop) → l .loop .k ≤ 9
+nine l = let v = l .loop .inv in omega (arith, v .3, v .4)
+
+in-range : (l : tie.At-loop Inv-loop μ-loop) → Within (l .loop .numbers)
+in-range l = within (all l .0 .following) (nine l)
 
 -- so far, with as many digits as there are bent levels at the end
 so-far : (l : tie.At-loop Inv-loop μ-loop)
@@ -102,23 +106,23 @@ bent-digits-spec =
       omega arith,
       λ p q small entry is start bent. (starting p q entry _ is start (s .args .n) (s .args .id), subst (λ a. Known 0 a (volumeOf q) (along 0 (s .args .id) (bare q))) (sym bent) (known-at q (s .args .id) entry)),
     ))
+    (λ c κs. let l = c .before in (in-range l, not-negative (all l .0 .following) (nine l)))
+    (λ c. so-far (loop-before-digit (c .before)))
     (λ c κs.
-    let l = c .before in
-    let j = all l .0 in
-    let v = l .loop .inv in
-    (within (j .following) (omega (arith, j .upto, v .0)), (not-negative (j .following) (omega (arith, j .upto, v .0)), small l)))
-    (λ c. so-far (loop-before-child (c .before .before)))
-    (λ c κs. small (loop-before-child (child-before-else2 c)))
-    (λ c. omega (arith, at-most (loop-before-numbers c)))
-    (λ c. omega (arith, at-most (loop-before-numbers (c .before)), sure-low (child-before-else2 (else2-before-numbers (c .before)) .child-numbers .ensures)))
-    (λ c. let v = loop-before-numbers (c .before) .loop .inv in omega (arith, v .0, v .2, v .4))
+    let d = c .before in
+    let l = loop-before-digit d in
+    (in-range l, (not-negative (all l .0 .following) (nine l), (small l, (d .sure-digit .ensures, given-sure (d .sure-digit .ensures) (c .if2 .left))))))
+    (λ c κs. small (loop-before-digit (c .before .before)))
+    (λ c. omega (arith, at-most (loop-before-bends c)))
+    (λ c. omega (arith, at-most (loop-before-bends c), given-low (else2-before-bends c .before .sure-digit .ensures)))
+    (λ c. let v = loop-before-bends c .loop .inv in omega (arith, v .0, v .2, v .4))
     (λ c. omega arith)
     (λ c.
-    let e = else2-before-numbers (c .before) in
-    let child = child-before-else2 e in
-    let l = loop-before-child child in
+    let e = else2-before-bends c in
+    let d = e .before .sure-digit in
+    let l = loop-before-digit (e .before) in
     let v = l .loop .inv in
-    let r = child .child-numbers in (
+    let m = c .before .bent-child in (
       v .0,
       v .1,
       v .2,
@@ -126,7 +130,7 @@ bent-digits-spec =
       omega arith,
       λ p q small entry is start bent.
           let w = v .5 p q small entry is start bent in
-          let a = advance-bent p q small _ _ _ _ _ (w .0) (v .0) (omega (arith, v .2)) (omega (arith, v .3)) _ (w .1) (r .result .digit) (r .result .numbers) (r .ensures) (e .if2 .left) in
-          (a .0, subst (λ b. Known (l .loop .k + 1) b (volumeOf q) (along (l .loop .k + 1) (4 * l .loop .i + r .result .digit) (bare q))) (sym (c .before .before .bends-below .ensures)) (a .1)),
+          let a = advance-bent p q small _ _ _ _ _ (w .0) (v .0) (omega (arith, v .2)) (omega (arith, v .3)) _ (w .1) (d .result) (m .result) (m .ensures) (e .if2 .left) in
+          (a .0, subst (λ b. Known (l .loop .k + 1) b (volumeOf q) (along (l .loop .k + 1) (4 * l .loop .i + d .result) (bare q))) (sym (c .bends-below .ensures)) (a .1)),
     ))
     (λ c. so-far (c .before)))

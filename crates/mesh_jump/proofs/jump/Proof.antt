@@ -2,14 +2,12 @@
 -- what it was from the start, and the numbers follow p here. The measure is the levels left. Assumes nothing.
 use Prim.Native.Nat.{_^_, _-_, _≤_, _<_}
 use native.Mathlib.Omega.{arith}
-use lib.Dec.{lit≤}
-use lib.IntN.{pos}
 use Rattle.vector.specs.declared.Vec3.{Vec3}
 use Rattle.vector.proofs.Sizes.{Small}
 use Rattle.mesh.specs.declared.Corners.{Corners}
-use Rattle.mesh_bends.specs.Bends.{SmallBends}
 use Rattle.mesh_jump.specs.Jumps.{Jumped, Reached}
-use Rattle.mesh_jump.proofs.JumpLoop.{Jumping, sure-low, within, not-negative, advance-flat, jumped, far-below, reached}
+use Rattle.mesh_jump.proofs.JumpLoop.{Jumping, within, not-negative, advance-flat, jumped, far-below, reached}
+use Rattle.mesh_jump.proofs.GivenLaws.{given-low, given-sure}
 use Rattle.mesh_jump.proofs.jump.Statement.{statement}
 use Rattle.mesh_jump.proofs.jump.Tie as tie
 
@@ -28,17 +26,14 @@ bent-before-loop c = c .before .before .before
 abbrev start-before-loop : tie.At-loop Inv-loop μ-loop → tie.Start Inv-loop μ-loop
 start-before-loop c = bent-before-loop c .before
 
-abbrev loop-before-child : tie.After-child-numbers Inv-loop μ-loop → tie.At-loop Inv-loop μ-loop
-loop-before-child c = c .before .before
+abbrev loop-before-digit : tie.After-sure-digit Inv-loop μ-loop → tie.At-loop Inv-loop μ-loop
+loop-before-digit c = c .before .before
 
-abbrev else2-before-numbers2 : tie.After-numbers2 Inv-loop μ-loop → tie.Else2 Inv-loop μ-loop
-else2-before-numbers2 c = c .before
+abbrev digit-before-child : tie.After-flat-child Inv-loop μ-loop → tie.After-sure-digit Inv-loop μ-loop
+digit-before-child c = c .before .before
 
-abbrev child-before-numbers2 : tie.After-numbers2 Inv-loop μ-loop → tie.After-child-numbers Inv-loop μ-loop
-child-before-numbers2 c = else2-before-numbers2 c .before .before
-
-abbrev loop-before-numbers2 : tie.After-numbers2 Inv-loop μ-loop → tie.At-loop Inv-loop μ-loop
-loop-before-numbers2 c = loop-before-child (child-before-numbers2 c)
+abbrev loop-before-child : tie.After-flat-child Inv-loop μ-loop → tie.At-loop Inv-loop μ-loop
+loop-before-child c = loop-before-digit (digit-before-child c)
 
 jumping : (l : tie.At-loop Inv-loop μ-loop)
     → Jumping (start-before-loop l .args .p) (start-before-loop l .args .c) (start-before-loop l .args .n) (start-before-loop l .args .id) (l .loop .i) (l .loop .k) (l .loop .numbers)
@@ -54,8 +49,8 @@ so-far l =
     let s = start-before-loop l in
     jumped (s .args .p) (s .args .c) (s .pre .0) _ _ _ _ _ (jumping l) (l .loop .inv .0)
 
-unbent : SmallBends (record { a0 = pos 0; a1 = pos 0; a2 = pos 0 })
-unbent = record { a0 = record { le = lit≤ tt }; a1 = record { le = lit≤ tt }; a2 = record { le = lit≤ tt } }
+nine : (l : tie.At-loop Inv-loop μ-loop) → l .loop .k ≤ 9
+nine l = omega (arith, jumping l .upto, l .loop .inv .0)
 
 pub jump-spec : {M : Type 1} → statement M
 jump-spec =
@@ -69,23 +64,26 @@ jump-spec =
     let e = c .before in
     let s = e .before .before in
     (s .pre .1 .1 .1 .1, s .pre .1 .1 .1 .0, omega (arith, e .if1 .left), λ p q small r. reached _ r (omega (arith, e .if1 .left))))
+    (λ c κs. let l = c .before in let f = jumping l .following in (within f (nine l), not-negative f (nine l)))
+    (λ c. so-far (loop-before-digit (c .before)))
     (λ c κs.
-    let l = c .before in
-    let j = jumping l in
-    (within (j .following) (omega (arith, j .upto, l .loop .inv .0)), (not-negative (j .following) (omega (arith, j .upto, l .loop .inv .0)), unbent)))
-    (λ c. so-far (loop-before-child (c .before .before)))
-    (λ c. omega (arith, at-most (loop-before-numbers2 c)))
-    (λ c. omega (arith, at-most (loop-before-numbers2 (c .before)), sure-low (child-before-numbers2 (c .before) .child-numbers .ensures)))
-    (λ c. omega (arith, loop-before-numbers2 (c .before) .loop .inv .0))
+    let d = c .before in
+    let l = loop-before-digit d in
+    let f = jumping l .following in
+    (within f (nine l), (not-negative f (nine l), (d .sure-digit .ensures, given-sure (d .sure-digit .ensures) (c .if2 .left)))))
+    (λ c. omega (arith, at-most (loop-before-child c)))
+    (λ c. omega (arith, at-most (loop-before-child c), given-low (digit-before-child c .sure-digit .ensures)))
+    (λ c. omega (arith, loop-before-child c .loop .inv .0))
     (λ c. omega arith)
     (λ c.
-    let l = loop-before-numbers2 (c .before) in
-    let r = child-before-numbers2 (c .before) .child-numbers in
+    let l = loop-before-child c in
+    let d = digit-before-child c .sure-digit in
+    let m = c .flat-child in
     let v = l .loop .inv in (
       v .0,
       v .1,
       omega (arith, v .2),
       λ p q small t.
-          advance-flat p q small _ _ _ _ _ (v .3 p q small t) (v .0) (omega arith) (v .2) (r .result .digit) (r .result .numbers) (r .ensures) (else2-before-numbers2 (c .before) .if2 .left),
+          advance-flat p q small _ _ _ _ _ (v .3 p q small t) (v .0) (omega arith) (v .2) (d .result) (m .result) (m .ensures) (c .before .if2 .left),
     ))
     (λ c. so-far (c .before)))
