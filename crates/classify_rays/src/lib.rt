@@ -74,6 +74,18 @@ fn reaches_exactly(x: u64, r: Vec3, g: u64) -> bool
     !wide::less(given, wanted)
 }
 
+// r, put together anew. What is handed to a function that stands apart goes through memory: so it is the copy that does, and only where it is made.
+fn copied(r: Vec3) -> Vec3
+    requires { ⌜ AtMost (2 ^ 41) r ⌝ }
+    ensures { λ v. ⌜ v ≡ r ⌝ }
+{
+    Vec3 {
+        x: r.x,
+        y: r.y,
+        z: r.z,
+    }
+}
+
 // What a product with a ray is divided by in the filter.
 const UPPER: u64 = 2147483648;
 
@@ -104,7 +116,7 @@ pub fn reaches(x: u64, y: Ray, g: u64) -> bool
     match decided {
         FilterResult::Yes => true,
         FilterResult::No => false,
-        FilterResult::Unsure => reaches_exactly(x, r, g),
+        FilterResult::Unsure => reaches_exactly(x, copied(r), g),
     }
 }
 
@@ -127,7 +139,7 @@ fn passes(f: Vec3, g: i64, y: Ray) -> bool
     match decided {
         FilterResult::Yes => true,
         FilterResult::No => false,
-        FilterResult::Unsure => reaches_exactly(n, r, k),
+        FilterResult::Unsure => reaches_exactly(n, copied(r), k),
     }
 }
 
