@@ -21,6 +21,8 @@ ghost use Rattle.classify_halfspace.specs.Halfspaces.{enclosed, prepared
 ghost use Rattle.classify_prepared.specs.Measures.{SoundHalfspace, Rest, RaysOf};
 ghost use Rattle.classify_cap.specs.Middle.{IsBoundingCap};
 
+pub mod least;
+
 // From here on m² is above every product of two rests: 2^42 less what the upper bits of m may lack.
 const LARGE: u64 = 4398046510080;
 
@@ -177,14 +179,14 @@ fn class_by_rays(t: Trixel, s: TrixelRays, ps: &[i64], q: PreparedHalfspace) -> 
 }
 
 // The class by the middle, where within does not hold, and by the edges where f is not far.
-pub fn class_by_middle(t: Trixel, m: BoundingCap, ps: &[i64], q: PreparedHalfspace) -> Class
+pub fn class_by_middle(t: Trixel, s: TrixelRays, ps: &[i64], q: PreparedHalfspace) -> Class
     requires { ⌜ positive (volume t) ≡ true ⌝ }
-    requires { ⌜ IsBoundingCap t m ⌝ }
+    requires { ⌜ RaysOf t s ⌝ }
     requires { ⌜ NormalsIn t (now ps) ⌝ }
     requires { ⌜ SoundHalfspace q ⌝ }
     ensures { λ r. ⌜ r ≡ apartClass q t ⌝ }
 {
-    let apart = far(q, t, m);
+    let apart = crate::least::far_from(t, s, q);
     if apart {
         class_apart(q.d)
     } else {

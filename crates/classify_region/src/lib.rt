@@ -109,7 +109,7 @@ pub fn classify_convexes(
     settled
 }
 
-// The same for a region of one halfspace: the rays come first, for where one of them passes and where all do b and E are not needed.
+// The same for a region of one halfspace: the rays come first, for where one of them passes and where all do b is not needed.
 pub fn classify_single(
     t: Trixel,
     s: TrixelRays,
@@ -131,9 +131,6 @@ pub fn classify_single(
     match passed {
         Passed::All => classify_halfspace::class_within(q.d),
         Passed::Some => Class::Partial,
-        Passed::None => {
-            let m = classify_cap::cap_of(t, classify_cap::middle_of(t), s);
-            classify_halfspace::class_by_middle(t, m, ps, q)
-        }
+        Passed::None => classify_halfspace::class_by_middle(t, classify_prepared::copied(s), ps, q),
     }
 }

@@ -6,7 +6,7 @@ use borrow.Author.Needs.{needs}
 use borrow.Author.Tests.{not-true, not-false}
 use Rattle.algebra.proofs.Sized.{held, upto-held}
 use Rattle.classify.specs.Shape.{positive, volume}
-use Rattle.classify_prepared.specs.Measures.{SoundHalfspace}
+use Rattle.classify_prepared.specs.Measures.{SoundHalfspace, RaysOf}
 use Rattle.classify_halfspace.specs.Halfspaces.{preparedClass, classWithin}
 use Rattle.classify_rays.specs.Rays.{raysPassed}
 use Rattle.classify_prepared.proofs.PreparedLaws.{sound-small, sound-offset, sound-high}
@@ -23,20 +23,17 @@ start-before-prepared-at c = c .before .before
 abbrev start-before-f : tie.After-f → tie.Start
 start-before-f c = start-before-prepared-at (c .before .before .before)
 
-abbrev start-before-at-match-keys3 : tie.At-match-keys3 → tie.Start
-start-before-at-match-keys3 c = start-before-f (c .before .before .before)
-
 abbrev prepared-at-before-f : tie.After-f → tie.After-prepared-at
 prepared-at-before-f c = c .before .before .before
 
 abbrev else1-before-count-passed : tie.After-count-passed → tie.Else1
 else1-before-count-passed c = c .before .before .before
 
-abbrev else1-before-middle-of : tie.After-middle-of → tie.Else1
-else1-before-middle-of c = else1-before-count-passed (c .before .before .before)
+abbrev else1-before-copied : tie.After-copied → tie.Else1
+else1-before-copied c = else1-before-count-passed (c .before .before .before)
 
-abbrev count-passed-before-middle-of : tie.After-middle-of → tie.After-count-passed
-count-passed-before-middle-of c = c .before .before .before
+abbrev count-passed-before-copied : tie.After-copied → tie.After-count-passed
+count-passed-before-copied c = c .before .before .before
 
 -- the halfspace is sound
 sound : (c : tie.After-prepared-at) → SoundHalfspace (c .prepared-at .result)
@@ -79,18 +76,19 @@ returns-3 c g p =
 
 by-middle : tie.Need-class-by-middle-requires
 by-middle c κs =
-    let e = else1-before-middle-of (c .before) in
+    let e = else1-before-copied c in
     let h = e .before .before in
-    (oriented e, (c .cap-of .ensures, (h .before .before .pre .0 .1, sound h)))
+    let s = h .before .before in
+    (oriented e, (subst (RaysOf (s .args .t)) (sym (c .copied .ensures)) (s .pre .0 .0), (s .pre .0 .1, sound h)))
 
 returns-4 : tie.Need-returns-4
 returns-4 c g p =
-    let a = count-passed-before-middle-of (c .before .before) in
+    let a = count-passed-before-copied (c .before) in
     let e = a .before .before .before in
     let h = e .before .before in
     let s = h .before .before in
     only-class _ _ _ _ g p (s .pre .1 .1)
-    (c .class-by-middle .ensures ∙ sym (when-none (h .prepared-at .result) (s .args .t) (oriented e) (sym (rays a) ∙ c .before .before .before .enum-told3 .given .1)) ∙ ap (λ q. preparedClass q (s .args .t)) (h .prepared-at .ensures))
+    (c .class-by-middle .ensures ∙ sym (when-none (h .prepared-at .result) (s .args .t) (oriented e) (sym (rays a) ∙ c .before .before .enum-told3 .given .1)) ∙ ap (λ q. preparedClass q (s .args .t)) (h .prepared-at .ensures))
 
 pub classify-single-spec : {M : Type 1} → statement M
 classify-single-spec =
@@ -104,8 +102,7 @@ classify-single-spec =
     (λ c κs. tt)
     (λ c. search needs)
     (λ c. search needs)
-    (λ c κs. start-before-at-match-keys3 (c .before) .pre .0 .1 .small)
-    (λ c κs. (c .middle-of .ensures, start-before-at-match-keys3 (c .before .before) .pre .0 .0))
+    (λ c κs. tt)
     by-middle
     returns-2
     returns-3
