@@ -4,6 +4,7 @@ use classify::Class;
 use classify_cap::BoundingCap;
 use classify_prepared::PreparedHalfspace;
 use classify_prepared::TrixelRays;
+use classify_rays::Passed;
 use mesh::Trixel;
 ghost use mathlib.Core.Path.{_≡_};
 ghost use mathlib.Core.Bool.{true, _&&_};
@@ -218,4 +219,24 @@ pub fn classify_one(
         return class_within(q.d);
     }
     class_by_rays(t, s, ps, q)
+}
+
+// The same by the rays first: all pass is within, and one that passes and one that does not is partial; only where none passes b is found. No bounding cap
+// is needed.
+pub fn classify_by_rays(t: Trixel, s: TrixelRays, ps: &[i64], q: PreparedHalfspace) -> Class
+    requires { ⌜ RaysOf t s ⌝ }
+    requires { ⌜ NormalsIn t (now ps) ⌝ }
+    requires { ⌜ SoundHalfspace q ⌝ }
+    ensures { λ r. ⌜ r ≡ preparedClass q t ⌝ }
+{
+    if !s.oriented {
+        return class_by_edges(t, ps, q);
+    }
+    let f = q.f;
+    let passed = classify_rays::count_passed(f, q.high, s);
+    match passed {
+        Passed::All => class_within(q.d),
+        Passed::Some => Class::Partial,
+        Passed::None => class_by_middle(t, classify_prepared::copied(s), ps, q),
+    }
 }
