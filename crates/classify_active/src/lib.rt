@@ -340,7 +340,15 @@ pub fn class_beside(
     if are_few(ends, n) {
         return classify_region::classify_few(t, s, ps, prepared, ends, n);
     }
-    class_by_caps(t, classify_prepared::copied(s), ps, prepared, ends, active, stops)
+    class_by_caps(
+        t,
+        classify_prepared::copied(s),
+        ps,
+        prepared,
+        ends,
+        active,
+        stops,
+    )
 }
 
 // Whether active halfspaces shall be looked for: there are many halfspaces, and none is known to be active.

@@ -2,18 +2,18 @@
 -- D d (2(D m − c) + D d) + p d (d + 2m). So f is far at E where the least number at which it is far is reached, and not where it is not. Assumes nothing.
 use Prim.Native.Nat.{ℕ, _+_, _*_, _/_, _≤_, _<_}
 use native.Mathlib.Omega.{arith}
-use mathlib.Core.Path.{_≡_, refl, sym, ap, subst, _∙_}
+use mathlib.Core.Path.{_≡_, refl, sym, subst, _∙_}
 use mathlib.Core.Bool.{Bool, true, false, true≢false, _&&_}
 use mathlib.Core.List.{[], _∷_}
 use lib.Dec.{T, le→leb}
 use lib.IntN.{ℤ, pos, negsuc, natAbs, _-ℤ_, _*ℤ_}
-use lib.Signed.{nonNeg, leZ, ltZ, _≤ℤ_, _<ℤ_, leZ-yes}
+use lib.Signed.{nonNeg, ltZ, _≤ℤ_, _<ℤ_, leZ-yes}
 use Rattle.algebra.proofs.Ring.{_:-_, _:*_}
 use Rattle.algebra.proofs.Order.{≤ℤ-trans, nn-pos, nn-sq}
 use Rattle.algebra.proofs.Sized.{upto-high, no-sign}
 use Rattle.algebra.proofs.Claim.{_:≤_, _:<_, nat, hyp, _⊕_, _⊗_, prove}
 use Rattle.algebra.proofs.Inequalities.{`0}
-use Rattle.algebra.proofs.Tests.{split, and-left, and-right, and-both, and-no-left, and-then, fails-above, lt-yes, yes-lt, no-lt}
+use Rattle.algebra.proofs.Tests.{split, and-left, and-right, and-both, and-no-left, lt-yes, yes-lt}
 use Rattle.vector.specs.Numbers.{Kℕ, greatest}
 use Rattle.vector.specs.Vectors.{dot}
 use Rattle.vector.proofs.GreatestLaws.{greatest-most}
@@ -73,9 +73,6 @@ module _ {D p : ℤ} (c B : ℤ) (d : pos 0 ≤ℤ D) (r : pos 0 ≤ℤ p) where
 
     pub far-from-zero : farBy D p c B 0 ≡ true → farBy D p c B (greatestReach x0 x1 x2 s) ≡ true
     far-from-zero f = far-at-E 0 (omega arith) f (reach-zero x0 x1 x2 s)
-
-    pub not-at-K : farBy D p c B Kℕ ≡ false → farBy D p c B (greatestReach x0 x1 x2 s) ≡ false
-    not-at-K f = near-down (greatestReach x0 x1 x2 s) Kℕ (greatest-most (λ n. reachAll x0 x1 x2 s n) Kℕ) f
 
     -- the least number decides
     pub by-least : (n : ℕ) → LeastFar D p c B n → {t : Bool} → t ≡ reachAll x0 x1 x2 s n → t ≡ farBy D p c B (greatestReach x0 x1 x2 s)

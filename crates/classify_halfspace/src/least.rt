@@ -52,15 +52,7 @@ fn least_far(q: PreparedHalfspace, c: i64, b: i64, low: u64, high: u64) -> u64
 }
 
 // Whether f is far at E, where it is far at K: by steps down from K, each four times the one before, until f is not far, or the number is reached.
-fn far_down(
-    q: PreparedHalfspace,
-    c: i64,
-    b: i64,
-    x0: u64,
-    x1: u64,
-    x2: u64,
-    s: TrixelRays,
-) -> bool
+fn far_down(q: PreparedHalfspace, c: i64, b: i64, x0: u64, x1: u64, x2: u64, s: TrixelRays) -> bool
     requires { ⌜ SoundHalfspace q ⌝ }
     requires { ⌜ Upto (3 * 2 ^ 40) c × Rest b × (farBy (q .low) (q .rest) c b Kℕ ≡ true) ⌝ }
     requires { ⌜ Bounded x0 x1 x2 s ⌝ }

@@ -144,7 +144,7 @@ fn beyond_edge(q: PreparedHalfspace, ps: &[i64], k: usize) -> bool
 
 // The class by the edges, where within does not hold, nor apart by the bounding cap. The normals are read from the numbers of the trixel, so that these
 // stay where they lie.
-pub fn class_by_edges(t: Trixel, ps: &[i64], q: PreparedHalfspace) -> Class
+fn class_by_edges(t: Trixel, ps: &[i64], q: PreparedHalfspace) -> Class
     requires { ⌜ NormalsIn t (now ps) ⌝ }
     requires { ⌜ SoundHalfspace q ⌝ }
     ensures { λ r. ⌜ r ≡ edgesClass q t ⌝ }
@@ -180,7 +180,7 @@ fn class_by_rays(t: Trixel, s: TrixelRays, ps: &[i64], q: PreparedHalfspace) -> 
 }
 
 // The class by the middle, where within does not hold, and by the edges where f is not far.
-pub fn class_by_middle(t: Trixel, s: TrixelRays, ps: &[i64], q: PreparedHalfspace) -> Class
+fn class_by_middle(t: Trixel, s: TrixelRays, ps: &[i64], q: PreparedHalfspace) -> Class
     requires { ⌜ positive (volume t) ≡ true ⌝ }
     requires { ⌜ RaysOf t s ⌝ }
     requires { ⌜ NormalsIn t (now ps) ⌝ }

@@ -24,5 +24,5 @@ class-beside-spec =
     (s .pre .0, (ready-count (n .count .ensures) (s .pre .1 .0), f .0, f .1)))
     (λ c g p. c .classify-few .ensures g (prepared-count (count-before-then1 (c .before .before .before) .count .ensures) p))
     (λ c κs. tt)
-    (λ c κs. let s = c .before .before .before .before in ((subst (RaysOf (s .args .t)) (sym (c .copied .ensures)) (s .pre .0 .0), s .pre .0 .1), s .pre .1))
+    (λ c κs. let n = c .before .before .before in let s = n .before in ((subst (RaysOf (s .args .t)) (sym (c .copied .ensures)) (s .pre .0 .0), s .pre .0 .1), s .pre .1))
     (λ c. c .class-by-caps .ensures))

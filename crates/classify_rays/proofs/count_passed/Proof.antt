@@ -45,8 +45,11 @@ agree-none false false false d e k = refl
 -- ---- the three tests
 
 -- Named anchors: the states that the proofs below read from, each named with a later state that leads back to it.
+abbrev start-before-r2 : tie.After-r2 → tie.Start
+start-before-r2 c = c .before .before .before
+
 abbrev start-before-passes : tie.After-passes → tie.Start
-start-before-passes c = c .before .before .before .before
+start-before-passes c = start-before-r2 (c .before)
 
 abbrev agree-before-passes3 : tie.After-passes3 → tie.After-agree
 agree-before-passes3 c = c .before .before

@@ -24,6 +24,9 @@ use Rattle.classify_rays.proofs.passes.Tie as tie
 abbrev start-before-else1 : tie.Else1 → tie.Start
 start-before-else1 c = c .before .before .before
 
+abbrev size-before-copied : tie.After-copied → tie.After-size
+size-before-copied c = let k = c .before in k .before .before .before
+
 -- f·r, as its bits have it
 product : (c : tie.After-dot) → toZ w64 (ofZ w64 (c .dot .result)) ≡ dot (c .before .before .args .f) (c .before .before .args .y .r)
 product c = held (c .dot .ensures .1) tt .eq ∙ c .dot .ensures .0
@@ -67,9 +70,9 @@ passes-spec =
     (λ c. search needs)
     (λ c. search needs)
     (λ c. search needs)
-    (λ c κs. start-before-else1 (c .before .before .before .before) .pre .1 .1 .size)
+    (λ c κs. let k = c .before .before .before in start-before-else1 (k .before) .pre .1 .1 .size)
     (λ c κs.
-    let k = c .before .before .before .before in
+    let k = size-before-copied c in
     let d = k .before .before in
     let x = upto-held (d .dot .ensures .1) tt .le in
     let g = size-most k in
@@ -77,6 +80,6 @@ passes-spec =
     (λ c. let k = c .before .before .before in filter-right _ _ (start-before-else1 (k .before) .pre .1 .1) (c .before .before .filtered .ensures) (c .enum-told .given .1) ∙ squares k)
     (λ c. let k = c .before .before .before in filter-right _ _ (start-before-else1 (k .before) .pre .1 .1) (c .before .before .filtered .ensures) (c .enum-told2 .given .1) ∙ squares k)
     (λ c.
-    let k = c .before .before .before .before .before in
+    let k = size-before-copied (c .before) in
     let n = natAbs (toZ w64 (ofZ w64 (k .before .before .dot .result))) in
     c .reaches-exactly .ensures ∙ ap (λ r. leb (k .size .result * k .size .result * natAbs (dot r r)) (n * n)) (c .before .copied .ensures) ∙ squares k))

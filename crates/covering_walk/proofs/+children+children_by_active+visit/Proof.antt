@@ -157,18 +157,44 @@ pub +children+children-by-active+visit-spec : {M : Type 1} → statement M
     (λ c κs. tt)
     (λ c κs. tt)
     (λ c κs.
-    let h = c .before .before .before .before .before .before .before .before .before .accept-or-cut .ensures in
-    let e = c .before .before .before .before .before .before .if1 .left in
-    let a = c .before .before .before .before .before .copied .ensures in
-    let l = c .before .before .before .before .copied-level .ensures in
-    (omega (arith, h .cut e .above, ap (λ m. m .left) l), rw (a, l) (cut-needs (c .before .before .before .before .before .before .before .before .before .before .before .before .classify-trixel .ensures) h e (c .before .before .before .before .before .before .before .before .before .before .before .before .before .before .pre .1 .0))))
-    (λ c. c .before .before .children-by-active .kept .1 .1 .1 .1 .1 .0 ∙ c .before .before .before .before .before .before .before .before .before .before .before .before .accept-or-cut .kept .1 .1 .0)
-    (λ c. visited-cut (c .before .before .before .before .before .before .before .before .before .before .before .before .before .before .before .classify-trixel .ensures) (c .before .before .before .before .before .before .before .before .before .before .before .before .accept-or-cut .ensures) (c .before .before .before .before .before .before .before .before .before .if1 .left) (rw (c .before .before .before .before .before .before .before .copied-level .ensures) at (c .before .before .children-by-active .ensures)))
+    let w = c .before .before .before in
+    let l = w .before in
+    let e = l .before .before in
+    let h = e .before .before .before in
+    let k = h .before .before .before in
+    let s = k .before .before in
+    (omega (arith, h .accept-or-cut .ensures .cut (e .if1 .left) .above, ap (λ m. m .left) (l .copied-level .ensures)), rw (l .before .copied .ensures, l .copied-level .ensures) (cut-needs (k .classify-trixel .ensures) (h .accept-or-cut .ensures) (e .if1 .left) (s .pre .1 .0))))
+    (λ c.
+    let r = c .before .before .before in
+    let w = r .before .before .before in
+    let e = w .before .before .before in
+    c .before .before .children-by-active .kept .1 .1 .1 .1 .1 .0 ∙ e .before .before .before .accept-or-cut .kept .1 .1 .0)
+    (λ c.
+    let r = c .before .before .before in
+    let w = r .before .before .before in
+    let l = w .before in
+    let e = l .before .before in
+    let h = e .before .before .before in
+    let k = h .before .before .before in
+    visited-cut (k .classify-trixel .ensures) (h .accept-or-cut .ensures) (e .if1 .left) (rw (l .copied-level .ensures) at (c .before .before .children-by-active .ensures)))
     (λ c κs.
-    let h = c .before .before .before .before .before .before .before .before .before .accept-or-cut .ensures in
-    let e = c .before .before .before .before .before .before .if1 .left in
-    let a = c .before .before .before .before .before .copied .ensures in
-    let l = c .before .before .before .before .copied-level .ensures in
-    (omega (arith, h .cut e .above, ap (λ m. m .left) l), (rw (a, l) (cut-needs (c .before .before .before .before .before .before .before .before .before .before .before .before .classify-trixel .ensures) h e (c .before .before .before .before .before .before .before .before .before .before .before .before .before .before .pre .1 .0)), c .before .before .before .before .before .before .before .before .before .before .before .before .before .before .pre .1 .1)))
-    (λ c. c .before .before .children .kept .1 .1 .1 .1 .1 .1 .1 .0 ∙ c .before .before .before .before .before .before .before .before .before .before .before .before .accept-or-cut .kept .1 .1 .0)
-    (λ c. visited-cut (c .before .before .before .before .before .before .before .before .before .before .before .before .before .before .before .classify-trixel .ensures) (c .before .before .before .before .before .before .before .before .before .before .before .before .accept-or-cut .ensures) (c .before .before .before .before .before .before .before .before .before .if1 .left) (rw (c .before .before .before .before .before .before .before .copied-level .ensures) at (c .before .before .children .ensures)))
+    let w = c .before .before .before in
+    let l = w .before in
+    let e = l .before .before in
+    let h = e .before .before .before in
+    let k = h .before .before .before in
+    let s = k .before .before in
+    (omega (arith, h .accept-or-cut .ensures .cut (e .if1 .left) .above, ap (λ m. m .left) (l .copied-level .ensures)), (rw (l .before .copied .ensures, l .copied-level .ensures) (cut-needs (k .classify-trixel .ensures) (h .accept-or-cut .ensures) (e .if1 .left) (s .pre .1 .0)), s .pre .1 .1)))
+    (λ c.
+    let r = c .before .before .before in
+    let w = r .before .before .before in
+    let e = w .before .before .before in
+    c .before .before .children .kept .1 .1 .1 .1 .1 .1 .1 .0 ∙ e .before .before .before .accept-or-cut .kept .1 .1 .0)
+    (λ c.
+    let r = c .before .before .before in
+    let w = r .before .before .before in
+    let l = w .before in
+    let e = l .before .before in
+    let h = e .before .before .before in
+    let k = h .before .before .before in
+    visited-cut (k .classify-trixel .ensures) (h .accept-or-cut .ensures) (e .if1 .left) (rw (l .copied-level .ensures) at (c .before .before .children .ensures)))

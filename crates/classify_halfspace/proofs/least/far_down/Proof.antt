@@ -27,14 +27,23 @@ same : (s : tie.Start Inv-loop μ-loop) (n : ℕ) → let a = s .args in farBy (
 same s n = let a = s .args in λ i. farBy (a .q .low) (a .q .rest) (held (s .pre .1 .0 .0) tt .eq i) (held (s .pre .1 .0 .1 .size) tt .eq i) n
 
 -- Named anchors: the states that the proofs below read from, each named with a later state that leads back to it.
+abbrev start-before-in-loop : tie.In-loop Inv-loop μ-loop → tie.Start Inv-loop μ-loop
+start-before-in-loop c = c .before .before
+
+abbrev in-loop-before-else2 : tie.Else2 Inv-loop μ-loop → tie.In-loop Inv-loop μ-loop
+in-loop-before-else2 c = let b = c .before .before in b .before .before
+
+abbrev start-before-after-loop : tie.After-loop Inv-loop μ-loop → tie.Start Inv-loop μ-loop
+start-before-after-loop c = c .before .before
+
 abbrev start-before-then1 : tie.Then1 Inv-loop μ-loop → tie.Start Inv-loop μ-loop
-start-before-then1 c = c .before .before .before .before
+start-before-then1 c = start-before-in-loop (c .before .before)
 
 abbrev start-before-else1 : tie.Else1 Inv-loop μ-loop → tie.Start Inv-loop μ-loop
-start-before-else1 c = c .before .before .before .before
+start-before-else1 c = start-before-in-loop (c .before .before)
 
 abbrev start-before-else3 : tie.Else3 Inv-loop μ-loop → tie.Start Inv-loop μ-loop
-start-before-else3 c = c .before .before .before .before
+start-before-else3 c = start-before-after-loop (c .before .before)
 
 at-E : (s : tie.Start Inv-loop μ-loop) → let a = s .args in farBy (a .q .low) (a .q .rest) (toZ w64 (ofZ w64 (a .c))) (toZ w64 (ofZ w64 (a .b))) (greatestReach (a .x0) (a .x1) (a .x2) (a .s)) ≡ farBy (a .q .low) (a .q .rest) (a .c) (a .b) (greatestReach (a .x0) (a .x1) (a .x2) (a .s))
 at-E s = let a = s .args in same s (greatestReach (a .x0) (a .x1) (a .x2) (a .s))
@@ -70,8 +79,8 @@ far-down-spec =
     let a = s .args in
     let signs = sound-signs (s .pre .0) in
     sym (sym (at-E s) ∙ far-at-E _ _ (signs .0) (signs .1) (a .x0) (a .x1) (a .x2) (a .s) _ (omega arith) (sym (b .before .far-at .ensures) ∙ not-false _ (b .if1 .left)) (sym (c .before .reaches-all2 .ensures) ∙ c .if2 .taken)))
-    (λ c. record { fits = omega (arith, c .before .before .before .before .loop-test .taken) })
-    (λ c. let l = c .before .before .before .before in omega (arith, l .loop-test .taken, l .before .loop .inv .0))
+    (λ c. record { fits = omega (arith, in-loop-before-else2 c .loop-test .taken) })
+    (λ c. let l = in-loop-before-else2 c in omega (arith, l .loop-test .taken, l .before .loop .inv .0))
     (λ c.
     let b = c .before .before in
     let l = b .before .before in
@@ -79,7 +88,7 @@ far-down-spec =
     (omega (arith, i .0), omega (arith, l .loop-test .taken), omega arith, omega (arith, l .loop-test .taken, i .0), sym (b .before .far-at .ensures) ∙ not-false _ (b .if1 .left)))
     (λ c κs. let s = c .before .before in let p = s .pre .1 .0 in (s .pre .0, (upto-held (p .0) tt, rw (held (p .1 .size) tt .eq) (p .1), omega arith)))
     (λ c.
-    let s = c .before .before .before .before in
+    let s = start-before-after-loop (c .before .before) in
     let a = s .args in
     let signs = sound-signs (s .pre .0) in
     sym (sym (at-E s) ∙ far-from-zero _ _ (signs .0) (signs .1) (a .x0) (a .x1) (a .x2) (a .s) (sym (c .before .far-at2 .ensures) ∙ c .if3 .taken)))

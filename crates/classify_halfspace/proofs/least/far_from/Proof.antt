@@ -14,7 +14,7 @@ use Rattle.algebra.proofs.Tests.{and-then, and-no-left, and-no-right}
 use Rattle.vector.specs.declared.Vec3.{Vec3}
 use Rattle.vector.specs.Numbers.{Kℕ}
 use Rattle.vector.specs.Vectors.{dot}
-use Rattle.vector.proofs.Sizes.{AtMost, Small}
+use Rattle.vector.proofs.Sizes.{AtMost}
 use Rattle.vector.proofs.SizeLaws.{at-most-mono, dot-upto}
 use Rattle.classify_prepared.specs.declared.Ray.{Ray}
 use Rattle.classify.specs.Shape.{ray0, ray1, ray2, ahead, bOf}
@@ -31,11 +31,14 @@ use Rattle.classify_halfspace.proofs.least.far_from.Tie as tie
 abbrev start-before-dot : tie.After-dot → tie.Start
 start-before-dot c = c .before .before .before
 
+abbrev middle-of-before-dot : tie.After-dot → tie.After-middle-of
+middle-of-before-dot c = c .before .before
+
 abbrev start-before-far-at : tie.After-far-at → tie.Start
 start-before-far-at c = start-before-dot (c .before .before)
 
 abbrev middle-of-before-far-at : tie.After-far-at → tie.After-middle-of
-middle-of-before-far-at c = c .before .before .before .before
+middle-of-before-far-at c = middle-of-before-dot (c .before .before)
 
 abbrev far-at-before-along : tie.After-along → tie.After-far-at
 far-at-before-along c = c .before .before .before
