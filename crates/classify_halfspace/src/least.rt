@@ -77,6 +77,31 @@ fn far_down(q: PreparedHalfspace, c: i64, b: i64, x0: u64, x1: u64, x2: u64, s: 
     classify_cap::reach::reaches_all(x0, x1, x2, s, least_far(q, c, b, 0, high))
 }
 
+// Above it E is in a trixel of the deeper levels: there few steps are needed.
+const NEAR: u64 = K - 64;
+
+// Whether f is far at E, where it is far at K: by steps down from K where E is near it, as the first ray says, and else by E itself.
+fn far_at_reach(
+    q: PreparedHalfspace,
+    c: i64,
+    b: i64,
+    x0: u64,
+    x1: u64,
+    x2: u64,
+    s: TrixelRays,
+) -> bool
+    requires { ⌜ SoundHalfspace q ⌝ }
+    requires { ⌜ Upto (3 * 2 ^ 40) c × Rest b × (farBy (q .low) (q .rest) c b Kℕ ≡ true) ⌝ }
+    requires { ⌜ Bounded x0 x1 x2 s ⌝ }
+    ensures { λ r. ⌜ r ≡ farBy (q .low) (q .rest) c b (greatestReach x0 x1 x2 s) ⌝ }
+{
+    let y = s.r0;
+    if classify_rays::reaches(x0, y, NEAR) {
+        return far_down(q, c, b, x0, x1, x2, s);
+    }
+    far_at(q, c, b, classify_cap::reach::greatest_reach(x0, x1, x2, s))
+}
+
 // Whether b is ahead of the rays, and f is far from the cap of b and E.
 pub fn far_from(t: Trixel, s: TrixelRays, q: PreparedHalfspace) -> bool
     requires { ⌜ SmallTrixel t × RaysOf t s ⌝ }
@@ -105,5 +130,5 @@ pub fn far_from(t: Trixel, s: TrixelRays, q: PreparedHalfspace) -> bool
     if x2 <= 0 {
         return false;
     }
-    far_down(q, c, square, x0 as u64, x1 as u64, x2 as u64, s)
+    far_at_reach(q, c, square, x0 as u64, x1 as u64, x2 as u64, s)
 }

@@ -90,7 +90,7 @@ third c =
     let f = far-at-before-along3 c in
     held (c .along3 .ensures .1) tt .eq ∙ c .along3 .ensures .0 ∙ (λ i. dot (middle-of-before-far-at f .middle-of .ensures .0 i) (start-before-far-at f .pre .0 .1 .r2 .r i))
 
-down-requires : tie.Need-far-down-requires
+down-requires : tie.Need-far-at-reach-requires
 down-requires c κs =
     let z = c .before in
     let y = along2-before-along3 z in
@@ -114,7 +114,7 @@ found c =
     let n0 : ℕ = natAbs (toZ w64 (ofZ w64 (x .along .result))) in
     let n1 : ℕ = natAbs (toZ w64 (ofZ w64 (y .along2 .result))) in
     let n2 : ℕ = natAbs (toZ w64 (ofZ w64 (z .along3 .result))) in
-    c .far-down .ensures
+    c .far-at-reach .ensures
     ∙ (λ i. farBy (a .q .low) (a .q .rest) (c-is (f .before .before) i) (b-is (f .before) i) (greatestReach n0 n1 n2 (a .s)))
     ∙ far-by (s .pre .1) (a .t) (a .s) (s .pre .0 .1) n0 n1 n2 (sym (first x) ∙ product-is _ px) (sym (second y) ∙ product-is _ py) (sym (third z) ∙ product-is _ pz)
     ∙ and-then _ (all-ahead (a .t) (first x) (second y) (third z) px py pz)
