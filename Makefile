@@ -29,10 +29,11 @@ COMPILE = $(CC) $(CFLAGS) -I$(INCLUDE)
 host: target/c/host
 	target/c/host
 
-test: target/c/calls target/c/index target/c/reports target/c/header target/c/stack target/c/host
+test: target/c/calls target/c/index target/c/reports target/c/lookups target/c/header target/c/stack target/c/host
 	target/c/calls crates/query/stdin crates/query/stdout
 	target/c/index crates/archive/stdin crates/archive/stdout
 	target/c/reports
+	target/c/lookups
 	target/c/header
 	target/c/stack
 	target/c/host | diff examples/host.expected -
@@ -71,6 +72,10 @@ target/c/index: tests/c/index.c $(LIB) $(INCLUDE)/htm.h
 target/c/reports: tests/c/reports.c $(LIB) $(INCLUDE)/htm.h
 	@mkdir -p target/c
 	$(COMPILE) -o $@ tests/c/reports.c $(LIB) -lm
+
+target/c/lookups: tests/c/lookups.c $(LIB) $(INCLUDE)/htm.h
+	@mkdir -p target/c
+	$(COMPILE) -o $@ tests/c/lookups.c $(LIB) -lm
 
 target/c/header: tests/c/header.c $(LIB) $(INCLUDE)/htm.h
 	@mkdir -p target/c

@@ -338,6 +338,20 @@ def anywhere():
     yield from (look(direction(), 1 + n % 12) for n in range(900))
 
 
+def beside_edges():
+    """Points on edges and corners of trixels of every depth and up to 4 units beside them, where digits of a jump are not sure."""
+    draws = Draws(20261117)
+    for depth in range(1, 13):
+        first, last = span(depth)
+        for _ in range(6):
+            v = htm.trixel(draws.between(first, last))[0]
+            a, b = v[0], v[1]
+            n = draws.below(5)
+            for p in (a, htm.unit(tuple(n * x + (4 - n) * y for x, y in zip(a, b)))):
+                near = [tuple(c + draws.between(-4, 4) for c in p) for _ in range(3)]
+                yield from (look(into_rule(q), 12) for q in (p, *near))
+
+
 def no_vectors():
     """Just not allowed, far off and out of range: 8; with a bad depth 5, which comes first."""
     far = (K + 1, -K - 1, 2 * K, 2**31 - 1, -2**31)
@@ -447,7 +461,7 @@ def group_files():
 
 
 def cases():
-    groups = (document_01, document_000, depths, borders, corners_and_middles, ties, lengths, octants, anywhere, no_vectors, identifiers, names,
+    groups = (document_01, document_000, depths, borders, corners_and_middles, ties, beside_edges, lengths, octants, anywhere, no_vectors, identifiers, names,
               trixel_corners, regions.damaged, regions.two_faults, regions.limits, regions.edges, regions.writer_rows, points, regions.planes, regions.region_shapes,
               odd_numbers, other_shapes, long_lines, covers, mounts, lines, group_files, covers_beside_edges,
               regions.check_orders, regions.long_files, regions.long_lines_of_files)

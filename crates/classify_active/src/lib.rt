@@ -10,7 +10,7 @@ use mesh::Trixel;
 ghost use mathlib.Core.Path.{_≡_};
 ghost use mathlib.Core.Bool.{true};
 ghost use Prim.Native.Nat.{_+_, _*_, _≤_, _<_};
-ghost use lib.ListN.{length, drop};
+ghost use lib.ListN.{length, getD, drop};
 ghost use Rattle.mesh_trixels.specs.Corners.{SmallTrixel};
 ghost use Rattle.classify_prepared.specs.Measures.{RaysOf};
 ghost use Rattle.classify_cap.specs.Middle.{IsBoundingCap};
@@ -290,6 +290,48 @@ fn by_active(
 
 // The class of a trixel, whose numbers stand in `ps`, for the region that was prepared to `prepared` and `ends`: by the active halfspaces
 // beside an anchor where there are some and the trixel is close.
+fn class_by_caps(
+    t: Trixel,
+    s: TrixelRays,
+    ps: &[i64],
+    prepared: &PreparedHalfspaces,
+    ends: &ConvexEnds,
+    active: &ActiveHalfspaces,
+    stops: &ActiveEnds,
+) -> Class
+    requires { ⌜ RaysOf t s × NormalsIn t (now ps) ⌝ }
+    requires { ⌜ Ready (now prepared) (now ends) (countIn (now ends)) ⌝ }
+    requires { ⌜ ActiveListsIn (now prepared) (now ends) (now active) (now stops) ⌝ }
+    ensures { λ c. ⌜ Classed t (now (prepared .entry)) (now (ends .entry)) (countIn (now (ends .entry))) c ⌝ }
+{
+    let m = classify_cap::cap_of(t, classify_cap::middle_of(t), s);
+    if by_active(t, s, m, active, stops) {
+        return classify_region::classify_convexes(t, s, m, ps, active, stops, active_count(stops));
+    }
+    let n = classify_prepared::lists::count(ends);
+    classify_region::classify_convexes(t, s, m, ps, prepared, ends, n)
+}
+
+// At most so many halfspaces are few; more are many.
+const FEW: usize = 8;
+
+// Whether a region of n halfspaces is one convex of few.
+fn are_few(ends: &ConvexEnds, n: usize) -> bool
+    ensures { λ b. ⌜ (b ≡ true → (0 < n) × (n ≡ getD (now (ends .entry)) 0 0)) ⌝ }
+{
+    if n == 0 {
+        return false;
+    }
+    if FEW < n {
+        return false;
+    }
+    if ends[0] as usize != n {
+        return false;
+    }
+    true
+}
+
+// The same: by the rays first where the region is one convex of few halfspaces.
 pub fn class_beside(
     t: Trixel,
     s: TrixelRays,
@@ -305,20 +347,21 @@ pub fn class_beside(
     ensures { λ c. ⌜ Classed t (now (prepared .entry)) (now (ends .entry)) (countIn (now (ends .entry))) c ⌝ }
 {
     let n = classify_prepared::lists::count(ends);
-    if n == 1 {
-        return classify_region::classify_single(t, s, ps, prepared, ends, n);
+    if are_few(ends, n) {
+        return classify_region::classify_few(t, s, ps, prepared, ends, n);
     }
-    let m = classify_cap::cap_of(t, classify_cap::middle_of(t), s);
-    if by_active(t, s, m, active, stops) {
-        return classify_region::classify_convexes(t, s, m, ps, active, stops, active_count(stops));
-    }
-    classify_region::classify_convexes(t, s, m, ps, prepared, ends, n)
+    class_by_caps(
+        t,
+        classify_prepared::copied(s),
+        ps,
+        prepared,
+        ends,
+        active,
+        stops,
+    )
 }
-
-// A region with more halfspaces than this has many.
-const MANY_HALFSPACES: usize = 8;
 
 // Whether to look for active halfspaces: the region has many halfspaces, and none is known to be active.
 pub fn wants_active(ends: &ConvexEnds, stops: &ActiveEnds) -> bool {
-    MANY_HALFSPACES < classify_prepared::lists::count(ends) && active_count(stops) == 0
+    FEW < classify_prepared::lists::count(ends) && active_count(stops) == 0
 }

@@ -119,7 +119,7 @@ behind {y} {z} e l = ap positive (sym e) ∙ no-lt {a = pos 0} {b = z} (le-yes l
 front : {y z : ℤ} → z ≡ y → leZ z (pos 0) ≡ false → positive y ≡ true
 front {y} {z} e l = ap positive (sym e) ∙ yes-lt (no-le {a = z} {b = pos 0} l)
 
-product-is : (z : ℤ) → leZ z (pos 0) ≡ false → z ≡ pos (natAbs z)
+pub product-is : (z : ℤ) → leZ z (pos 0) ≡ false → z ≡ pos (natAbs z)
 product-is (pos n) e = refl
 product-is (negsuc n) e = absurd (true≢false e)
 
@@ -134,6 +134,10 @@ module _ (t : Trixel) {z : ℤ} where
 
   pub behind-third : z ≡ dot (bOf t) (ray2 t) → leZ z (pos 0) ≡ true → ahead (bOf t) t ≡ false
   behind-third e l = and-no-right (positive (dot (bOf t) (ray0 t))) (and-no-right (positive (dot (bOf t) (ray1 t))) (behind e l))
+
+pub all-ahead : (t : Trixel) {x y z : ℤ} → x ≡ dot (bOf t) (ray0 t) → y ≡ dot (bOf t) (ray1 t) → z ≡ dot (bOf t) (ray2 t)
+    → leZ x (pos 0) ≡ false → leZ y (pos 0) ≡ false → leZ z (pos 0) ≡ false → ahead (bOf t) t ≡ true
+all-ahead t e f g p q r = and-both (front e p) (and-both (front f q) (front g r))
 
 pub behind-bounds : (t : Trixel) {b : Vec3} → b ≡ bOf t → ahead (bOf t) t ≡ false → {r : BoundingCap} → r ≡ capBehind b → IsBoundingCap t r
 behind-bounds t c e w = subst (IsBoundingCap t) (sym w) (record { b = c; ahead = sym e; reach = λ a. absurd (false≢true a); rest = λ a. absurd (false≢true a); clearance = λ a. absurd (false≢true a) })
@@ -150,7 +154,7 @@ module _ (t : Trixel) (s : TrixelRays) (h : RaysOf t s) {x y z : ℤ} where
       subst (IsBoundingCap t) (sym w)
       (record {
         b = c;
-        ahead = sym (and-both (front e p) (and-both (front f q) (front g r)));
+        ahead = sym (all-ahead t e f g p q r);
         reach = λ _. sym E;
         rest = λ _ i. dot (c i) (c i) -ℤ square (sym E i);
         clearance = λ _. refl;

@@ -5,7 +5,7 @@ use Prim.Native.Nat.{ℕ, min, max, _+_, _*_, _/_, _^_, _≤_, _<_}
 use native.Mathlib.Nat.{le-refl, le-trans, mul-comm, mul-mul-mul-comm, mul-le-mul}
 use native.Mathlib.Omega.{arith}
 use mathlib.Core.Path.{_≡_, refl, sym, ap, subst, _∙_}
-use mathlib.Core.Bool.{Bool, true, false, _&&_}
+use mathlib.Core.Bool.{Bool, true, false, true≢false, _&&_}
 use borrow.Author.Tests.{leb-true, leb-false, le-leb}
 use lib.Dec.{leb}
 use lib.IntN.{pos, natAbs, _*ℤ_}
@@ -16,7 +16,7 @@ use Rattle.vector.specs.declared.Vec3.{Vec3}
 use Rattle.vector.specs.Numbers.{Kℕ, greatest}
 use Rattle.vector.specs.Vectors.{dot}
 use Rattle.vector.proofs.SizeLaws.{dot-self-nonnegative}
-use Rattle.vector.proofs.GreatestLaws.{greatest-is}
+use Rattle.vector.proofs.GreatestLaws.{greatest-passes, greatest-above, greatest-is}
 use Rattle.mesh.specs.declared.Trixel.{Trixel}
 use Rattle.classify_prepared.specs.declared.Ray.{Ray}
 use Rattle.classify_prepared.specs.declared.TrixelRays.{TrixelRays}
@@ -53,6 +53,17 @@ module _ (x0 x1 x2 : ℕ) (s : TrixelRays) where
   -- what is tested and fails, fails from there on
   pub none-from : (n : ℕ) {t : Bool} → t ≡ reachAll x0 x1 x2 s n → t ≡ false → (k : ℕ) → n ≤ k → k ≤ Kℕ → reachAll x0 x1 x2 s k ≡ false
   none-from n e f k h l = fails-above (λ m. reachAll x0 x1 x2 s m) reach-down h (sym e ∙ f)
+
+  -- what is reached is at most E, and what is not is above it
+  pub reached-most : (n : ℕ) → n ≤ Kℕ → reachAll x0 x1 x2 s n ≡ true → n ≤ greatestReach x0 x1 x2 s
+  reached-most n h e = greatest-above (λ m. reachAll x0 x1 x2 s m) Kℕ n h e
+
+  pub unreached-above : (n : ℕ) → reachAll x0 x1 x2 s n ≡ false → greatestReach x0 x1 x2 s < n
+  unreached-above n e =
+      let E = greatestReach x0 x1 x2 s in
+      split (leb n E)
+      (λ l. absurd (true≢false (sym (reach-down n E (leb-true n E l) (greatest-passes (λ m. reachAll x0 x1 x2 s m) Kℕ reach-zero)) ∙ e)))
+      (λ l. leb-false n E l)
 
   pub spanned-is : (e : ℕ) → Spanned x0 x1 x2 s e (e + 1) → e ≡ greatestReach x0 x1 x2 s
   spanned-is e p = sym (greatest-is (λ n. reachAll x0 x1 x2 s n) Kℕ e (omega (arith, p .most)) (p .passes) (λ k h l. p .above k (omega arith) l))

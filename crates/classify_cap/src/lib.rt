@@ -45,7 +45,7 @@ pub fn middle_of(t: Trixel) -> Vec3
 }
 
 // b·r for the ray r
-fn along(b: Vec3, y: Ray) -> i64
+pub fn along(b: Vec3, y: Ray) -> i64
     requires { ⌜ Small b ⌝ }
     requires { ⌜ AtMost (2 ^ 41) (y .r) ⌝ }
     ensures { λ x. ⌜ x ≡ vectors.dot b (y .r) ⌝ }

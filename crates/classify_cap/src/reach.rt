@@ -36,7 +36,7 @@ pub struct Span {
 }
 
 // Whether x² ≥ n² (r·r) for each ray r of s and its x.
-fn reaches_all(x0: u64, x1: u64, x2: u64, s: TrixelRays, n: u64) -> bool
+pub fn reaches_all(x0: u64, x1: u64, x2: u64, s: TrixelRays, n: u64) -> bool
     requires { ⌜ Bounded x0 x1 x2 s ⌝ }
     requires { ⌜ n ≤ Kℕ ⌝ }
     ensures { λ t. ⌜ t ≡ reachAll x0 x1 x2 s n ⌝ }

@@ -1,1 +1,2 @@
 pub mod Halfspaces
+pub mod LeastFar

@@ -4,6 +4,7 @@ use classify::Class;
 use classify_cap::BoundingCap;
 use classify_prepared::PreparedHalfspace;
 use classify_prepared::TrixelRays;
+use classify_rays::Passed;
 use mesh::Trixel;
 ghost use mathlib.Core.Path.{_≡_};
 ghost use mathlib.Core.Bool.{true, _&&_};
@@ -20,6 +21,8 @@ ghost use Rattle.classify.specs.Shape.{positive, ahead, bOf, EOf, volume};
 ghost use Rattle.classify_halfspace.specs.Halfspaces.{enclosed, preparedClass, classWithin, classApart, apartClass, edgesClass, raysClass, NormalsIn};
 ghost use Rattle.classify_prepared.specs.Measures.{SoundHalfspace, Rest, RaysOf};
 ghost use Rattle.classify_cap.specs.Middle.{IsBoundingCap};
+
+pub mod least;
 
 // From here on m² is above every product of two rests: 2^42 less what the upper bits of m may lack.
 const LARGE: u64 = 4398046510080;
@@ -141,7 +144,7 @@ fn beyond_edge(q: PreparedHalfspace, ps: &[i64], k: usize) -> bool
 
 // The class by the edges, where within does not hold, nor apart by the bounding cap. The normals are read from the numbers of the trixel, so that these
 // stay where they lie.
-pub fn class_by_edges(t: Trixel, ps: &[i64], q: PreparedHalfspace) -> Class
+fn class_by_edges(t: Trixel, ps: &[i64], q: PreparedHalfspace) -> Class
     requires { ⌜ NormalsIn t (now ps) ⌝ }
     requires { ⌜ SoundHalfspace q ⌝ }
     ensures { λ r. ⌜ r ≡ edgesClass q t ⌝ }
@@ -177,14 +180,14 @@ fn class_by_rays(t: Trixel, s: TrixelRays, ps: &[i64], q: PreparedHalfspace) -> 
 }
 
 // The class by the middle, where within does not hold, and by the edges where f is not far.
-pub fn class_by_middle(t: Trixel, m: BoundingCap, ps: &[i64], q: PreparedHalfspace) -> Class
+fn class_by_middle(t: Trixel, s: TrixelRays, ps: &[i64], q: PreparedHalfspace) -> Class
     requires { ⌜ positive (volume t) ≡ true ⌝ }
-    requires { ⌜ IsBoundingCap t m ⌝ }
+    requires { ⌜ RaysOf t s ⌝ }
     requires { ⌜ NormalsIn t (now ps) ⌝ }
     requires { ⌜ SoundHalfspace q ⌝ }
     ensures { λ r. ⌜ r ≡ apartClass q t ⌝ }
 {
-    let apart = far(q, t, m);
+    let apart = crate::least::far_from(t, s, q);
     if apart {
         class_apart(q.d)
     } else {
@@ -216,4 +219,24 @@ pub fn classify_one(
         return class_within(q.d);
     }
     class_by_rays(t, s, ps, q)
+}
+
+// The same by the rays first: all pass is within, and one that passes and one that does not is partial; only where none passes b is found. No bounding cap
+// is needed.
+pub fn classify_by_rays(t: Trixel, s: TrixelRays, ps: &[i64], q: PreparedHalfspace) -> Class
+    requires { ⌜ RaysOf t s ⌝ }
+    requires { ⌜ NormalsIn t (now ps) ⌝ }
+    requires { ⌜ SoundHalfspace q ⌝ }
+    ensures { λ r. ⌜ r ≡ preparedClass q t ⌝ }
+{
+    if !s.oriented {
+        return class_by_edges(t, ps, q);
+    }
+    let f = q.f;
+    let passed = classify_rays::count_passed(f, q.high, s);
+    match passed {
+        Passed::All => class_within(q.d),
+        Passed::Some => Class::Partial,
+        Passed::None => class_by_middle(t, classify_prepared::copied(s), ps, q),
+    }
 }

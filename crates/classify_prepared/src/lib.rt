@@ -154,3 +154,19 @@ pub fn measured(t: Trixel, r: Vec3) -> TrixelRays
         oriented: 0 < vector_products::dot(p0, r),
     }
 }
+
+// What belongs to a trixel, put together anew. What is handed to a function that stands apart goes through memory: so it is the copy that does, and only
+// where it is made.
+pub fn copied(s: TrixelRays) -> TrixelRays
+    ensures { λ r. ⌜ r ≡ s ⌝ }
+{
+    let r0 = s.r0;
+    let r1 = s.r1;
+    let r2 = s.r2;
+    TrixelRays {
+        r0: r0,
+        r1: r1,
+        r2: r2,
+        oriented: s.oriented,
+    }
+}

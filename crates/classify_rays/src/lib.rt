@@ -5,7 +5,7 @@ use classify_prepared::TrixelRays;
 use vector::Vec3;
 use wide::Wide;
 ghost use mathlib.Core.Path.{_≡_};
-ghost use mathlib.Core.Bool.{_&&_};
+ghost use mathlib.Core.Bool.{cond, not, _&&_};
 ghost use Prim.Native.Nat.{_+_, _*_, _^_, _≤_, _<_};
 ghost use lib.Dec.{leb};
 ghost use lib.IntN.{natAbs};
@@ -74,6 +74,18 @@ fn reaches_exactly(x: u64, r: Vec3, g: u64) -> bool
     !wide::less(given, wanted)
 }
 
+// r, put together anew. What is handed to a function that stands apart goes through memory: so it is the copy that does, and only where it is made.
+fn copied(r: Vec3) -> Vec3
+    requires { ⌜ AtMost (2 ^ 41) r ⌝ }
+    ensures { λ v. ⌜ v ≡ r ⌝ }
+{
+    Vec3 {
+        x: r.x,
+        y: r.y,
+        z: r.z,
+    }
+}
+
 // What a product with a ray is divided by in the filter.
 const UPPER: u64 = 2147483648;
 
@@ -104,7 +116,7 @@ pub fn reaches(x: u64, y: Ray, g: u64) -> bool
     match decided {
         FilterResult::Yes => true,
         FilterResult::No => false,
-        FilterResult::Unsure => reaches_exactly(x, r, g),
+        FilterResult::Unsure => reaches_exactly(x, copied(r), g),
     }
 }
 
@@ -127,7 +139,7 @@ fn passes(f: Vec3, g: i64, y: Ray) -> bool
     match decided {
         FilterResult::Yes => true,
         FilterResult::No => false,
-        FilterResult::Unsure => reaches_exactly(n, r, k),
+        FilterResult::Unsure => reaches_exactly(n, copied(r), k),
     }
 }
 
@@ -150,7 +162,14 @@ pub fn all_pass(f: Vec3, g: i64, s: TrixelRays) -> bool
     passes(f, g, r2)
 }
 
-// How many rays of a trixel pass, by at most three tests.
+// Whether both hold, or neither does.
+fn agree(a: bool, b: bool) -> bool
+    ensures { λ t. ⌜ t ≡ cond a b (not b) ⌝ }
+{
+    if a { b } else { !b }
+}
+
+// How many rays of a trixel pass: the third is tried where the other two agree.
 pub fn count_passed(f: Vec3, g: i64, s: TrixelRays) -> Passed
     requires { ⌜ Small f ⌝ }
     requires { ⌜ Upto (2 ^ 21) g ⌝ }
@@ -160,19 +179,15 @@ pub fn count_passed(f: Vec3, g: i64, s: TrixelRays) -> Passed
     let r0 = s.r0;
     let r1 = s.r1;
     let r2 = s.r2;
-    if passes(f, g, r0) {
-        if passes(f, g, r1) {
-            if passes(f, g, r2) {
-                return Passed::All;
-            }
-        }
+    let first = passes(f, g, r0);
+    if !agree(first, passes(f, g, r1)) {
         return Passed::Some;
     }
-    if passes(f, g, r1) {
+    if !agree(first, passes(f, g, r2)) {
         return Passed::Some;
     }
-    if passes(f, g, r2) {
-        return Passed::Some;
+    if first {
+        return Passed::All;
     }
     Passed::None
 }

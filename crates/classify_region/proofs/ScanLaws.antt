@@ -1,6 +1,7 @@
 -- The scan of convexes and their halfspaces, step by step: what is left to be scanned and the class found so far together give the region's class.
 -- The class of a convex is the meet of its halfspaces' classes, that of a region the join of its convexes'. Assumes nothing.
 use Prim.Native.Nat.{ℕ, zero, suc, _+_, _*_, _≤_, _<_}
+use native.Mathlib.Nat.{le-refl}
 use native.Mathlib.Omega.{arith}
 use mathlib.Core.Path.{_≡_, refl, sym, ap, _∙_}
 use mathlib.Core.Bool.{Bool, true, false, cond, _&&_, _||_, true≢false}
@@ -23,7 +24,7 @@ use Rattle.classify_prepared.specs.declared.PreparedHalfspace.{PreparedHalfspac
 use Rattle.classify.specs.Classes.{isOutside, isFull, halfspaceClass, convexClass, regionClass}
 use Rattle.classify_prepared.specs.Measures.{prepared, SoundHalfspace}
 use Rattle.classify_halfspace.specs.Halfspaces.{preparedClass}
-use Rattle.classify_prepared.specs.PreparedLists.{seven, preparedIn, convexSevens, sevens, endsFrom, Prepared, ConvexAt, RegionAt, meet, join}
+use Rattle.classify_prepared.specs.PreparedLists.{seven, preparedIn, convexSevens, sevens, endsFrom, Prepared, Ready, Classed, ConvexAt, RegionAt, meet, join}
 use Rattle.classify_halfspace.proofs.ClassLaws.{prepared-class-is}
 use Rattle.classify_prepared.proofs.PreparingLaws.{length-sevens, region-good, convex-good}
 
@@ -334,16 +335,25 @@ module _ (t : Trixel) (xs : List ℤ) (es : List ℕ) (n : ℕ) where
     pub left-out : AtHalfspace g k end i c a → isOutside a ≡ true → AtConvex g end (k + 1) (join c a)
     left-out s o = closed s (outside-stays a (convexClass (s .convex) t) o)
 
--- ---- a region of one halfspace
+-- ---- a region of one convex
 
-module _ (t : Trixel) (xs : List ℤ) (es : List ℕ) (n : ℕ) (g : Region) (p : Prepared g xs es n) (one : n ≡ 1) where
-  only-convex : (0 < getD es 0 0) × AtHalfspace t xs es n g 0 (getD es 0 0) 0 Outside Full
-  only-convex = opened t xs es n g 0 0 Outside (start t xs es n g p) (omega (arith, one)) .1 _ refl
+module _ (t : Trixel) (xs : List ℤ) (es : List ℕ) (n : ℕ) where
+  -- before halfspace number i; a is the class of those before it
+  abbrev pub InOnly : ℕ → Class → Type 0
+  InOnly i a = (g : Region) → Prepared g xs es n → AtHalfspace t xs es n g 0 n i Outside a
 
-  pub only-halfspace : HalfspaceStep t xs es n g 0 (getD es 0 0) 0 Outside Full
-  only-halfspace = halfspace-step t xs es n g 0 (getD es 0 0) 0 Outside Full (only-convex .1) (only-convex .0)
+  pub only-start : 0 < n → n ≡ getD es 0 0 → InOnly 0 Full
+  only-start some one g p = opened t xs es n g 0 0 Outside (start t xs es n g p) some .1 n one .1
 
-  pub only-class : {c : Class} → c ≡ preparedClass (preparedIn xs 0) t → c ≡ regionClass g t
-  only-class {c} e = ended t xs es n g _ _ _
-      (exhausted t xs es n g 0 (getD es 0 0) 1 Outside c (only-halfspace .taken c e) (omega (arith, one, only-convex .1 .after .count)))
-      (omega (arith, one, only-convex .0))
+  module _ (i : ℕ) (a : Class) (o : InOnly i a) where
+    pub only-half : Ready xs es n → i < n → (7 * i + 7 ≤ length xs) × SoundHalfspace (preparedIn xs (7 * i))
+    only-half r l = let h = halfspace-step t xs es n (r .0) 0 n i Outside a (o (r .0) (r .1)) l in (h .in-list, h .sound)
+
+    pub only-more : i < n → (b : Class) → b ≡ preparedClass (preparedIn xs (7 * i)) t → InOnly (i + 1) (meet a b)
+    only-more l b e g p = halfspace-step t xs es n g 0 n i Outside a (o g p) l .taken b e
+
+    pub only-end : n ≤ i → Classed t xs es n a
+    only-end l g p = ended t xs es n g n 1 a (exhausted t xs es n g 0 n i Outside a (o g p) l) (le-refl n)
+
+    pub only-outside : isOutside a ≡ true → Classed t xs es n a
+    only-outside e g p = ended t xs es n g n 1 a (left-out t xs es n g 0 n i Outside a (o g p) e) (le-refl n)

@@ -3,10 +3,10 @@
 use classify::Class;
 use classify_cap::BoundingCap;
 use classify_prepared::TrixelRays;
-use classify_rays::Passed;
 use mesh::Trixel;
 ghost use mathlib.Core.Path.{_≡_};
-ghost use Prim.Native.Nat.{_+_, _*_};
+ghost use Prim.Native.Nat.{_<_};
+ghost use lib.ListN.{getD};
 ghost use Rattle.classify.specs.Classes.{isOutside, isFull};
 ghost use Rattle.classify_prepared.specs.Measures.{RaysOf};
 ghost use Rattle.classify_cap.specs.Middle.{IsBoundingCap};
@@ -109,8 +109,8 @@ pub fn classify_convexes(
     settled
 }
 
-// As above, for a region of one halfspace: the rays are tested first, since b and E are needed only where none passes.
-pub fn classify_single(
+// As above, for a region of one convex, by the rays first: where a region has few halfspaces that is quicker than a bounding cap for every trixel.
+pub fn classify_few(
     t: Trixel,
     s: TrixelRays,
     ps: &[i64],
@@ -119,21 +119,23 @@ pub fn classify_single(
     n: usize,
 ) -> Class
     requires { ⌜ RaysOf t s × NormalsIn t (now ps) ⌝ }
-    requires { ⌜ Ready (now prepared) (now ends) n × (n ≡ 1) ⌝ }
+    requires { ⌜ Ready (now prepared) (now ends) n × (0 < n) × (n ≡ getD (now ends) 0 0) ⌝ }
     ensures { λ r. ⌜ Classed t (now (prepared .entry)) (now (ends .entry)) n r ⌝ }
 {
-    let q = classify_prepared::lists::prepared_at(prepared, 0);
-    if !s.oriented {
-        return classify_halfspace::class_by_edges(t, ps, q);
-    }
-    let f = q.f;
-    let passed = classify_rays::count_passed(f, q.high, s);
-    match passed {
-        Passed::All => classify_halfspace::class_within(q.d),
-        Passed::Some => Class::Partial,
-        Passed::None => {
-            let m = classify_cap::cap_of(t, classify_cap::middle_of(t), s);
-            classify_halfspace::class_by_middle(t, m, ps, q)
+    let mut class = Class::Full;
+    let mut i: usize = 0;
+    while i < n {
+        let c = classify_halfspace::classify_by_rays(
+            t,
+            s,
+            ps,
+            classify_prepared::lists::prepared_at(prepared, 7 * i),
+        );
+        class = meet(class, c);
+        if is_outside(class) {
+            return class;
         }
+        i += 1;
     }
+    class
 }

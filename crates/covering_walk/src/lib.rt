@@ -212,6 +212,31 @@ fn store_child(
     store_trixel(child, last, classify_prepared::first_ray(last));
 }
 
+// What was found of a trixel, and a level, put together anew: what is handed to the next level goes through memory, so it is the copies that do, and only
+// where a trixel is cut.
+fn copied(classified: ClassifiedTrixel) -> ClassifiedTrixel
+    ensures { λ r. ⌜ r ≡ classified ⌝ }
+{
+    let class = classified.class;
+    let second = classified.second;
+    let third = classified.third;
+    ClassifiedTrixel {
+        class: class,
+        second: second,
+        third: third,
+    }
+}
+
+fn copied_level(level: Level) -> Level
+    ensures { λ r. ⌜ r ≡ level ⌝ }
+{
+    Level {
+        id: level.id,
+        left: level.left,
+        span: level.span,
+    }
+}
+
 // The trixel of a level. The region was prepared to `prepared` and `ends`; the halfspaces that are active beside an anchor, if some are known, stand in
 // `active` and `stops`. The two lists are in `out`.
 pub fn visit(
@@ -233,14 +258,16 @@ pub fn visit(
     if accept_or_cut(classified, level, out, tally) {
         return;
     }
+    let found = copied(classified);
+    let here = copied_level(level);
     if classify_active::wants_active(ends, stops) {
-        children_by_active(trixel, classified, level, prepared, ends, out, tally);
+        children_by_active(trixel, found, here, prepared, ends, out, tally);
         return;
     }
     children(
         trixel,
-        classified,
-        level,
+        found,
+        here,
         prepared,
         ends,
         active,

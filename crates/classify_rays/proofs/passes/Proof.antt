@@ -13,6 +13,7 @@ use Rattle.algebra.proofs.Sized.{squares-by-size, held, upto-held, upto-mono, f
 use Rattle.algebra.proofs.Tests.{and-then, and-no-left, le-yes, yes-lt, no-lt, no-le}
 use Rattle.vector.specs.Vectors.{dot}
 use Rattle.vector.proofs.SizeLaws.{dot-self-nonnegative}
+use Rattle.vector.proofs.Sizes.{AtMost}
 use Rattle.classify_prepared.specs.Measures.{squareOf}
 use Rattle.classify.proofs.RaysFirst.{passes}
 use Rattle.classify_rays.proofs.RayLaws.{ray-most, filter-right}
@@ -22,6 +23,9 @@ use Rattle.classify_rays.proofs.passes.Tie as tie
 -- Named anchors: the states that the proofs below read from, each named with a later state that leads back to it.
 abbrev start-before-else1 : tie.Else1 → tie.Start
 start-before-else1 c = c .before .before .before
+
+abbrev size-before-copied : tie.After-copied → tie.After-size
+size-before-copied c = let k = c .before in k .before .before .before
 
 -- f·r, as its bits have it
 product : (c : tie.After-dot) → toZ w64 (ofZ w64 (c .dot .result)) ≡ dot (c .before .before .args .f) (c .before .before .args .y .r)
@@ -66,12 +70,16 @@ passes-spec =
     (λ c. search needs)
     (λ c. search needs)
     (λ c. search needs)
+    (λ c κs. let k = c .before .before .before in start-before-else1 (k .before) .pre .1 .1 .size)
     (λ c κs.
-    let k = c .before .before .before in
+    let k = size-before-copied c in
     let d = k .before .before in
     let x = upto-held (d .dot .ensures .1) tt .le in
     let g = size-most k in
-    (omega arith, omega arith, d .before .before .pre .1 .1 .size))
+    (omega arith, omega arith, subst (AtMost (2 ^ 41)) (sym (c .copied .ensures)) (d .before .before .pre .1 .1 .size)))
     (λ c. let k = c .before .before .before in filter-right _ _ (start-before-else1 (k .before) .pre .1 .1) (c .before .before .filtered .ensures) (c .enum-told .given .1) ∙ squares k)
     (λ c. let k = c .before .before .before in filter-right _ _ (start-before-else1 (k .before) .pre .1 .1) (c .before .before .filtered .ensures) (c .enum-told2 .given .1) ∙ squares k)
-    (λ c. c .reaches-exactly .ensures ∙ squares (c .before .before .before .before)))
+    (λ c.
+    let k = size-before-copied (c .before) in
+    let n = natAbs (toZ w64 (ofZ w64 (k .before .before .dot .result))) in
+    c .reaches-exactly .ensures ∙ ap (λ r. leb (k .size .result * k .size .result * natAbs (dot r r)) (n * n)) (c .before .copied .ensures) ∙ squares k))

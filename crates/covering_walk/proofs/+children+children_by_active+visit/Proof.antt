@@ -5,7 +5,6 @@ use Prim.Native.Nat.{ℕ, _+_, _-_, _*_, _<_}
 use native.Mathlib.Omega.{arith}
 use mathlib.Core.Path.{_≡_, refl, ap, _∙_}
 use lib.ListN.{length}
-use borrow.Author.Needs.{needs}
 use borrow.Fn.Kinds.{In}
 use borrow.Fn.PlainCycle.{Measures, is, falls, and}
 use Rattle.covering_walk.proofs.children.Reads as children
@@ -19,6 +18,8 @@ use Rattle.covering_walk.proofs.visit.Kinds as visit-kinds
 use Rattle.covering_walk.proofs.+children+children_by_active+visit.Lts-visit as visit-lts
 use Rattle.classify_active.proofs.wants_active.Reads as wants-active-reads
 use Rattle.covering_walk.proofs.child_level.Reads as child-level-reads
+use Rattle.covering_walk.proofs.copied.Reads as copied-reads
+use Rattle.covering_walk.proofs.copied_level.Reads as copied-level-reads
 use Rattle.covering_walk.proofs.first_ray_in.Reads as first-ray-in-reads
 use Rattle.covering_walk.proofs.classify_trixel.Reads as classify-trixel-reads
 use Rattle.covering_walk.proofs.store_child.Reads as store-child-reads
@@ -135,6 +136,10 @@ pub +children+children-by-active+visit-spec : {M : Type 1} → statement M
       classify-trixel-reads.Learnt,
       accept-or-cut-reads.Asked,
       accept-or-cut-reads.Learnt,
+      copied-reads.Asked,
+      copied-reads.Learnt,
+      copied-level-reads.Asked,
+      copied-level-reads.Learnt,
       wants-active-reads.Asked,
       wants-active-reads.Learnt,
       children-by-active-below t,
@@ -149,15 +154,47 @@ pub +children+children-by-active+visit-spec : {M : Type 1} → statement M
     (λ c. c .before .before .before .accept-or-cut .kept .1 .1 .0)
     (λ c. visited-done (c .before .before .before .before .before .before .classify-trixel .ensures) (c .before .before .before .accept-or-cut .ensures) (c .before .before .before .before .before .before .before .before .pre .1 .0 .ready) (c .if1 .taken))
     (λ c κs. tt)
+    (λ c κs. tt)
+    (λ c κs. tt)
     (λ c κs.
-    let h = c .before .before .before .before .before .before .before .accept-or-cut .ensures in
-    let e = c .before .before .before .before .if1 .left in
-    (omega (arith, h .cut e .above), cut-needs (c .before .before .before .before .before .before .before .before .before .before .classify-trixel .ensures) h e (search needs)))
-    (λ c. c .before .before .children-by-active .kept .1 .1 .1 .1 .1 .0 ∙ c .before .before .before .before .before .before .before .before .before .before .accept-or-cut .kept .1 .1 .0)
-    (λ c. visited-cut (search needs) (c .before .before .before .before .before .before .before .before .before .before .accept-or-cut .ensures) (c .before .before .before .before .before .before .before .if1 .left) (c .before .before .children-by-active .ensures))
+    let w = c .before .before .before in
+    let l = w .before in
+    let e = l .before .before in
+    let h = e .before .before .before in
+    let k = h .before .before .before in
+    let s = k .before .before in
+    (omega (arith, h .accept-or-cut .ensures .cut (e .if1 .left) .above, ap (λ m. m .left) (l .copied-level .ensures)), rw (l .before .copied .ensures, l .copied-level .ensures) (cut-needs (k .classify-trixel .ensures) (h .accept-or-cut .ensures) (e .if1 .left) (s .pre .1 .0))))
+    (λ c.
+    let r = c .before .before .before in
+    let w = r .before .before .before in
+    let e = w .before .before .before in
+    c .before .before .children-by-active .kept .1 .1 .1 .1 .1 .0 ∙ e .before .before .before .accept-or-cut .kept .1 .1 .0)
+    (λ c.
+    let r = c .before .before .before in
+    let w = r .before .before .before in
+    let l = w .before in
+    let e = l .before .before in
+    let h = e .before .before .before in
+    let k = h .before .before .before in
+    visited-cut (k .classify-trixel .ensures) (h .accept-or-cut .ensures) (e .if1 .left) (rw (l .copied-level .ensures) at (c .before .before .children-by-active .ensures)))
     (λ c κs.
-    let h = c .before .before .before .before .before .before .before .accept-or-cut .ensures in
-    let e = c .before .before .before .before .if1 .left in
-    (omega (arith, h .cut e .above), (cut-needs (c .before .before .before .before .before .before .before .before .before .before .classify-trixel .ensures) h e (search needs), search needs)))
-    (λ c. c .before .before .children .kept .1 .1 .1 .1 .1 .1 .1 .0 ∙ c .before .before .before .before .before .before .before .before .before .before .accept-or-cut .kept .1 .1 .0)
-    (λ c. visited-cut (search needs) (c .before .before .before .before .before .before .before .before .before .before .accept-or-cut .ensures) (c .before .before .before .before .before .before .before .if1 .left) (c .before .before .children .ensures))
+    let w = c .before .before .before in
+    let l = w .before in
+    let e = l .before .before in
+    let h = e .before .before .before in
+    let k = h .before .before .before in
+    let s = k .before .before in
+    (omega (arith, h .accept-or-cut .ensures .cut (e .if1 .left) .above, ap (λ m. m .left) (l .copied-level .ensures)), (rw (l .before .copied .ensures, l .copied-level .ensures) (cut-needs (k .classify-trixel .ensures) (h .accept-or-cut .ensures) (e .if1 .left) (s .pre .1 .0)), s .pre .1 .1)))
+    (λ c.
+    let r = c .before .before .before in
+    let w = r .before .before .before in
+    let e = w .before .before .before in
+    c .before .before .children .kept .1 .1 .1 .1 .1 .1 .1 .0 ∙ e .before .before .before .accept-or-cut .kept .1 .1 .0)
+    (λ c.
+    let r = c .before .before .before in
+    let w = r .before .before .before in
+    let l = w .before in
+    let e = l .before .before in
+    let h = e .before .before .before in
+    let k = h .before .before .before in
+    visited-cut (k .classify-trixel .ensures) (h .accept-or-cut .ensures) (e .if1 .left) (rw (l .copied-level .ensures) at (c .before .before .children .ensures)))
