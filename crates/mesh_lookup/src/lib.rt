@@ -16,7 +16,7 @@ ghost use Rattle.vector.specs.Vectors as vectors;
 ghost use Rattle.vector.proofs.Sizes.{Small};
 ghost use Rattle.mesh.specs.Lookup as rule;
 ghost use Rattle.mesh.specs.Lookup.{notNegative, northRoot, southRoot, rootNumber};
-ghost use Rattle.mesh_table.specs.Table.{table, vectorAt};
+ghost use Rattle.mesh_table.specs.Table.{Row, vectorIn};
 ghost use Rattle.mesh_trixels.specs.Corners.{bare, SmallCorners};
 ghost use Rattle.mesh_jump.specs.Jumps.{along};
 ghost use Rattle.mesh_lookup.specs.LookupSteps.{childAt, digitBy, ChildStep, Descent, turnedCorners, TableStart};
@@ -174,18 +174,19 @@ fn digit_by(p: Vec3, a: Vec3, b: Vec3, c: Vec3) -> u64
     3
 }
 
-// The same, by three vectors of the table.
-fn table_digit(entries: &[i32; 288], p: Vec3, a: usize, b: usize, c: usize) -> u64
-    requires { ⌜ now entries ≡ table ⌝ }
+// The same, by three vectors of a row of the table.
+fn table_digit(row: &[i32; 72], p: Vec3, a: usize, b: usize, c: usize) -> u64
+    requires { ⌜ Row (now row) ⌝ }
     requires { ⌜ Small p ⌝ }
-    requires { ⌜ (a < 96) × (b < 96) × (c < 96) ⌝ }
-    ensures { λ r. ⌜ (r ≡ digitBy p (vectorAt a) (vectorAt b) (vectorAt c)) × (r < 4) ⌝ }
+    requires { ⌜ (a < 24) × (b < 24) × (c < 24) ⌝ }
+    ensures { λ r. ⌜ r ≡ digitBy p (vectorIn (now (row .entry)) a) (vectorIn (now (row .entry)) b) (vectorIn (now (row .entry)) c) ⌝ }
+    ensures { λ r. ⌜ r < 4 ⌝ }
 {
     digit_by(
         p,
-        mesh_table::vector_at(entries, a),
-        mesh_table::vector_at(entries, b),
-        mesh_table::vector_at(entries, c),
+        mesh_table::vector_at(row, a),
+        mesh_table::vector_at(row, b),
+        mesh_table::vector_at(row, c),
     )
 }
 
@@ -196,14 +197,14 @@ fn from_table(p: Vec3, root: u64) -> TableTrixel
     requires { ⌜ root < 8 ⌝ }
     ensures { λ r. ⌜ TableStart p root r ⌝ }
 {
-    let entries = mesh_table::entries();
+    let last = mesh_table::row(3);
     let q = mesh_table::turned_back(mesh_table::rotation(root), p);
-    let d = table_digit(&entries, q, 83, 76, 77);
-    let below = 24 * d as usize;
-    let e = table_digit(&entries, q, below + 21, below + 22, below + 23);
+    let d = table_digit(&last, q, 11, 4, 5);
+    let row = mesh_table::row(d);
+    let e = table_digit(&row, q, 21, 22, 23);
     TableTrixel {
         id: 128 + 16 * root + 4 * d + e,
-        entry: mesh_table::corners_at(&entries, below + 6 * e as usize),
+        entry: mesh_table::corners_at(&row, 6 * e as usize),
         pointing: q,
     }
 }

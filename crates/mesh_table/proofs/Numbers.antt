@@ -1,4 +1,4 @@
--- The numbers of the table as they are read: the numbers 3 k, 3 k + 1 and 3 k + 2 are those of vector k, and each is within ±K, since corners and
+-- The numbers of a row of the table as they are read: the numbers 3 k, 3 k + 1 and 3 k + 2 of row d are those of vector 24 d + k, and each is within ±K, since corners and
 -- normals are small. Assumes nothing.
 use Prim.Native.Nat.{ℕ, zero, suc, _+_, _*_, _/_, _%_, _<_}
 use native.Mathlib.Nat.{add-zero, zero-add, suc-add}
@@ -15,15 +15,11 @@ use Rattle.vector.specs.Vectors.{vec}
 use Rattle.vector.proofs.Sizes.{Small}
 use Rattle.mesh.specs.declared.Trixel.{Trixel}
 use Rattle.mesh.specs.Identifiers.{trixel}
-use Rattle.mesh_table.specs.Table.{numbers, tableFrom, table, partOf, vectorAt}
+use Rattle.mesh_table.specs.Table.{numbers, tableFrom, rowOf, Row, vectorIn, partOf, vectorAt}
 use Rattle.mesh_trixels.specs.Corners.{SmallTrixel}
 use Rattle.mesh_trixels.proofs.SmallTrixels.{trixel-small}
 
 -- ---- vector k
-
--- vector number k of a list of numbers
-abbrev vectorIn : List ℤ → ℕ → Vec3
-vectorIn l k = vec (getD l (3 * k) (pos 0)) (getD l (3 * k + 1) (pos 0)) (getD l (3 * k + 2) (pos 0))
 
 -- vector number k of the trixels from the identifier i on
 abbrev vectorFrom : ℕ → ℕ → Vec3
@@ -62,9 +58,13 @@ vector-from (suc (suc (suc (suc (suc (suc k)))))) (suc n) i h =
     let m = suc (suc (suc (suc (suc (suc k))))) in
     next-vector (trixel 2 i) (tableFrom n (suc i)) k m (omega arith) ∙ vector-from k n (suc i) (omega arith) ∙ six-on i k m (omega arith)
 
-vector-in : (k : ℕ) → k < 96 → vectorIn table k ≡ vectorAt k
-unfolding table vectorAt
-vector-in k h = vector-from k 16 128 h
+-- row number d begins at vector 24 d
+pub row-vector : (d k : ℕ) → k < 24 → vectorIn (rowOf d) k ≡ vectorAt (24 * d + k)
+unfolding vectorAt
+row-vector d k h =
+    let part : k % 6 ≡ (24 * d + k) % 6 = omega arith in
+    let next : 128 + 4 * d + k / 6 ≡ 128 + (24 * d + k) / 6 = omega arith in
+    vector-from k 4 (128 + 4 * d) h ∙ (λ j. partOf (part j) (trixel 2 (next j)))
 
 -- ---- its size
 
@@ -77,18 +77,15 @@ part-small (suc (suc (suc (suc zero)))) l h = h .p1
 part-small (suc (suc (suc (suc (suc zero))))) l h = h .p2
 part-small (suc (suc (suc (suc (suc (suc a)))))) l h = absurd (omega arith)
 
-pub vector-small : (k : ℕ) → Small (vectorAt k)
+vector-small : (k : ℕ) → Small (vectorAt k)
 unfolding vectorAt
 vector-small k = part-small (k % 6) (omega arith) (trixel-small 2 (128 + k / 6))
 
 -- ---- the three numbers that are read, each within ±K
 
-module _ {l : List ℤ} (e : l ≡ table) (k : ℕ) (h : k < 96) where
-  pub is-vector : vectorIn l k ≡ vectorAt k
-  is-vector = ap (λ l. vectorIn l k) e ∙ vector-in k h
-
-  small-numbers : Small (vectorIn l k)
-  small-numbers = subst Small (sym is-vector) (vector-small k)
+module _ {l : List ℤ} (r : Row l) (k : ℕ) (h : k < 24) where
+  pub small-numbers : Small (vectorIn l k)
+  small-numbers = subst (λ l. Small (vectorIn l k)) (sym (r .is)) (subst Small (sym (row-vector (r .d) k h)) (vector-small (24 * r .d + k)))
 
   pub fits-x : SFits w32 (getD l (3 * k) (pos 0))
   fits-x = sfits w32 (small-numbers .x) tt

@@ -1,14 +1,18 @@
 -- The table of the trixels of depth 3 under S0, by the cutting rule. Document 01, 'Pointings and the mesh'; document 02, F-6.
 --   numbers t   corners and normals of a trixel, x y z of v0 v1 v2 p0 p1 p2: eighteen numbers
---   table       the numbers of the 16 trixels of depth 3 under S0, in identifier order, 128 to 143
+--   tableFrom   the numbers of so many trixels of depth 3; those of the 16 under S0, 128 to 143, are the table
+--   rowOf d     the numbers of the four trixels below child number d of S0; Row xs, that xs are such numbers
+--   vectorIn xs k  the vector number k of a list of numbers
 --   vectorAt k  the corner or normal number k of these trixels, six for each
-use Prim.Native.Nat.{ℕ, zero, suc, _+_, _/_, _%_}
+use Prim.Native.Nat.{ℕ, zero, suc, _+_, _*_, _/_, _%_}
+use mathlib.Core.Path.{_≡_}
 use mathlib.Core.Bool.{cond}
 use mathlib.Core.List.{List, [], _++_}
 use lib.Dec.{eqb}
-use lib.IntN.{ℤ}
+use lib.IntN.{ℤ, pos}
+use lib.ListN.{getD}
 use Rattle.vector.specs.declared.Vec3.{Vec3}
-use Rattle.vector.specs.Vectors.{three}
+use Rattle.vector.specs.Vectors.{vec, three}
 use Rattle.mesh.specs.declared.Trixel.{Trixel}
 use Rattle.mesh.specs.Identifiers.{trixel}
 
@@ -20,8 +24,17 @@ unfoldable pub tableFrom : ℕ → ℕ → List ℤ
 tableFrom zero i = []
 tableFrom (suc n) i = numbers (trixel 2 i) ++ tableFrom n (suc i)
 
-unfoldable pub table : List ℤ
-table = tableFrom 16 128
+-- the part of it below child number d of S0
+abbrev pub rowOf : ℕ → List ℤ
+rowOf d = tableFrom 4 (128 + 4 * d)
+
+pub record Row (xs : List ℤ) : Type 0 where
+  pub d : ℕ
+  pub is : xs ≡ rowOf d
+
+-- vector number k of a list of numbers
+abbrev pub vectorIn : List ℤ → ℕ → Vec3
+vectorIn xs k = vec (getD xs (3 * k) (pos 0)) (getD xs (3 * k + 1) (pos 0)) (getD xs (3 * k + 2) (pos 0))
 
 -- corner or normal number a of a trixel: v0 v1 v2 p0 p1 p2
 abbrev pub partOf : ℕ → Trixel → Vec3

@@ -11,46 +11,68 @@ ghost use Rattle.vector.specs.Numbers.{Kℕ};
 ghost use Rattle.vector.proofs.Sizes.{Small};
 ghost use Rattle.mesh.specs.Rotations as rule;
 ghost use Rattle.mesh_trixels.specs.Corners.{tripleOf, SmallCorners};
-ghost use Rattle.mesh_table.specs.Table.{table, vectorAt};
+ghost use Rattle.mesh_table.specs.Table.{rowOf, Row, vectorIn};
 
-// x y z of v0 v1 v2 p0 p1 p2 of each trixel, in identifier order. Printed by tools/table.py.
+// x y z of v0 v1 v2 p0 p1 p2 of each trixel, in identifier order, four trixels for each child of S0. Printed by tools/table.py.
 #[rattlefmt::skip]
-const ENTRIES: [i32; 288] = [
+const FIRST_ROW: [i32; 72] = [
     1048576, 0, 0, 968758, 0, -401272, 968758, 401272, 0, 434333, -1048576, 1048576, 0, 0, -1048576, 0, 1048576, 0,
     741455, 0, -741455, 856158, 428079, -428079, 968758, 0, -401272, -434333, -179908, -1048576, 0, 1048576, 0, 1048576, -1048576, 1048576,
     741455, 741455, 0, 968758, 401272, 0, 856158, 428079, -428079, -434333, 1048576, 179908, 1048576, -1048576, 1048576, 0, 0, -1048576,
     856158, 428079, -428079, 968758, 401272, 0, 968758, 0, -401272, -434333, 1048576, -1048576, 434333, 179908, 1048576, 434333, -1048576, -179908,
+];
+
+#[rattlefmt::skip]
+const SECOND_ROW: [i32; 72] = [
     0, 0, -1048576, 0, 401272, -968758, 401272, 0, -968758, -1048576, -1048576, -434333, 0, 1048576, 0, 1048576, 0, 0,
     0, 741455, -741455, 428079, 428079, -856158, 0, 401272, -968758, -179908, 1048576, 434333, 1048576, 0, 0, -1048576, -1048576, -1048576,
     741455, 0, -741455, 401272, 0, -968758, 428079, 428079, -856158, 1048576, -179908, 434333, -1048576, -1048576, -1048576, 0, 1048576, 0,
     428079, 428079, -856158, 401272, 0, -968758, 0, 401272, -968758, 1048576, 1048576, 434333, 179908, -1048576, -434333, -1048576, 179908, -434333,
+];
+
+#[rattlefmt::skip]
+const THIRD_ROW: [i32; 72] = [
     0, 1048576, 0, 401272, 968758, 0, 0, 968758, -401272, -1048576, 434333, 1048576, 1048576, 0, 0, 0, 0, -1048576,
     741455, 741455, 0, 428079, 856158, -428079, 401272, 968758, 0, 1048576, -434333, 179908, 0, 0, -1048576, -1048576, 1048576, 1048576,
     0, 741455, -741455, 0, 968758, -401272, 428079, 856158, -428079, -179908, -434333, -1048576, -1048576, 1048576, 1048576, 1048576, 0, 0,
     428079, 856158, -428079, 0, 968758, -401272, 401272, 968758, 0, 1048576, -434333, -1048576, -1048576, 434333, -179908, 179908, 434333, 1048576,
+];
+
+#[rattlefmt::skip]
+const LAST_ROW: [i32; 72] = [
     0, 741455, -741455, 428079, 856158, -428079, 428079, 428079, -856158, -1048576, 349525, -349525, 1048576, 1048576, 1048576, 1048576, -1048576, -1048576,
     741455, 741455, 0, 856158, 428079, -428079, 428079, 856158, -428079, 349525, 349525, 1048576, 1048576, -1048576, -1048576, -1048576, 1048576, -1048576,
     741455, 0, -741455, 428079, 428079, -856158, 856158, 428079, -428079, 349525, -1048576, -349525, -1048576, 1048576, -1048576, 1048576, 1048576, 1048576,
     856158, 428079, -428079, 428079, 428079, -856158, 428079, 856158, -428079, 1048576, -349525, 349525, -349525, -349525, -1048576, -349525, 1048576, 349525,
 ];
 
-// The table. A read of the constant copies it, so a lookup takes it once and lends it to `vector_at`.
-pub fn entries() -> [i32; 288]
-    ensures { λ r. ⌜ r ≡ table ⌝ }
+// The part of the table below child number d of S0. A read of a constant copies it, so a lookup takes the part that it needs, and lends it to `vector_at`.
+pub fn row(d: u64) -> [i32; 72]
+    requires { ⌜ d < 4 ⌝ }
+    ensures { λ r. ⌜ r ≡ rowOf d ⌝ }
 {
-    ENTRIES
+    if d == 0 {
+        return FIRST_ROW;
+    }
+    if d == 1 {
+        return SECOND_ROW;
+    }
+    if d == 2 {
+        return THIRD_ROW;
+    }
+    LAST_ROW
 }
 
-// Vector k of the table: corner or normal number k % 6 of the trixel 128 + k / 6.
-pub fn vector_at(entries: &[i32; 288], k: usize) -> Vec3
-    requires { ⌜ now entries ≡ table ⌝ }
-    requires { ⌜ k < 96 ⌝ }
-    ensures { λ r. ⌜ (r ≡ vectorAt k) × Small r ⌝ }
+// Vector k of a row: corner or normal number k % 6 of its trixel k / 6.
+pub fn vector_at(row: &[i32; 72], k: usize) -> Vec3
+    requires { ⌜ Row (now row) ⌝ }
+    requires { ⌜ k < 24 ⌝ }
+    ensures { λ r. ⌜ (r ≡ vectorIn (now (row .entry)) k) × Small r ⌝ }
 {
     Vec3 {
-        x: entries[3 * k] as i64,
-        y: entries[3 * k + 1] as i64,
-        z: entries[3 * k + 2] as i64,
+        x: row[3 * k] as i64,
+        y: row[3 * k + 1] as i64,
+        z: row[3 * k + 2] as i64,
     }
 }
 
@@ -107,15 +129,16 @@ fn turned(k: Rotation, a: Vec3) -> Vec3
     }
 }
 
-// The corners v0 v1 v2 of the entry that begins at vector i.
-pub fn corners_at(entries: &[i32; 288], i: usize) -> Corners
-    requires { ⌜ now entries ≡ table ⌝ }
-    requires { ⌜ i + 2 < 96 ⌝ }
-    ensures { λ r. ⌜ (r ≡ tripleOf (vectorAt i) (vectorAt (i + 1)) (vectorAt (i + 2))) × SmallCorners r ⌝ }
+// The corners v0 v1 v2 of the entry that begins at vector i of a row.
+pub fn corners_at(row: &[i32; 72], i: usize) -> Corners
+    requires { ⌜ Row (now row) ⌝ }
+    requires { ⌜ i + 2 < 24 ⌝ }
+    ensures { λ r. ⌜ r ≡ tripleOf (vectorIn (now (row .entry)) i) (vectorIn (now (row .entry)) (i + 1)) (vectorIn (now (row .entry)) (i + 2)) ⌝ }
+    ensures { λ r. ⌜ SmallCorners r ⌝ }
 {
-    let v0 = vector_at(entries, i);
-    let v1 = vector_at(entries, i + 1);
-    let v2 = vector_at(entries, i + 2);
+    let v0 = vector_at(row, i);
+    let v1 = vector_at(row, i + 1);
+    let v2 = vector_at(row, i + 2);
     mesh_trixels::triple(v0, v1, v2)
 }
 
