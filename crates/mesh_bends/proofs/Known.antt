@@ -15,6 +15,7 @@ use borrow.Author.Tests.{leb-true, ne-eqb}
 use lib.Dec.{eqb, leb}
 use lib.IntN.{ℤ, pos}
 use lib.Signed.{_≤ℤ_}
+use Rattle.algebra.proofs.Order.{nn-pos}
 use Rattle.algebra.proofs.Tests.{and-left, and-right, le-yes}
 use Rattle.jump.proofs.Jump.{det}
 use Rattle.jump.proofs.UnitLaws.{three}
@@ -218,7 +219,7 @@ facts {i} {a} {g} {x} k h =
 pub small-bends : {i : ℕ} {a : Bends} {g : ℤ} {x : Trixel} → Known i a g x → i ≤ 4 → SmallBends a
 small-bends {i} k h =
     let b = sizes-small i (k .volume) (k .corners) (k .sizes) (tested k h) in
-    subst SmallBends (k .bent) (record { a0 = record { le = b .a0 }; a1 = record { le = b .a1 }; a2 = record { le = b .a2 } })
+    subst SmallBends (k .bent) (record { a0 = record { le = b .a0 }; a1 = record { le = b .a1 }; a2 = record { le = b .a2 }; nn0 = nn-pos _; nn1 = nn-pos _; nn2 = nn-pos _ })
 
 pub below : {i : ℕ} {a : Bends} {g : ℤ} {x : Trixel} → Known i a g x → i < 4 → (d : ℕ) → d < 4 → Known (suc i) (bendsBelow (eqb i 0) d a) g (child d x)
 below {i} {a} {g} {x} k h d l = subst (λ b. Known (suc i) (bendsBelow (eqb i 0) d b) g (child d x)) (k .bent) (by (k .left) (k .levels) (k .passed) d l)

@@ -6,11 +6,12 @@
 --   laterCut, laterHalf      from depth 4 on
 --   turnedBends k a          the bends from corner number k on
 --   bendsBelow first k a     those of child number k; `first` from depth 3 to depth 4
---   SmallBends a             each is at most 2²⁰ in size
+--   SmallBends a             each is from 0 to 2²⁰
 use Prim.Native.Nat.{ℕ, _^_}
 use mathlib.Core.Bool.{Bool, cond}
 use lib.Dec.{eqb, ltb}
 use lib.IntN.{ℤ, pos, _+ℤ_, _-ℤ_, _*ℤ_}
+use lib.Signed.{_≤ℤ_}
 use Rattle.algebra.proofs.Sizes.{Upto}
 use Rattle.vector.specs.declared.Vec3.{Vec3}
 use Rattle.vector.specs.Numbers.{K, quot}
@@ -84,3 +85,6 @@ pub record SmallBends (a : Bends) : Type 0 where
   pub a0 : Upto (2 ^ 20) (a .a0)
   pub a1 : Upto (2 ^ 20) (a .a1)
   pub a2 : Upto (2 ^ 20) (a .a2)
+  pub nn0 : pos 0 ≤ℤ a .a0
+  pub nn1 : pos 0 ≤ℤ a .a1
+  pub nn2 : pos 0 ≤ℤ a .a2

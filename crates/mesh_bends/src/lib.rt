@@ -5,7 +5,10 @@ use mesh::Corners;
 use vector::Vec3;
 ghost use mathlib.Core.Path.{_≡_};
 ghost use mathlib.Core.Bool.{true, false};
-ghost use Prim.Native.Nat.{_^_};
+ghost use Prim.Native.Nat.{_^_, _<_};
+ghost use lib.IntN.{pos};
+ghost use lib.Signed.{_≤ℤ_};
+ghost use Rattle.vector.specs.Numbers.{quot};
 ghost use Rattle.algebra.proofs.Sizes.{Upto};
 ghost use Rattle.vector.proofs.Sizes.{Small};
 ghost use Rattle.mesh_trixels.specs.Corners.{SmallCorners};
@@ -74,27 +77,36 @@ fn first_cut(a: i64, sum: i64) -> i64
     a * (CUT_PART + 266 * sum / 256 - 272 * a / 256) / CUT_UNIT
 }
 
+// a / n, where a is not below 0.
+fn part(a: i64, n: u64) -> i64
+    requires { ⌜ (pos 0 ≤ℤ a) × Upto (2 ^ 20) a ⌝ }
+    requires { ⌜ 0 < n ⌝ }
+    ensures { λ r. ⌜ (r ≡ quot a (pos n)) × Upto (2 ^ 20) r ⌝ }
+{
+    (a as u64 / n) as i64
+}
+
 // The bend of half an edge, after the first cut.
 fn first_half(a: i64) -> i64
-    requires { ⌜ Upto (2 ^ 20) a ⌝ }
+    requires { ⌜ (pos 0 ≤ℤ a) × Upto (2 ^ 20) a ⌝ }
     ensures { λ r. ⌜ r ≡ firstHalf a ⌝ }
 {
-    a / 4 + a / 1024
+    part(a, 4) + part(a, 1024)
 }
 
 // The bend of the edge that a later cut makes, and that of half an edge after it.
 fn later_cut(a: i64) -> i64
-    requires { ⌜ Upto (2 ^ 20) a ⌝ }
+    requires { ⌜ (pos 0 ≤ℤ a) × Upto (2 ^ 20) a ⌝ }
     ensures { λ r. ⌜ r ≡ laterCut a ⌝ }
 {
-    a / 4 + a / 256
+    part(a, 4) + part(a, 256)
 }
 
 fn later_half(a: i64) -> i64
-    requires { ⌜ Upto (2 ^ 20) a ⌝ }
+    requires { ⌜ (pos 0 ≤ℤ a) × Upto (2 ^ 20) a ⌝ }
     ensures { λ r. ⌜ r ≡ laterHalf a ⌝ }
 {
-    a / 4
+    part(a, 4)
 }
 
 // The bends from corner number k on; 3 and above changes nothing.

@@ -31,12 +31,12 @@ turned-spec =
     let a = t .before .args .a in
     let p = t .before .pre in
     let e : _ ≡ bends (a .a1) (a .a2) (a .a0) = λ i. bends (held (p .a1) tt .eq i) (held (p .a2) tt .eq i) (held (p .a0) tt .eq i) in
-    done e (from-first a (t .if1 .taken)) (record { a0 = p .a1; a1 = p .a2; a2 = p .a0 }))
+    done e (from-first a (t .if1 .taken)) (record { a0 = p .a1; a1 = p .a2; a2 = p .a0; nn0 = p .nn1; nn1 = p .nn2; nn2 = p .nn0 }))
     (λ c.
     let t = c .before in
     let u = t .before in
     let a = u .before .args .a in
     let p = u .before .pre in
     let e : _ ≡ bends (a .a2) (a .a0) (a .a1) = λ i. bends (held (p .a2) tt .eq i) (held (p .a0) tt .eq i) (held (p .a1) tt .eq i) in
-    done e (from-second a (u .if1 .left) (t .if2 .taken)) (record { a0 = p .a2; a1 = p .a0; a2 = p .a1 }))
+    done e (from-second a (u .if1 .left) (t .if2 .taken)) (record { a0 = p .a2; a1 = p .a0; a2 = p .a1; nn0 = p .nn2; nn1 = p .nn0; nn2 = p .nn1 }))
     (λ c. let u = c .before in (not-turned (u .before .args .a) (u .if1 .left) (c .if2 .left), u .before .pre)))

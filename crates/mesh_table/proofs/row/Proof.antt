@@ -1,7 +1,6 @@
 -- `mesh_table::row` is a row of the table by the cutting rule: the test that is computed over all numbers of the table. Assumes nothing.
-use Prim.Native.Nat.{ℕ}
 use native.Mathlib.Omega.{arith}
-use mathlib.Core.Path.{_≡_, refl, sym, ap, _∙_}
+use mathlib.Core.Path.{_≡_, sym, ap}
 use Rattle.vector.specs.Numbers.{root, rootIn}
 use Rattle.vector.specs.Vectors.{unit, scale}
 use Rattle.mesh.specs.Trixels.{rootTrixel, cut, child}
