@@ -33,7 +33,7 @@
  * Threads: the library has no global state and is reentrant. Threads may call it at the same time,
  * as long as none writes a list that another one uses.
  *
- * Stack: a call takes less than 1 KB, but for these, which take up to: lookups and htm_add 2.5 KB;
+ * Stack: a call takes less than 1 KB, but for these, which take up to: lookups, htm_add and
  * htm_corners 4 KB; htm_read, htm_header, htm_holds, htm_to_grouped and htm_to_plain 11 KB;
  * htm_cover and htm_frames 86 KB; htm_trial 90 KB (measured). */
 #ifndef HTM_H

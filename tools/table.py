@@ -32,7 +32,8 @@ def rotated():
 
 if __name__ == "__main__":
     if sys.argv[1:] == ["--compare"]:
-        same = entries() in FILE.read_text() and rotated()
+        numbers = "".join(l for l in FILE.read_text().splitlines(True) if l.startswith("    ") and l.strip(" -0123456789,\n") == "" and l.count(",") == 18)
+        same = entries() == numbers and rotated()
         print("same" if same else "different")
         sys.exit(not same)
     sys.stdout.write(entries())

@@ -8,6 +8,7 @@
 #include <inttypes.h>
 #include <math.h>
 #include <stdio.h>
+#include <stdlib.h>
 
 #include "htm.h"
 
@@ -102,11 +103,19 @@ static struct trixel root(int r)
     return (struct trixel){{v[corners[r][0]], v[corners[r][1]], v[corners[r][2]]}};
 }
 
-static uint64_t by_rule(struct vector p, int depth)
+static int is_pointing(struct vector p)
+{
+    const int64_t least = (int64_t)(K - 2) * (K - 2), most = (int64_t)(K + 2) * (K + 2);
+    return llabs(p.x) <= K && llabs(p.y) <= K && llabs(p.z) <= K && least <= dot(p, p) && dot(p, p) <= most;
+}
+
+static int64_t by_rule(struct vector p, int depth)
 {
     int r = root_of(p);
     struct trixel t = root(r);
-    uint64_t id = 8 + r;
+    int64_t id = 8 + r;
+    if (!is_pointing(p))
+        return -HTM_VECTOR;
     for (int d = 1; d < depth; d++) {
         struct vector w[3];
         int k;
@@ -154,17 +163,18 @@ static long compared, refused, differ;
 
 static void compare(struct vector p)
 {
-    int depth = 1 + (int)(compared % 12);
-    uint64_t id = htm_lookup((int32_t)p.x, (int32_t)p.y, (int32_t)p.z, 12), rule;
-    if (id == 0) {
+    int shallow = 1 + (int)(compared % 12);
+    int64_t deep = by_rule(p, 12), above = by_rule(p, shallow);
+    int64_t id = htm_lookup((int32_t)p.x, (int32_t)p.y, (int32_t)p.z, 12);
+    int64_t short_id = htm_lookup((int32_t)p.x, (int32_t)p.y, (int32_t)p.z, (uint32_t)shallow);
+    if (deep < 0)
         refused++;
-        return;
-    }
-    compared++;
-    rule = by_rule(p, 12);
-    if (id != rule || htm_lookup((int32_t)p.x, (int32_t)p.y, (int32_t)p.z, (uint32_t)depth) != rule >> 2 * (12 - depth))
+    else
+        compared++;
+    if (id != deep || short_id != above)
         if (differ++ < 5)
-            printf("lookups: %" PRId64 " %" PRId64 " %" PRId64 " gives %" PRIu64 ", by the rule %" PRIu64 "\n", p.x, p.y, p.z, id, rule);
+            printf("lookups: %" PRId64 " %" PRId64 " %" PRId64 " gives %" PRId64 " and at depth %d %" PRId64 ", by the rule %" PRId64 " and %" PRId64 "\n",
+                   p.x, p.y, p.z, id, shallow, short_id, deep, above);
 }
 
 /* a point of the edge from a to b, or a itself, and what is beside it */
@@ -200,6 +210,6 @@ int main(void)
                 beside(t.v[k], t.v[(k + 1) % 3]);
         }
     near = compared - scattered;
-    printf("lookups: %ld in all directions and %ld beside edges and corners (%ld more are no pointings) beside the rule, %ld differ\n", scattered, near, refused, differ);
+    printf("lookups: %ld in all directions and %ld beside edges and corners (%ld more are no pointings and are refused) beside the rule, %ld differ\n", scattered, near, refused, differ);
     return differ || scattered < SCATTERED / 2 || near < TRIXELS;
 }

@@ -1,6 +1,6 @@
 /* How much stack each call takes: it runs on a stack of its own, which is painted before, and what has another colour afterwards was used, less what a call of
  * nothing uses. The regions go to the greatest depth: one halfspace, the most in one convex, and the most in all. All calls are made once before, since the
- * first use of memcpy and memset may take more.
+ * first use of memcpy and memset may take more. The pointings are one in no corner, where all digits of a jump are sure, and corners of trixels, where one is not.
  *
  *   stack     one line a call; exit status 1 where one takes more than the header says */
 #define _XOPEN_SOURCE 700
@@ -79,15 +79,28 @@ static int64_t indexed[HTM_INDEX_LENGTH], entry[HTM_ENTRY_LENGTH];
 static uint32_t numbers[HTM_NUMBERS_LENGTH];
 static int32_t rows[HTM_ROWS_LENGTH], corners[HTM_CORNERS_LENGTH];
 static uint8_t file[HTM_FILE_BYTES], again[HTM_FILE_BYTES], name[HTM_NAME_BYTES];
-static const uint8_t line[] = "0.3600000 0.4800000 0.8000000\n";
 static int64_t answer;
 
+static int32_t pointing[3];
+static char line[64];
+
+/* the pointing, and its line: rounded away from zero, so that truncation gives the same pointing */
+static void point_at(const int32_t at[3])
+{
+    double d[3];
+    for (int i = 0; i < 3; i++) {
+        pointing[i] = at[i];
+        d[i] = copysign(ceil(fabs(at[i] * 1e7 / HTM_K)) / 1e7, at[i]);
+    }
+    snprintf(line, sizeof line, "%.7f %.7f %.7f\n", d[0], d[1], d[2]);
+}
+
 static void nothing(void) { answer = 0; }
-static void do_lookup(void) { answer = (int64_t)lookup(377487, 503316, 838861, HTM_MAX_DEPTH); }
-static void do_htm_lookup(void) { answer = htm_lookup(377487, 503316, 838861, HTM_MAX_DEPTH); }
-static void do_f64(void) { answer = htm_lookup_f64(0.36, 0.48, 0.8, HTM_MAX_DEPTH); }
-static void do_f32(void) { answer = htm_lookup_f32(0.36f, 0.48f, 0.8f, HTM_MAX_DEPTH); }
-static void do_line(void) { answer = htm_lookup_line(line, sizeof line - 1, HTM_MAX_DEPTH); }
+static void do_lookup(void) { answer = (int64_t)lookup(pointing[0], pointing[1], pointing[2], HTM_MAX_DEPTH); }
+static void do_htm_lookup(void) { answer = htm_lookup(pointing[0], pointing[1], pointing[2], HTM_MAX_DEPTH); }
+static void do_f64(void) { answer = htm_lookup_f64(pointing[0] / (double)HTM_K, pointing[1] / (double)HTM_K, pointing[2] / (double)HTM_K, HTM_MAX_DEPTH); }
+static void do_f32(void) { answer = htm_lookup_f32(pointing[0] / (float)HTM_K, pointing[1] / (float)HTM_K, pointing[2] / (float)HTM_K, HTM_MAX_DEPTH); }
+static void do_line(void) { answer = htm_lookup_line((const uint8_t *)line, strlen(line), HTM_MAX_DEPTH); }
 static void do_name(void) { answer = htm_name((uint64_t)1 << 63, name, sizeof name); }
 static void do_identifier(void) { answer = (int64_t)(htm_identifier(name, sizeof name) >> 1); }
 static void do_corners(void) { answer = htm_corners(67108863, corners, HTM_CORNERS_LENGTH); }
@@ -100,7 +113,7 @@ static void do_to_plain(void) { answer = htm_to_plain(file, (size_t)answer, agai
 static void do_holds(void) { answer = htm_holds(region->file, region->bytes, 377487, 503316, 838861); }
 static void do_cover(void) { answer = htm_cover(region->file, region->bytes, ranges, HTM_RANGES_LENGTH, counts, HTM_COVER_COUNTS); }
 static void do_begin(void) { answer = htm_index_begin(indexed, HTM_INDEX_LENGTH); }
-static void do_add(void) { answer = htm_add(indexed, HTM_INDEX_LENGTH, 0, 7, HTM_K, 0, 0); }
+static void do_add(void) { answer = htm_add(indexed, HTM_INDEX_LENGTH, 0, 7, pointing[0], pointing[1], pointing[2]); }
 static void do_remove(void) { answer = htm_remove(indexed, HTM_INDEX_LENGTH, 0, 7); }
 static void do_count(void) { answer = htm_index_count(indexed, HTM_INDEX_LENGTH); }
 static void do_entry(void) { answer = htm_index_entry(indexed, HTM_INDEX_LENGTH, 0, entry, HTM_ENTRY_LENGTH); }
@@ -125,11 +138,11 @@ static const struct {
     void (*call)(void);
     size_t most;
 } calls[] = {
-    {"lookup", do_lookup, 2500},
-    {"htm_lookup", do_htm_lookup, 2500},
-    {"htm_lookup_f64", do_f64, 2500},
-    {"htm_lookup_f32", do_f32, 2500},
-    {"htm_lookup_line", do_line, 2500},
+    {"lookup", do_lookup, 4000},
+    {"htm_lookup", do_htm_lookup, 4000},
+    {"htm_lookup_f64", do_f64, 4000},
+    {"htm_lookup_f32", do_f32, 4000},
+    {"htm_lookup_line", do_line, 4000},
     {"htm_name", do_name, 1000},
     {"htm_identifier", do_identifier, 1000},
     {"htm_corners", do_corners, 4000},
@@ -142,7 +155,7 @@ static const struct {
     {"htm_holds", do_holds, 11000},
     {"htm_cover", do_cover, 86000},
     {"htm_index_begin", do_begin, 1000},
-    {"htm_add", do_add, 2500},
+    {"htm_add", do_add, 4000},
     {"htm_index_count", do_count, 1000},
     {"htm_index_entry", do_entry, 1000},
     {"htm_frames", do_frames, 86000},
@@ -175,9 +188,16 @@ int main(void)
     write_rings(&rings, CONVEXES, ALL / CONVEXES, 0.05);
     struct region *const regions[] = {&one, &ring, &rings};
     region = &one;
+    point_at((const int32_t[]){377487, 503316, 838861});
     bool good = make_calls(before);
     for (size_t k = 0; k < sizeof regions / sizeof regions[0]; k++) {
         region = regions[k];
+        good = make_calls(used) && good;
+    }
+    region = &one;
+    for (int depth = 4; depth <= HTM_MAX_DEPTH; depth++) {
+        good = htm_corners(((uint64_t)15 << 2 * (depth - 1)) + 3, corners, HTM_CORNERS_LENGTH) == 0 && good;
+        point_at(corners);
         good = make_calls(used) && good;
     }
     for (size_t i = 0; i < CALLS; i++) {

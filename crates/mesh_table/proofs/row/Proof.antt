@@ -9,25 +9,18 @@ use Rattle.mesh_table.specs.Table.{tableFrom, rowOf}
 use Rattle.mesh_table.proofs.row.Statement.{statement}
 use Rattle.mesh_table.proofs.row.Tie as tie
 
-tested-0 : tie.Need-returns
+tested : tie.Need-returns × tie.Need-returns-2 × tie.Need-returns-3 × tie.Need-returns-4
 unfolding tableFrom trixel rootTrixel child cut unit scale root rootIn
-tested-0 c = ap rowOf (sym (c .if1 .taken))
-
-tested-1 : tie.Need-returns-2
-unfolding tableFrom trixel rootTrixel child cut unit scale root rootIn
-tested-1 c = ap rowOf (sym (c .if2 .taken))
-
-tested-2 : tie.Need-returns-3
-unfolding tableFrom trixel rootTrixel child cut unit scale root rootIn
-tested-2 c = ap rowOf (sym (c .if3 .taken))
-
-tested-3 : tie.Need-returns-4
-unfolding tableFrom trixel rootTrixel child cut unit scale root rootIn
-tested-3 c =
-    let second = c .before in
-    let first = second .before in
-    let e : 3 ≡ first .before .args .d = omega (arith, c .if3 .left, second .if2 .left, first .if1 .left, first .before .pre) in
-    ap rowOf e
+tested = (
+  λ c. ap rowOf (sym (c .if1 .taken)),
+  λ c. ap rowOf (sym (c .if2 .taken)),
+  λ c. ap rowOf (sym (c .if3 .taken)),
+  λ c.
+      let second = c .before in
+      let first = second .before in
+      let e : 3 ≡ first .before .args .d = omega (arith, c .if3 .left, second .if2 .left, first .if1 .left, first .before .pre) in
+      ap rowOf e,
+)
 
 pub row-spec : {M : Type 1} → statement M
-row-spec = tie.close (tie.spec tested-0 tested-1 tested-2 tested-3)
+row-spec = tie.close (tie.spec (tested .0) (tested .1) (tested .2) (tested .3))
