@@ -1,4 +1,5 @@
 // What is sent back: the table of refusals, and the answer of a call that gives one number. The rules stand in specs/.
+#![tactic(auto)]
 
 pub const LONG: u32 = 1;
 
@@ -37,7 +38,7 @@ pub const ABSENT: u32 = 17;
 pub const OWNER: u32 = 18;
 
 // The answer of a call that gives one number: an identifier or a length, or the number of the first check that failed.
-#[derive(Drop)]
+#[derive(Clone, Copy)]
 pub enum Number {
     Gives(u64),
     Refused(u32),

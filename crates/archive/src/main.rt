@@ -16,6 +16,7 @@
 // others without a sign, all of 32 bits. A line ends with a line feed; the last line may do without. HEX may have any length. A line has at most
 // 65536 bytes, of which HEX counts for 21018 at most; a longer one is malformed. Where a read or a write fails, standard error says so and no further line is
 // answered. There are no arguments: with `--help`, or with any, it prints how it is called.
+#![tactic(auto)]
 
 fn main() {
     if streams::has_no_argument(b"usage: archive < LINES\n") {

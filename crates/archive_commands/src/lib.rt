@@ -1,4 +1,5 @@
 // Lines of input over one index, each answered as it ends: the commands add, remove, list, frames and trial.
+#![tactic(auto)]
 use answer::OWNER;
 use check::same;
 use command_words::lines::{LINES, NextLine};
@@ -12,7 +13,7 @@ pub mod setting_trial;
 type Index = [i64; INDEX_LENGTH];
 
 // Between two entries of a list: whether one is printed, and the end of what is printed.
-#[derive(Drop)]
+#[derive(Clone, Copy)]
 struct ListState {
     some: bool,
     at: usize,

@@ -4,7 +4,7 @@ use print::Buffer;
 use print::covers::{RANGES_LENGTH, RangeShape};
 use trial::{Choice, Setting, SettingResult, Trial, TrialOf};
 
-#[derive(Drop)]
+#[derive(Clone, Copy)]
 enum SettingAt {
     Is(Setting, usize),
     Not,

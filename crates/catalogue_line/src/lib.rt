@@ -1,5 +1,6 @@
 // Catalogue lines in code: three decimals parted by one blank and closed by a line feed. The rule stands in specs/Lines, what the parts give in
 // specs/Reading. A line is read from its beginning to the first byte that does not fit, and so no further than the longest line.
+#![tactic(auto)]
 ghost use Rattle.std.specs.Prelude.{◌≡◌, ◌*◌, ◌/◌, ◌^◌, ◌≤◌, ◌<◌, get_or, drop};
 ghost use Rattle.algebra.proofs.Sizes.{Upto};
 ghost use Rattle.vector.specs.Numbers.{Kℕ, signed};
@@ -15,14 +16,14 @@ use vector::{Vec3, VectorOf};
 const DIGITS: u32 = 7;
 
 // The value of a decimal times K, and the position after it; or there is no decimal.
-#[derive(Drop)]
+#[derive(Clone, Copy)]
 pub enum ReadAt {
     Is(i64, usize),
     Not,
 }
 
 // The number of a decimal's digits, with the whole part before them, their power of ten, and the position after them.
-#[derive(Drop)]
+#[derive(Clone, Copy)]
 pub struct Fraction {
     pub number: u64,
     pub power: u64,

@@ -1,4 +1,5 @@
 // Lines of a catalogue, each looked up as it ends, and the argument of the program.
+#![tactic(auto)]
 ghost use Rattle.catalogue_stream.specs.Argument.{DepthInRange};
 
 use command_words::lines::{LINES, NextLine};
@@ -6,7 +7,7 @@ use command_words::{NaturalAt, lines};
 use print::Buffer;
 
 // The program's argument: a depth, or no depth.
-#[derive(Drop)]
+#[derive(Clone, Copy)]
 pub enum Argument {
     Depth(u32),
     Not,

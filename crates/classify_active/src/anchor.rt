@@ -21,7 +21,7 @@ const NEVER: i64 = 17592186044416;
 const WIDEST_CLEARANCE: i64 = NEVER / 2;
 
 // An anchor beside which halfspaces are settled: a middle b, E there as `reach`, and how far beyond it a halfspace must be.
-#[derive(Drop)]
+#[derive(Clone, Copy)]
 pub struct Anchor {
     pub b: Vec3,
     pub reach: i64,

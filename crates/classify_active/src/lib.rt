@@ -1,4 +1,5 @@
 // The active halfspaces of a region beside a trixel, in two lists of their own, and the class of a trixel by them. specs/Active defines them.
+#![tactic(auto)]
 ghost use Rattle.std.specs.Prelude.{◌≡◌, true, ◌+◌, ◌*◌, ◌≤◌, ◌<◌, length, get_or, drop};
 ghost use Rattle.mesh_trixels.specs.Corners.{SmallTrixel};
 ghost use Rattle.classify_prepared.specs.Measures.{RaysOf};
@@ -33,7 +34,7 @@ pub type ActiveHalfspaces = [i64; ACTIVE_NUMBERS];
 pub type ActiveEnds = [u64; ACTIVE_ENDS];
 
 // The result for a convex: it is outside, or this many halfspaces are stored now, or there are too many.
-#[derive(Drop)]
+#[derive(Clone, Copy)]
 pub enum ActiveResult {
     Outside,
     Active(usize),
@@ -41,7 +42,7 @@ pub enum ActiveResult {
 }
 
 // The state of the search for active halfspaces: whether it goes on, and how many halfspaces and convexes are stored.
-#[derive(Drop)]
+#[derive(Clone, Copy)]
 pub struct ActiveCounts {
     pub more: bool,
     pub halfspaces: usize,

@@ -1,5 +1,6 @@
 // The bounding cap of a trixel: b, E and the clearance beyond which no squares need be compared. The rules are `b_of` and `EOf` of classify/specs/Shape,
 // what is stored of it stands in specs/Middle.
+#![tactic(auto)]
 ghost use Rattle.std.specs.Prelude.{◌≡◌, ◌-◌, ◌*◌, ◌^◌, ◌≤◌};
 ghost use Rattle.algebra.proofs.Sizes.{Upto};
 ghost use Rattle.vector.proofs.Sizes.{AtMost, Small};
@@ -23,7 +24,7 @@ const TWO_K: u64 = 2 * limits::UNSIGNED_K;
 
 // The middle b of a trixel: whether it is ahead of the rays, and then E as `reach`, b·b − E² as `rest`, and the bound beyond which a halfspace is settled
 // as `clearance`.
-#[derive(Drop)]
+#[derive(Clone, Copy)]
 pub struct BoundingCap {
     pub b: Vec3,
     pub reach: i64,

@@ -27,7 +27,7 @@ const UP_TO_TWO_K: u64 = TWO_K - 1;
 const UPPER: u64 = 2147483648;
 
 // Where E lies: `low` is reached, and no number from `high` up to K is.
-#[derive(Drop)]
+#[derive(Clone, Copy)]
 pub struct Span {
     pub low: u64,
     pub high: u64,

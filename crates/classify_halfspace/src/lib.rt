@@ -1,5 +1,6 @@
 // The class of a trixel for one halfspace: by the bounding cap, by the rays when that is inconclusive, and by the edges when the rays are. The rule
 // is `halfspace_class` of classify/specs/Classes, the tests on the way stand in specs/Halfspaces.
+#![tactic(auto)]
 ghost use Rattle.std.specs.Prelude.{◌≡◌, true, ◌&&◌, ◌+◌, ◌-◌, ◌*◌, ◌^◌, ◌≤◌, ltb, ◌*ℤ◌, length};
 ghost use Rattle.std.specs.Int.Signed.{lt_z};
 ghost use Rattle.algebra.proofs.Sizes.{Upto};
@@ -125,7 +126,7 @@ pub fn class_apart(d: i64) -> Class
     Class::Outside
 }
 
-// Whether typeof.f.P < 0 and (P.P)(f·f − D²) < (typeof.f.P)², for the normal P of an edge, which stands in ps from number k on.
+// Whether f·P < 0 and (P·P)(f·f − D²) < (f·P)², for the normal P of an edge, which stands in ps from number k on.
 fn beyond_edge(q: PreparedHalfspace, ps: &[i64], k: usize) -> bool
     requires sound_halfspace { SoundHalfspace q }
     requires k_in_bounds { (k + 3 ≤ length ps.now) × Small (vec_in ps.now k) }

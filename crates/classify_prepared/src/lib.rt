@@ -1,5 +1,6 @@
 // What is measured once: f, D, G and f·f − D² of a halfspace, the rays of a trixel with their heights and the sign of V. The rules stand in
 // classify/specs/Shape, what is stored in specs/Measures.
+#![tactic(auto)]
 ghost use Rattle.std.specs.Prelude.{◌≡◌, true, ◌^◌, ◌≤◌, pos};
 ghost use Rattle.algebra.proofs.Sizes.{Upto};
 ghost use Rattle.vector.specs.Numbers.{Kℕ};
@@ -19,7 +20,7 @@ use vector::Vec3;
 pub mod lists;
 
 // A halfspace prepared for classifying: f and d, D as `low`, G as `high`, and f·f − D² as `rest`.
-#[derive(Drop)]
+#[derive(Clone, Copy)]
 pub struct PreparedHalfspace {
     pub f: Vec3,
     pub d: i64,
@@ -29,14 +30,14 @@ pub struct PreparedHalfspace {
 }
 
 // A ray r, and its height, which is near (r·r) / 2^52.
-#[derive(Drop)]
+#[derive(Clone, Copy)]
 pub struct Ray {
     pub r: Vec3,
     pub height: u64,
 }
 
 // The rays of a trixel, and whether V > 0.
-#[derive(Drop)]
+#[derive(Clone, Copy)]
 pub struct TrixelRays {
     pub r0: Ray,
     pub r1: Ray,
@@ -55,7 +56,7 @@ fn turned(n: Vec3, d: i64) -> Vec3
     n
 }
 
-// D: typeof.e.K, divided by K + 2.
+// D: e·K, divided by K + 2.
 fn low_of(e: u64) -> i64
     requires { e ≤ Kℕ }
     ensures { (result ≡ DOf (pos e)) × Upto Kℕ result }
@@ -63,7 +64,7 @@ fn low_of(e: u64) -> i64
     (e * K / (K + 2)) as i64
 }
 
-// G: typeof.e.K, divided by K − 2, and 1.
+// G: e·K, divided by K − 2, and 1.
 fn high_of(e: u64) -> i64
     requires { e ≤ Kℕ }
     ensures { (result ≡ GOf (pos e)) × Upto (2 ^ 21) result }

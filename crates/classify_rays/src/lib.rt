@@ -1,5 +1,6 @@
 // A halfspace against the rays of a trixel: squares compared by their upper bits in one word, and exactly in two words when that is inconclusive. The rule
 // is `passes` of classify/proofs/RaysFirst; what the filter decides stands in specs/Rays.
+#![tactic(auto)]
 ghost use Rattle.std.specs.Prelude.{◌≡◌, cond, not, ◌&&◌, ◌+◌, ◌*◌, ◌^◌, ◌≤◌, ◌<◌, leb, nat_abs};
 ghost use Rattle.algebra.proofs.Sizes.{Upto};
 ghost use Rattle.wide.specs.Value.{value_of};
@@ -14,7 +15,7 @@ use vector::Vec3;
 use wide::Wide;
 
 // How many of the three rays of a trixel pass.
-#[derive(Drop)]
+#[derive(Clone, Copy)]
 pub enum Passed {
     None,
     Some,
@@ -22,7 +23,7 @@ pub enum Passed {
 }
 
 // What a filter says of a test.
-#[derive(Drop)]
+#[derive(Clone, Copy)]
 pub enum FilterResult {
     Yes,
     No,

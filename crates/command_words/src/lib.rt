@@ -1,4 +1,5 @@
 // A command line as it is stored, and its words: numbers, pointings, files and floats in hexadecimal digits, lists of numbers.
+#![tactic(auto)]
 ghost use Rattle.std.specs.Prelude.{◌≡◌, [], ◌∷◌, ◌+◌, ◌-◌, ◌^◌, ◌≤◌, length};
 ghost use Rattle.command_words.specs.Numbers.{UpTo, natural_from, natural_in, whole_in, plain, negated};
 ghost use Rattle.command_words.specs.Files.{FileDigits, hex_value, letter_value, bytes_in, length_of, file_place, BytePushed, ByteStored};
@@ -33,37 +34,37 @@ const FILE_DIGITS: usize = 2 * FILE_CAPACITY - 1;
 const NO_FILE: usize = usize::MAX;
 
 // What is stored of a line while it comes: how many bytes, and the place where its file begins while that comes.
-#[derive(Drop)]
+#[derive(Clone, Copy)]
 pub struct StoredLine {
     pub bytes: usize,
     pub file: usize,
 }
 
-#[derive(Drop)]
+#[derive(Clone, Copy)]
 pub enum NaturalAt {
     Is(u32, usize),
     Not,
 }
 
-#[derive(Drop)]
+#[derive(Clone, Copy)]
 pub enum WholeAt {
     Is(i32, usize),
     Not,
 }
 
-#[derive(Drop)]
+#[derive(Clone, Copy)]
 pub enum PointAt {
     Is { x: i32, y: i32, z: i32, next: usize },
     Not,
 }
 
-#[derive(Drop)]
+#[derive(Clone, Copy)]
 pub enum Natural {
     Is(u64),
     Not,
 }
 
-#[derive(Drop)]
+#[derive(Clone, Copy)]
 pub enum Whole {
     Is(i32),
     Not,

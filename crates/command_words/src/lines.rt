@@ -11,7 +11,7 @@ pub const LINES: u64 = u64::MAX;
 const LINE_FEED: u8 = b'\n';
 
 // Where a line lies: in the block that was read last, or in what is stored; from its first byte to its end, without its line feed and with it.
-#[derive(Drop)]
+#[derive(Clone, Copy)]
 pub struct Line {
     pub is_stored: bool,
     pub from: usize,
@@ -21,7 +21,7 @@ pub struct Line {
 
 // Between two lines: where the next one begins in the block, how many bytes the block has, the end of what is collected for standard output, and whether
 // the line before was the last, which has no line feed.
-#[derive(Drop)]
+#[derive(Clone, Copy)]
 pub struct LineState {
     pub next: usize,
     pub end: usize,
@@ -30,7 +30,7 @@ pub struct LineState {
 }
 
 // The next line, with the state behind it; or the input is over.
-#[derive(Drop)]
+#[derive(Clone, Copy)]
 pub enum NextLine {
     Line(Line, LineState),
     Over,

@@ -1,5 +1,6 @@
 // The recursion over trixels: one trixel is classified and accepted, left out or cut into its children. The rule is `visit` of covering/specs/Cover; what is
 // found stands in specs/Walk, a trixel as numbers in specs/StoredTrixels.
+#![tactic(auto)]
 ghost use Rattle.std.specs.Prelude.{◌≡◌, ◌-◌, ◌<◌};
 ghost use Rattle.classify_prepared.specs.PreparedLists.{count_in, Ready};
 ghost use Rattle.classify_active.specs.Active.{ActiveListsIn};
@@ -20,7 +21,7 @@ pub const TRIXEL: usize = 21;
 pub type TrixelNumbers = [i64; TRIXEL];
 
 // Where a trixel stands in the cutting: its identifier, how many levels it is above the depth, and how many descendants it has there.
-#[derive(Drop)]
+#[derive(Clone, Copy)]
 pub struct Level {
     pub id: u64,
     pub left: u32,
@@ -28,7 +29,7 @@ pub struct Level {
 }
 
 // What was found of a trixel: its class, its second and its third ray.
-#[derive(Drop)]
+#[derive(Clone, Copy)]
 pub struct ClassifiedTrixel {
     pub class: Class,
     pub second: Vec3,

@@ -1,7 +1,8 @@
 // The frames of a region in a single pass: the rules in specs/, the laws in proofs/, and the types that they name. Document 02, F-12.
+#![tactic(auto)]
 
 // What becomes of an entry: in no outer range it is skipped, in an inner range it is delivered unchecked, and in an outer range only the point test decides.
-#[derive(Drop)]
+#[derive(Clone, Copy)]
 pub enum Disposition {
     Skipped,
     Unchecked,
@@ -13,14 +14,14 @@ pub enum Disposition {
 pub const FRAME_COUNTS: usize = 2;
 
 // How many numbers were delivered, and how many point tests made.
-#[derive(Drop)]
+#[derive(Clone, Copy)]
 pub struct Frames {
     pub delivered: u64,
     pub tests: u64,
 }
 
 // These counts, or the number of the first check that failed.
-#[derive(Drop)]
+#[derive(Clone, Copy)]
 pub enum FramesOf {
     Gives(Frames),
     Refused(u32),

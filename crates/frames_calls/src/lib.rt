@@ -1,5 +1,6 @@
 // All frames of a region in a single pass: the file is decoded once, its cover is made, and the owner's entries are walked beside the two lists, with the point
 // test on the decoded rows. The rules are those of frames/specs/Answers.
+#![tactic(auto)]
 ghost use Rattle.std.specs.Prelude.{◌≡◌, true, List, ℕ, ◌+◌, ◌*◌, ◌-◌, ◌≤◌, ◌<◌, length};
 ghost use Rattle.index.specs.Exposures.{OwnerCapacity, is_owner};
 ghost use Rattle.index.specs.Entries.{IndexLength};
@@ -17,7 +18,7 @@ use limits::{HALFSPACES, MAX_DEPTH};
 use region::{Header, HeaderOf};
 
 // What a search gives: the counts of the cover, and what became of the entries.
-#[derive(Drop)]
+#[derive(Clone, Copy)]
 pub struct SearchResult {
     pub counts: Counts,
     pub dispositions: DispositionCounts,

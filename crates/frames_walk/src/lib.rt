@@ -1,5 +1,6 @@
 // The walk over one owner's entries beside the two lists of a cover in lent memory, each gone through once. The rule is `walk` of frames/specs/Walk;
 // specs/Steps says how far a walk is.
+#![tactic(auto)]
 ghost use Rattle.std.specs.Prelude.{◌≡◌, cond, [], ◌∷◌, ◌+◌, ◌*◌, ◌/◌, ◌^◌, ◌≤◌, ◌<◌, length, drop};
 ghost use Rattle.answer.specs.Lent.{put};
 ghost use Rattle.ranges.specs.Ranges.{ranges_in};
@@ -17,7 +18,7 @@ use vector::Vec3;
 
 // The two lists of a cover in a lent list: how many ranges the outer and the inner one have, the element at which the inner one begins, and how many
 // identifiers of depth 12 are one of theirs.
-#[derive(Drop)]
+#[derive(Clone, Copy)]
 pub struct Lists {
     pub outer: usize,
     pub inner: usize,
@@ -26,7 +27,7 @@ pub struct Lists {
 }
 
 // How many entries were delivered unchecked, tested and held, and tested and discarded.
-#[derive(Drop)]
+#[derive(Clone, Copy)]
 pub struct DispositionCounts {
     pub unchecked: u64,
     pub held: u64,
@@ -34,7 +35,7 @@ pub struct DispositionCounts {
 }
 
 // How far a walk is: how many of the owner's entries it has visited, how many ranges of each list it has left behind, and what it has counted.
-#[derive(Drop)]
+#[derive(Clone, Copy)]
 pub struct WalkState {
     pub visited: usize,
     pub outer: usize,

@@ -1,6 +1,7 @@
 // The public face: every exported call; those for a host in C stand in from_c.rt, index_from_c.rt and trial_from_c.rt. Each answers by the rule that its
 // contract names, for good and bad input alike, and none has a `requires`. A refusal carries its number only (crate answer), and then every lent element keeps
 // its value.
+#![tactic(auto)]
 ghost use Rattle.std.specs.Prelude.{◌≡◌};
 ghost use Rattle.answer.specs.Calls.{number_of};
 ghost use Rattle.vector.specs.Vectors.{vec};
@@ -36,7 +37,7 @@ pub mod index_from_c;
 pub mod trial_from_c;
 
 // The six counts, or the number of the first check that failed.
-#[derive(Drop)]
+#[derive(Clone, Copy)]
 pub enum CoverOf {
     Gives(Counts),
     Refused(u32),

@@ -1,4 +1,5 @@
 // The exposure index: the rules in specs/, the laws in proofs/, and the types that they name. Document 02, F-10 and F-11.
+#![tactic(auto)]
 use vector::Vec3;
 
 // The most entries that an index holds.
@@ -17,7 +18,7 @@ pub const WIDTH: usize = 6;
 pub const INDEX_LENGTH: usize = 1 + WIDTH * INDEX_CAPACITY;
 
 // An exposure as it stands in the index: its identifier at depth 12, its number, its owner and its pointing.
-#[derive(Drop)]
+#[derive(Clone, Copy)]
 pub struct Entry {
     pub id: i64,
     pub number: i64,
@@ -26,14 +27,14 @@ pub struct Entry {
 }
 
 // The answer of a call that changes the index: that it was done, or the number of the first check that failed.
-#[derive(Drop)]
+#[derive(Clone, Copy)]
 pub enum Change {
     Made,
     Refused(u32),
 }
 
 // The entry at a place, that there is none, or the number of the first check that failed.
-#[derive(Drop)]
+#[derive(Clone, Copy)]
 pub enum EntryOf {
     Gives(Entry),
     Nothing,

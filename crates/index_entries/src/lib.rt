@@ -1,5 +1,6 @@
 // The entries of an index, in lent memory: reading, storing, their order, searches, and how entries move when one is inserted or removed. The rules
 // stand in index/specs, the steps of the code in specs/Steps. Each contract holds of every list, index or not.
+#![tactic(auto)]
 ghost use Rattle.std.specs.Prelude.{◌≡◌, ◌+◌, ◌-◌, ◌*◌, ◌≤◌, cond, not, length, drop};
 ghost use Rattle.algebra.specs.Lists.{tally};
 ghost use Rattle.answer.specs.Lent.{put};
@@ -12,7 +13,7 @@ ghost use Rattle.algebra.proofs.Moves.{shifted_down};
 use index::{Entry, INDEX_CAPACITY, WIDTH};
 
 // The result of a search for a key: the place of the first entry that has it; or how many entries there are, and then how many of them are the owner's.
-#[derive(Drop)]
+#[derive(Clone, Copy)]
 pub struct KeySearch {
     pub place: usize,
     pub owned: usize,

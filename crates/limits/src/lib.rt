@@ -1,5 +1,7 @@
 // The numbers that document 01 states, each once, and the checks of depths and budgets that several calls share. The rules stand in
 // vector/specs/Numbers and region/specs/Budgets.
+#![tactic(auto)]
+
 ghost use Rattle.std.specs.Prelude.{◌≡◌, ◌^◌, ◌<◌};
 ghost use Rattle.vector.specs.Numbers.{is_depth};
 ghost use Rattle.region.specs.Budgets.{is_budget, budget_of};

@@ -1,5 +1,6 @@
 // The bends of a trixel's edges in code. What they are stands in specs/Bends; how far they are from 8 (2 K − n) for each trixel below S0 from depth 3 to
 // depth 7, in proofs/BendFacts.
+#![tactic(auto)]
 ghost use Rattle.std.specs.Prelude.{◌≡◌, true, false, ◌^◌, ◌<◌, pos, ◌≤ℤ◌};
 ghost use Rattle.vector.specs.Numbers.{quot};
 ghost use Rattle.algebra.proofs.Sizes.{Upto};
@@ -12,7 +13,7 @@ use mesh::Corners;
 use vector::Vec3;
 
 // A bend for each edge, by the number of the corner that is opposite to it.
-#[derive(Drop)]
+#[derive(Clone, Copy)]
 pub struct Bends {
     pub a0: i64,
     pub a1: i64,

@@ -1,6 +1,7 @@
 // The jump in code: from the corners of an entry of the table the digits of a pointing by three numbers, doubled from level to level and made less by the bends
 // of the edges, as far as a margin makes them sure; and the corners along sure digits. What the functions give stands in specs/Jumps; why the digits are those
 // of the rule, in proofs/JumpLaws and jump/proofs/JumpLevel.
+#![tactic(auto)]
 ghost use Rattle.std.specs.Prelude.{◌≡◌, true, ◌+◌, ◌*◌, ◌^◌, ◌≤◌, ◌<◌, eqb, pos, ◌+ℤ◌, ◌-ℤ◌, ◌*ℤ◌, ◌≤ℤ◌};
 ghost use Rattle.algebra.proofs.Sizes.{Upto};
 ghost use Rattle.jump.proofs.Jump.{det};
@@ -20,7 +21,7 @@ use vector::Vec3;
 
 // Three numbers that follow a pointing from a trixel to its children, and the margin beyond which their differences give the child. At the start each is
 // the volume of two corners and the pointing, pushed outward.
-#[derive(Drop)]
+#[derive(Clone, Copy)]
 pub struct Numbers {
     pub d0: i64,
     pub d1: i64,
@@ -29,14 +30,14 @@ pub struct Numbers {
 }
 
 // How many digits are sure, and the identifier that ends with them.
-#[derive(Drop)]
+#[derive(Clone, Copy)]
 pub struct SureDigits {
     pub count: u32,
     pub id: u64,
 }
 
 // The same with the numbers that are reached.
-#[derive(Drop)]
+#[derive(Clone, Copy)]
 pub struct BentDigits {
     pub count: u32,
     pub id: u64,

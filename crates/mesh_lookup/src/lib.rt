@@ -1,5 +1,6 @@
 // The lookup in code: the root by the signs, the trixel of depth 3 by the table, and from there by a jump; where a digit is not sure, step by step from
 // corners. The rule stands in mesh/specs/Lookup, what the steps give in specs/LookupSteps.
+#![tactic(auto)]
 ghost use Rattle.std.specs.Prelude.{◌≡◌, cond, ◌-◌, ◌^◌, ◌≤◌, ◌<◌, pos};
 ghost use Rattle.std.specs.Int.Signed.{le_z};
 ghost use Rattle.answer.specs.Calls.{number_of};
@@ -18,21 +19,21 @@ use mesh_jump::SureDigits;
 use vector::Vec3;
 
 // A digit, and the corners of that child.
-#[derive(Drop)]
+#[derive(Clone, Copy)]
 pub struct Child {
     pub digit: u64,
     pub corners: Corners,
 }
 
 // An identifier, and the corners of its trixel.
-#[derive(Drop)]
+#[derive(Clone, Copy)]
 pub struct LocatedTrixel {
     pub id: u64,
     pub corners: Corners,
 }
 
 // A trixel of depth 3: its identifier, the corners of its entry in S0, and the pointing turned back into S0.
-#[derive(Drop)]
+#[derive(Clone, Copy)]
 pub struct TableTrixel {
     pub id: u64,
     pub entry: Corners,

@@ -1,5 +1,7 @@
 // A mount's report: three floats, in single or in double precision. Each is taken times 2^20 and truncated toward zero. The rules stand in specs/Values and
 // specs/Reports; the code uses a float's bits, specs/Floats.
+#![tactic(auto)]
+
 ghost use Rattle.std.specs.Prelude.{◌≡◌, ◌^◌, ◌≤◌, ◌<◌};
 ghost use Rattle.vector.specs.Numbers.{signed};
 ghost use Rattle.vector.specs.Answers.{vector_given};
@@ -19,14 +21,14 @@ use vector::{Vec3, VectorOf};
 const SCALE_BITS: u64 = 20;
 
 // The width of a float: how many of its bits are the exponent's, and how many the fraction's.
-#[derive(Drop)]
+#[derive(Clone, Copy)]
 pub struct Width {
     pub exponent: u64,
     pub fraction: u64,
 }
 
 // A component, or the number of the check that failed.
-#[derive(Drop)]
+#[derive(Clone, Copy)]
 pub enum ComponentOf {
     Gives(i64),
     Refused(u32),
@@ -104,7 +106,7 @@ fn of_double(d: f64) -> ComponentOf
 // ---- a report
 
 // Three floats of an older mount, kept as they came.
-#[derive(Drop)]
+#[derive(Clone, Copy)]
 pub struct Single {
     pub x: f32,
     pub y: f32,
@@ -112,14 +114,14 @@ pub struct Single {
 }
 
 // Three floats of a newer mount, kept as they came.
-#[derive(Drop)]
+#[derive(Clone, Copy)]
 pub struct Double {
     pub x: f64,
     pub y: f64,
     pub z: f64,
 }
 
-#[derive(Drop)]
+#[derive(Clone, Copy)]
 pub enum Report {
     Single(Single),
     Double(Double),

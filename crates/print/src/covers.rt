@@ -14,7 +14,7 @@ use region::{Header, HeaderOf};
 pub const RANGES_LENGTH: usize = 4 * MAX_BUDGET as usize;
 
 // What is printed of a range: a separator, a letter and its first and last name; or `|` and its first and last identifier.
-#[derive(Drop)]
+#[derive(Clone, Copy)]
 pub enum RangeShape {
     Names { separator: u8, letter: u8 },
     Identifiers,

@@ -1,4 +1,5 @@
 // Lines of input, each answered as it ends.
+#![tactic(auto)]
 use check::same;
 use command_words::lines;
 use command_words::lines::{LINES, NextLine};

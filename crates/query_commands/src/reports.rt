@@ -20,14 +20,14 @@ const SINGLE_SIGN: u32 = 1 << 31;
 // How many patterns single precision has.
 const SINGLES: u64 = 1 << 32;
 
-#[derive(Drop)]
+#[derive(Clone, Copy)]
 enum BitsAt {
     Is(u64, usize),
     Not,
 }
 
 // The bits of three floats, and a depth.
-#[derive(Drop)]
+#[derive(Clone, Copy)]
 enum ReportAt {
     Is { x: u64, y: u64, z: u64, depth: u32 },
     Not,

@@ -1,4 +1,5 @@
 // The outer and the inner list, pushed range after range. The rules are `outer_push` and `inner_push` of ranges/proofs/Pushing.
+#![tactic(auto)]
 ghost use Rattle.std.specs.Prelude.{◌≡◌, [], ◌∷◌, ◌++◌, ◌+◌, ◌*◌, ◌-◌, ◌≤◌, ◌<◌, length};
 ghost use Rattle.ranges.specs.Lists.{gaps, join_at};
 ghost use Rattle.ranges.proofs.Pushing.{outer_push, outer_full, inner_full, inner_close, inner_push, inner_end};
@@ -8,7 +9,7 @@ ghost use Rattle.ranges_stored.specs.Stored.{differences, differences_in, writte
 use ranges_stored::{MinHint, Pending};
 
 // What a push leaves: how many ranges stand in the list, and what is known of their gaps, or of their sizes less one.
-#[derive(Drop)]
+#[derive(Clone, Copy)]
 pub struct PushResult {
     pub n: usize,
     pub hint: MinHint,

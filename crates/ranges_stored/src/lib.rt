@@ -1,5 +1,6 @@
 // Ranges in lent memory: the smallest gap or the shortest range, what is known of it, and the removing of a range. specs/Stored says how they
 // stand there.
+#![tactic(auto)]
 ghost use Rattle.std.specs.Prelude.{◌≡◌, [], ◌∷◌, ◌++◌, ◌+◌, ◌*◌, ◌-◌, ◌≤◌, ◌<◌, eqb, length, get_or};
 ghost use Rattle.ranges.specs.Lists.{earliest};
 ghost use Rattle.ranges_stored.specs.Stored.{differences_in, hint_of, no_hint, Hinted, FirstAt, PointsAt};
@@ -7,7 +8,7 @@ ghost use Rattle.algebra.proofs.Moves.{shifted_down};
 
 // What is known of some numbers, the gaps between ranges or their sizes less one: every one is at least floor, and those before number `from`
 // are above it.
-#[derive(Drop)]
+#[derive(Clone, Copy)]
 pub struct MinHint {
     pub from: usize,
     pub floor: u64,
@@ -15,7 +16,7 @@ pub struct MinHint {
 
 // What stands beside the lent list: how many ranges are stored in it, the last range, if there is one, which may still grow, and what is known of the
 // sizes, less one, of those stored.
-#[derive(Drop)]
+#[derive(Clone, Copy)]
 pub struct Pending {
     pub n: usize,
     pub some: bool,

@@ -236,7 +236,7 @@ header_said f s x b e =
     let m : File = record { depth = word p 0; budget = word p 2; region = [] } in
     let h = header_read f x e in
     let d = check_gives Depth (is_depth (word p 0)) (check Budget (is_budget (word p 2)) (gives m)) x h.1 in
-    let none : [] ≡ region_bytes s [] = elim s [ Style.Plain ↦ refl | Style.Grouped ↦ refl ] in
+    let none : [] ≡ region_bytes s [] = elim s as (λ k. [] ≡ region_bytes k []) [ Style.Plain ↦ refl | Style.Grouped ↦ refl ] in
     subst (Said f s (after f)) (same_value m x (check_gives Budget (is_budget (word p 2)) (gives m) x d)) (record {
       left = (parts_bytes (length_of f) f b).1;
       bytes = ap (λ t. header_bytes (word p 0) (word p 2) ++ (t ++ after f)) (sym none)

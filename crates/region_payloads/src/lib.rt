@@ -1,5 +1,6 @@
 // The payload readers of the records after the first: a header again, a convex, a halfspace, a group of halfspaces and the end, each checked for 4 and 7
 // to 9, with the rows in an array. The rules stand in region/specs/Reader and Building, size and state between records in specs/Payloads.
+#![tactic(auto)]
 ghost use Rattle.std.specs.Prelude.{◌≡◌, true, false, cond, ◌&&◌, List, ℕ, ◌+◌, ◌*◌, ◌-◌, ◌/◌, ◌≤◌, ◌<◌, ltb, eqb, length};
 ghost use Rattle.answer.specs.Answer.{Order};
 ghost use Rattle.answer.specs.Lent.{put};
@@ -16,14 +17,14 @@ use region::Halfspace;
 use region_rows::counts::{RegionSize, RegionSizeOf};
 
 // The position of the next record, and the size of the region so far.
-#[derive(Drop)]
+#[derive(Clone, Copy)]
 pub struct State {
     pub at: usize,
     pub counts: RegionSize,
 }
 
 // After a record: records follow, or the end was read and this is the count of the rows, or a check failed.
-#[derive(Drop)]
+#[derive(Clone, Copy)]
 pub enum Outcome {
     More(State),
     Done(u32),

@@ -1,4 +1,5 @@
 // The point test: a point against the rows of a file, one after the other. The rule is `point_test` of region/specs/Answers, the scan in specs/Points.
+#![tactic(auto)]
 ghost use Rattle.std.specs.Prelude.{◌≡◌, ◌&&◌, ◌||◌, ◌+◌, ◌*◌, ◌^◌, ◌≤◌, length, drop};
 ghost use Rattle.algebra.proofs.Sizes.{Upto};
 ghost use Rattle.vector.proofs.Sizes.{AtMost, Small};
@@ -14,14 +15,14 @@ use region::{Halfspace, HeaderOf, HeldOf};
 use vector::Vec3;
 
 // The convex that is scanned: its number, whether it holds the point so far, and whether an earlier one does.
-#[derive(Drop)]
+#[derive(Clone, Copy)]
 pub struct Scan {
     pub number: i64,
     pub all: bool,
     pub any: bool,
 }
 
-// Whether a halfspace holds p: n·p ≥ typeof.d.K.
+// Whether a halfspace holds p: n·p ≥ d·K.
 fn holds_halfspace(h: Halfspace, p: Vec3) -> bool
     requires at_most { AtMost (2 ^ 31) h.n × Upto (2 ^ 31) h.d }
     requires small { Small p }

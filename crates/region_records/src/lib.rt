@@ -1,5 +1,6 @@
 // Records of a region file in code: kinds and lengths, checked for 2 and 3; the first record with its payload reader, and the numbers of a halfspace. The
 // rules stand in region/specs/Records, Reader and Bytes, the frame of a record in specs/Frames.
+#![tactic(auto)]
 ghost use Rattle.std.specs.Prelude.{◌≡◌, ◌+◌, ◌-◌, ◌≤◌, ◌<◌, length, drop};
 ghost use Rattle.answer.specs.Answer.{with_value};
 ghost use Rattle.region.specs.Bytes as bytes;
@@ -18,14 +19,14 @@ pub mod bytes;
 const IN_CONVEX: u32 = limits::IN_CONVEX as u32;
 
 // What a record is, or the refusal 3.
-#[derive(Drop)]
+#[derive(Clone, Copy)]
 pub enum RecordOf {
     Gives(Record),
     Refused(u32),
 }
 
 // The length of a record in bytes and what it is, or the refusal 2 or 3.
-#[derive(Drop)]
+#[derive(Clone, Copy)]
 pub enum Frame {
     Of(usize, Record),
     Refused(u32),

@@ -15,7 +15,7 @@ const IN_CONVEX: u16 = limits::IN_CONVEX as u16;
 const HALFSPACES: u16 = limits::HALFSPACES as u16;
 
 // The size of a region: its convexes, the halfspaces in the last one, and those in all.
-#[derive(Drop)]
+#[derive(Clone, Copy)]
 pub struct RegionSize {
     pub convexes: u16,
     pub last: u16,
@@ -23,7 +23,7 @@ pub struct RegionSize {
 }
 
 // A size, or the number of the first check that failed.
-#[derive(Drop)]
+#[derive(Clone, Copy)]
 pub enum RegionSizeOf {
     Gives(RegionSize),
     Refused(u32),

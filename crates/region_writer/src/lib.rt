@@ -1,5 +1,6 @@
 // The writer of region files in either style: the rows are checked, then written record after record. The rules stand in region/specs/Writer and Answers,
 // what is written of a region that grows in specs/Writing.
+#![tactic(auto)]
 ghost use Rattle.std.specs.Prelude.{◌≡◌, ◌+◌, ◌*◌, ◌≤◌, ◌<◌, length};
 ghost use Rattle.algebra.proofs.Sizes.{Upto};
 ghost use Rattle.answer.specs.Answer.{gives};
@@ -19,7 +20,7 @@ use region::{Halfspace, Record, Style};
 use region_rows::counts::{RegionSize, RegionSizeOf};
 
 // Where the next record goes, how many convexes are written, and how many halfspaces of the last one.
-#[derive(Drop)]
+#[derive(Clone, Copy)]
 pub struct WriteCursor {
     pub at: usize,
     pub convexes: u16,

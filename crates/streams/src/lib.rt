@@ -1,5 +1,6 @@
 // Standard input, standard output and arguments of a program. A call that is interrupted is made again, a write that takes a part goes on with the rest,
 // and a failure is said on standard error.
+#![tactic(auto)]
 ghost use Rattle.std.specs.Prelude.{◌≡◌};
 ghost use Rattle.streams.specs.Input.{BytesIn};
 ghost use Rattle.streams.specs.declared.Input.{Input};
@@ -11,7 +12,7 @@ use libc::{EINTR, STDERR_FILENO, STDIN_FILENO, STDOUT_FILENO};
 const CALLS: u64 = u64::MAX;
 
 // How many bytes were read, 0 at the input's end; or a read has failed.
-#[derive(Drop)]
+#[derive(Clone, Copy)]
 pub enum Input {
     Bytes(usize),
     Failed,

@@ -1,17 +1,18 @@
 // A trial of two settings: the rules in specs/, worked examples in proofs/, and the types that they name. Document 02, F-13.
+#![tactic(auto)]
 
 // How many numbers a trial gives.
 pub const TRIAL_COUNTS: usize = 11;
 
 // A depth and a budget that stand in for those of a file's header.
-#[derive(Drop)]
+#[derive(Clone, Copy)]
 pub struct Setting {
     pub depth: u32,
     pub budget: u32,
 }
 
 // The result of one setting: the frames delivered unchecked, tested and held, and tested and discarded, and how many ranges the outer and the inner list have.
-#[derive(Drop)]
+#[derive(Clone, Copy)]
 pub struct SettingResult {
     pub unchecked: u64,
     pub held: u64,
@@ -21,14 +22,14 @@ pub struct SettingResult {
 }
 
 // The setting chosen.
-#[derive(Drop)]
+#[derive(Clone, Copy)]
 pub enum Choice {
     First,
     Second,
 }
 
 // The results of both settings, and the choice.
-#[derive(Drop)]
+#[derive(Clone, Copy)]
 pub struct Trial {
     pub first: SettingResult,
     pub second: SettingResult,
@@ -36,7 +37,7 @@ pub struct Trial {
 }
 
 // A trial's result, or the number of the first check that failed.
-#[derive(Drop)]
+#[derive(Clone, Copy)]
 pub enum TrialOf {
     Gives(Trial),
     Refused(u32),

@@ -1,5 +1,6 @@
 // A trial of one region under two settings, and the call beside it that hands back the outer list of the setting chosen: a part of one of the two
 // buffers. The file is decoded once, and each setting is searched as frames are (frames_calls). The rules are those of trial/specs.
+#![tactic(auto)]
 ghost use Rattle.std.specs.Prelude.{◌≡◌, true, List, ℕ, ◌+◌, ◌*◌, ◌^◌, ◌≤◌, leb, length};
 ghost use Rattle.region.specs.Budgets.{budget_of};
 ghost use Rattle.index.specs.Exposures.{is_owner};
@@ -20,7 +21,7 @@ use region::{Header, HeaderOf};
 use trial::{Choice, Setting, SettingResult, Trial, TrialOf};
 
 // The result of one setting, and the share of the sky that its outer list spans, in identifiers of depth 12.
-#[derive(Drop)]
+#[derive(Clone, Copy)]
 pub struct ScoredSetting {
     pub result: SettingResult,
     pub sky: u64,

@@ -1,8 +1,9 @@
 // Unsigned numbers of two words. The squares that classifying compares pass 64 bits. The rules stand in specs/.
+#![tactic(auto)]
 ghost use Rattle.std.specs.Prelude.{◌≡◌, ◌+◌, ◌-◌, ◌*◌, ◌^◌, ◌<◌, ◌≤◌, ltb};
 ghost use Rattle.wide.specs.Value.{value_of};
 
-#[derive(Drop)]
+#[derive(Clone, Copy)]
 pub struct Wide {
     pub hi: u64,
     pub lo: u64,

@@ -1,0 +1,71 @@
+use Prim.Native.Nat.{ℕ, ◌+◌, ◌*◌, ◌^◌, ◌≤◌, ◌<◌}
+use native.Mathlib.Omega.{arith}
+use mathlib.Core.Path.{◌≡◌, sym, ap, ◌∙◌}
+use mathlib.Core.Bool.{true}
+use mathlib.Core.List.{List}
+use lib.ListN.{length, get_or}
+use borrow.Author.Tests.{not-true, not-false}
+use Rattle.catalogue_line.specs.Lines.{is_digit_to, digit0}
+use Rattle.catalogue_line.proofs.ReadingLaws.{none_read, power_small, all_read, no_digits_left, no_digit, one_more, digit_inside}
+use Rattle.catalogue_line.proofs.digits.Goals as goal
+
+-- a digit was read
+module _ (c : goal.Else-not-is_digit) where
+  abbrev line : List ℕ
+  line = c.args.line.now
+
+  abbrev next : ℕ
+  next = c.loop-left.next
+
+  byte : c.byte_at-b.result ≡ get_or line next 0
+  byte = c.byte_at-b.ensures
+
+  is_one : is_digit_to 9 (get_or line next 0) ≡ true
+  is_one = ap (is_digit_to 9) (sym byte) ∙ sym c.is_digit.ensures ∙ not-false _ c.if-not-is_digit.false
+
+  there : (next < length line) × (digit0 ≤ c.byte_at-b.result) × (c.byte_at-b.result ≤ digit0 + 9)
+  there =
+      let d = digit_inside 9 line next is_one in
+      (d.0, omega (arith, byte, d.1), omega (arith, byte, d.2))
+
+  small : (c.loop-left.number < 2 * 10 ^ 7) × (c.loop-left.power ≤ 10 ^ 7)
+  small =
+      let r = c.loop-left.invariant in
+      let p = power_small _ _ _ _ _ _ _ r in
+      (omega (arith, r.size, p), p)
+
+pub loop-left-init : goal.loop-left-init
+loop-left-init c = none_read _ _ _ c.requires
+
+pub overflow_mul-number : goal.overflow_mul-number
+overflow_mul-number c = omega (arith, small c)
+
+pub overflow_sub-number : goal.overflow_sub-number
+overflow_sub-number c = (there c).1
+
+pub overflow_cast-number : goal.overflow_cast-number
+overflow_cast-number c = omega (arith, there c)
+
+pub overflow_add-number : goal.overflow_add-number
+overflow_add-number c = omega (arith, small c, there c)
+
+pub overflow_mul-power : goal.overflow_mul-power
+overflow_mul-power c = omega (arith, small c)
+
+pub overflow_add-next : goal.overflow_add-next
+overflow_add-next c = omega (arith, there c)
+
+pub loop-left-preserved : goal.loop-left-preserved
+loop-left-preserved c = rw (byte c) (one_more _ _ _ _ _ _ _ c.loop-left-test.true c.loop-left.invariant (is_one c))
+
+pub returns-after-loop-left : goal.returns-after-loop-left
+returns-after-loop-left c =
+    let l = c.loop-left in
+    all_read _ _ _ _ _ _ _ l.invariant (no_digits_left l.next c.args.line.now _ c.loop-left-test.false)
+
+pub returns-then-not-is_digit : goal.returns-then-not-is_digit
+returns-then-not-is_digit c =
+    let t = c in
+    let l = t.loop-left in
+    all_read _ _ _ _ _ _ _ l.invariant (no_digit l.next t.args.line.now l.left
+    (ap (is_digit_to 9) (sym t.byte_at-b.ensures) ∙ sym c.is_digit.ensures ∙ not-true _ c.if-not-is_digit.true))

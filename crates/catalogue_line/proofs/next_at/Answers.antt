@@ -1,0 +1,20 @@
+-- A blank is passed, and without one there is no decimal. Assumes nothing.
+use native.Mathlib.Omega.{arith}
+use mathlib.Core.Path.{sym, ap, ◌∙◌}
+use Rattle.catalogue_line.specs.Reading.{valued}
+use Rattle.catalogue_line.proofs.ReadingLaws.{inside, blank_there, no_blank_there}
+use Rattle.catalogue_line.proofs.next_at.Goals as goal
+
+pub overflow_add-at : goal.overflow_add-at
+overflow_add-at c = let a = c.args in omega (arith, inside a.line.now a.at (omega (arith, c.byte_at.ensures, c.if-byte_at-eq32.true)))
+
+pub returns-then-byte_at-eq32 : goal.returns-then-byte_at-eq32
+returns-then-byte_at-eq32 c =
+    let b = c in
+    let a = b.args in
+    c.decimal_at.ensures ∙ ap valued (blank_there a.line.now a.at (sym b.byte_at.ensures ∙ c.if-byte_at-eq32.true))
+
+pub returns : goal.returns
+returns c =
+    let a = c.args in
+    sym (ap valued (no_blank_there a.line.now a.at (λ e. c.if-byte_at-eq32.false (c.byte_at.ensures ∙ e))))

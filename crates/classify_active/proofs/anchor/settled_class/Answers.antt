@@ -1,0 +1,93 @@
+-- `classify_active::anchor::settled_class` is the class of the rule: f·b is at most 3·2⁴⁰, D, G and E are some 2²⁰, so that each product stays below 2⁶³.
+-- Assumes nothing.
+use Prim.Native.Nat.{◌+◌, ◌*◌}
+use mathlib.Core.Path.{◌≡◌, refl, sym, ap, subst, ◌∙◌}
+use mathlib.Core.Bool.{Bool}
+use lib.Dec.{lit≤}
+use lib.IntN.{ℤ, ◌-ℤ◌, ◌*ℤ◌}
+use lib.Signed.{le_z}
+use mir.Syntax.{w64}
+use mir.Val.{to_z, of_z}
+use Rattle.algebra.proofs.Sizes.{Upto}
+use Rattle.algebra.proofs.Sized.{held, is_mul, is_sub, fits_mul, fits_sub, same_le}
+use Rattle.vector.specs.Numbers.{Kℕ}
+use Rattle.vector.specs.Vectors.{dot}
+use Rattle.vector.proofs.SizeLaws.{at_most_mono, dot_upto}
+use Rattle.classify_active.specs.Anchor.{settled_by}
+use Rattle.classify_halfspace.specs.Halfspaces.{class_within, class_apart}
+use Rattle.classify_prepared.proofs.PreparedLaws.{sound_offset, sound_near}
+use Rattle.classify_cap.proofs.CapLaws.{Beside, sound_beside}
+use Rattle.classify_active.proofs.anchor.settled_class.Goals as goal
+
+half : (c : goal.Start) → Beside c.args.q.f c.args.q.low c.args.q.rest
+half c = sound_beside c.requires.sound_halfspace
+
+-- f·b
+along : (c : goal.After-dot-c) → Upto (Kℕ * Kℕ + Kℕ * Kℕ + Kℕ * Kℕ) c.dot-c.result
+along c = subst (Upto (Kℕ * Kℕ + Kℕ * Kℕ + Kℕ * Kℕ)) (sym c.dot-c.ensures.value) (dot_upto (half c.before.before.before).small c.requires.anchor.b)
+
+-- the number that the bits of z stand for
+abbrev bits : ℤ → ℤ
+bits z = to_z w64 (of_z w64 z)
+
+-- the two tests, by the numbers themselves
+module _ (c : goal.After-dot-c) {x : Bool} where
+  past : le_z (bits c.args.r.margin) (bits (bits (bits c.args.q.low *ℤ bits c.args.r.reach) -ℤ bits c.dot-c.result)) ≡ x
+      → le_z c.args.r.margin (c.args.q.low *ℤ c.args.r.reach -ℤ dot c.args.q.f c.args.r.b) ≡ x
+  past k =
+      let s = c in
+      (λ i. le_z s.args.r.margin (s.args.q.low *ℤ s.args.r.reach -ℤ sym c.dot-c.ensures.value i))
+      ∙ sym (same_le (held s.requires.anchor.margin tt) (is_sub (is_mul (held (half s).size tt) (held s.requires.anchor.reach tt) tt) (held (along c) tt) tt))
+      ∙ k
+
+  inward : le_z (bits c.args.r.margin) (bits (bits c.dot-c.result -ℤ bits (bits c.args.q.high *ℤ bits c.args.r.reach))) ≡ x
+      → le_z c.args.r.margin (dot c.args.q.f c.args.r.b -ℤ c.args.q.high *ℤ c.args.r.reach) ≡ x
+  inward k =
+      let s = c.before.before.before in
+      (λ i. le_z s.args.r.margin (sym c.dot-c.ensures.value i -ℤ s.args.q.high *ℤ s.args.r.reach))
+      ∙ sym (same_le (held s.requires.anchor.margin tt) (is_sub (held (along c) tt) (is_mul (held (sound_near s.requires.sound_halfspace) tt) (held s.requires.anchor.reach tt) tt) tt))
+      ∙ k
+
+pub dot-c-requires : goal.dot-c-requires
+dot-c-requires c = record {
+      small = (half c.before.before).small;
+      at_most = at_most_mono (lit≤ tt) c.requires.anchor.b;
+    }
+
+pub overflow_mul-q : goal.overflow_mul-q
+overflow_mul-q c = let s = c.before.before.before.before.before.before.before in fits_mul (held (half s).size tt) (held s.requires.anchor.reach tt) tt
+
+pub overflow_sub-q : goal.overflow_sub-q
+overflow_sub-q c =
+    let d = c.before.before.before.before in
+    let s = d.before.before.before in
+    fits_sub (is_mul (held (half s).size tt) (held s.requires.anchor.reach tt) tt) (held (along d) tt) tt
+
+pub returns-then-r-q : goal.returns-then-r-q
+unfolding settled_by
+returns-then-r-q c =
+    let d = c.before.before.before.before.before.before.before.before.before in
+    rw (past d c.if-r-q.true) (c.class_apart.ensures ∙ ap class_apart (held (sound_offset d.requires.sound_halfspace) tt).eq)
+
+pub overflow_mul-q-2 : goal.overflow_mul-q-2
+overflow_mul-q-2 c = let s = c in fits_mul (held (sound_near s.requires.sound_halfspace) tt) (held s.requires.anchor.reach tt) tt
+
+pub overflow_sub-c : goal.overflow_sub-c
+overflow_sub-c c =
+    let d = c.before.before.before.before.before.before.before.before.before.before.before in
+    let s = d in
+    fits_sub (held (along d) tt) (is_mul (held (sound_near s.requires.sound_halfspace) tt) (held s.requires.anchor.reach tt) tt) tt
+
+pub returns-then-r-c : goal.returns-then-r-c
+unfolding settled_by
+returns-then-r-c c =
+    let e = c.before.before.before.before.before.before.before.before.before in
+    let d = e.before.before.before.before.before.before.before in
+    rw (past d e.if-r-q.left, inward d c.if-r-c.true) (c.class_within.ensures ∙ ap class_within (held (sound_offset d.requires.sound_halfspace) tt).eq)
+
+pub returns : goal.returns
+unfolding settled_by
+returns c =
+    let e = c.before.before.before.before.before.before.before in
+    let d = e.before.before.before.before.before.before.before in
+    rw (past d e.if-r-q.left, inward d c.if-r-c.false) refl

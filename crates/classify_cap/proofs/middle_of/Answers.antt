@@ -1,0 +1,27 @@
+-- `classify_cap::middle_of` is b: the sum of three corners is at most 3 K in each component. Assumes nothing.
+use Prim.Native.Nat.{◌^◌}
+use mathlib.Core.Path.{sym, ap, subst, ◌∙◌}
+use borrow.Author.Rules.{rules}
+use Rattle.vector.specs.Vectors.{plus, unit}
+use Rattle.vector.proofs.Sizes.{AtMost}
+use Rattle.vector.proofs.SizeLaws.{at_most_plus}
+use Rattle.classify_cap.proofs.middle_of.Goals as goal
+
+pub sum-requires-2 : goal.sum-requires-2
+sum-requires-2 c =
+    let p = c.requires in
+    record {
+      at_most = subst (AtMost (2 ^ 21)) (sym c.sum.ensures.value) (at_most_plus p.v0-1 p.v1-1);
+      at_most_2 = search rules;
+    }
+
+pub unit-requires : goal.unit-requires
+unit-requires c = c.sum-2.ensures.at_most_3
+
+pub returns : goal.returns
+returns c =
+    let t = c.args.t in
+    record {
+      value = c.unit.ensures.value ∙ ap unit (c.sum-2.ensures.value ∙ ap (λ v. plus v t.v2-1) c.sum.ensures.value);
+      small = c.unit.ensures.small;
+    }

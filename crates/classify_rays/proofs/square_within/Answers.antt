@@ -1,0 +1,9 @@
+-- `classify_rays::square_within`: both products fit a word. Assumes nothing.
+use Rattle.classify_rays.proofs.FilterLaws.{product_fits, square_fits}
+use Rattle.classify_rays.proofs.square_within.Goals as goal
+
+pub overflow_mul-result : goal.overflow_mul-result
+overflow_mul-result c = square_fits c.requires.0
+
+pub overflow_mul-result-2 : goal.overflow_mul-result-2
+overflow_mul-result-2 c = product_fits c.requires.1 c.requires.2

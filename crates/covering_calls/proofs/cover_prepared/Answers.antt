@@ -1,0 +1,19 @@
+-- `covering_calls::cover_prepared` cuts the roots and ends the lists: they are those of the rule, by the one pass. Assumes nothing.
+use borrow.Author.Rules.{rules}
+use Rattle.covering_walk.proofs.VisitLaws.{cover_start, cover_contained, cover_end}
+use Rattle.covering_calls.proofs.cover_prepared.Goals as goal
+
+pub visit_roots-requires : goal.visit_roots-requires
+visit_roots-requires c = let s = c in cover_start s.requires.le_depth s.requires.ready.0 s.requires.ready.1 c.no_tally-s.ensures
+
+pub finish-requires : goal.finish-requires
+finish-requires c =
+    let v = c.visit_roots.ensures in
+    let s = c in
+    record {
+      tally_invariant = v.invariant;
+      counts_contained = cover_contained v s.requires.ready.0 s.requires.le_depth.1;
+    }
+
+pub returns : goal.returns
+returns c = cover_end c.visit_roots.ensures c.no_tally-s.ensures (search rules) c.finish.ensures

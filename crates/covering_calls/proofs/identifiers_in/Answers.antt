@@ -1,0 +1,44 @@
+use Prim.Native.Nat.{ℕ, suc, ◌+◌, ◌-◌, ◌*◌, ◌^◌, ◌≤◌, ◌<◌}
+use native.Mathlib.Numerals.{add-one}
+use native.Mathlib.Omega.{arith}
+use mathlib.Core.Path.{◌≡◌, refl, ap, ◌∙◌}
+use mathlib.Core.List.{List}
+use lib.ListN.{get_or}
+use Rattle.ranges.specs.Ranges.{ranges_in}
+use Rattle.ranges.specs.Contents.{identifiers}
+use Rattle.ranges.proofs.ContentsLaws.{identifiers_next, identifiers_first}
+use Rattle.covering_calls.proofs.identifiers_in.Goals as goal
+
+-- range number i is one of n
+more_few : (l : List ℕ) (n i : ℕ) → i < n → identifiers (ranges_in n l) ≤ 2 ^ 25 → identifiers (ranges_in i l) + (get_or l (2 * i + 1) 0 - get_or l (2 * i) 0 + 1) ≤ 2 ^ 25
+more_few l n i h f = omega (arith, identifiers_next i l, identifiers_first (suc i) n l (omega arith))
+
+pub loop-i-init : goal.loop-i-init
+unfolding ranges_in identifiers
+loop-i-init c = (omega arith, refl)
+
+pub overflow_add-sum : goal.overflow_add-sum
+overflow_add-sum c =
+    let l = c.before.before.before.before in
+    let s = l in
+    omega (arith, c.above.ensures, more_few s.args.list.now s.args.n l.loop-i.i (omega arith) s.requires.1)
+
+pub overflow_add-sum-in-loop-i : goal.overflow_add-sum-in-loop-i
+overflow_add-sum-in-loop-i c =
+    let l = c.before.before.before.before in
+    let s = l in
+    omega (arith, c.above.ensures, l.loop-i.invariant.1, more_few s.args.list.now s.args.n l.loop-i.i (omega arith) s.requires.1)
+
+pub loop-i-preserved : goal.loop-i-preserved
+loop-i-preserved c =
+    let l = c.before.before.before.before in
+    let s = l in
+    let xs = s.args.list.now in
+    (omega arith, omega (arith, c.above.ensures, l.loop-i.invariant.1, identifiers_next l.loop-i.i xs, ap (λ k. identifiers (ranges_in k xs)) (add-one l.loop-i.i)))
+
+pub returns : goal.returns
+returns c =
+    let l = c.before in
+    let s = l in
+    let e : l.loop-i.i ≡ s.args.n = omega arith in
+    l.loop-i.invariant.1 ∙ ap (λ k. identifiers (ranges_in k s.args.list.now)) e

@@ -1,0 +1,8 @@
+-- `covering_tally::add_inner` pushes the range by what the tally knows, and notes what it knows then. Assumes nothing.
+use Rattle.covering_tally.proofs.TallyLaws.{inner_added}
+use Rattle.covering_tally.proofs.add_inner.Goals as goal
+
+pub returns : goal.returns
+returns c =
+    let p = c in
+    inner_added p.push_inner.ensures p.budget_of.ensures p.pending.ensures c.note_inner.ensures

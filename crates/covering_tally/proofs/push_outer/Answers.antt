@@ -1,0 +1,6 @@
+-- `covering_tally::push_outer` pushes the range by what the tally knows, and notes what it knows then. Assumes nothing.
+use Rattle.covering_tally.proofs.TallyLaws.{outer_pushed}
+use Rattle.covering_tally.proofs.push_outer.Goals as goal
+
+pub returns : goal.returns
+returns c = let p = c in outer_pushed _ p.outer_push.ensures c.note_outer.ensures

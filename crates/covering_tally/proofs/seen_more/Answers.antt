@@ -1,0 +1,6 @@
+-- `covering_tally::seen_more` counts a trixel as seen. Assumes nothing.
+use Rattle.covering_tally.proofs.TallyLaws.{noted_seen}
+use Rattle.covering_tally.proofs.seen_more.Goals as goal
+
+pub returns : goal.returns
+returns c = let s = c in noted_seen s.args.s.now s.requires.s_len

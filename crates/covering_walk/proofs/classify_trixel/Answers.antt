@@ -1,0 +1,24 @@
+-- `covering_walk::classify_trixel` measures the trixel, and classifies it. Assumes nothing.
+use mathlib.Core.Path.{refl}
+use borrow.Author.Rules.{rules}
+use Rattle.covering_walk.proofs.StoredTrixelLaws.{stored_small, stored_first_ray, stored_normals, classified_of}
+use Rattle.covering_walk.proofs.classify_trixel.Goals as goal
+
+pub measured-s-requires : goal.measured-s-requires
+measured-s-requires c = let e = c.trixel_in-t.ensures in let k = c.requires.stored_trixel in record {
+      small_trixel = stored_small e k;
+      r_value = stored_first_ray e k c.first_ray_in.ensures;
+    }
+
+pub class_beside-class-requires : goal.class_beside-class-requires
+class_beside-class-requires c =
+    let e = c.before.before.before in
+    let s = e in
+    let both = ((c.measured-s.ensures, stored_normals e.trixel_in-t.ensures s.requires.stored_trixel (search rules)), (s.requires.ready.0, s.requires.ready.1)) in record {
+      rays_of = both.0;
+      ready = both.1.0;
+      active_lists_in = both.1.1;
+    }
+
+pub returns : goal.returns
+returns c = classified_of c.trixel_in-t.ensures _ c.measured-s.ensures refl refl c.class_beside-class.ensures

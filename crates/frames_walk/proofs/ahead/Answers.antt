@@ -1,0 +1,26 @@
+use Prim.Native.Nat.{◌-◌}
+use mathlib.Core.Path.{refl, sym, ◌∙◌}
+use native.Mathlib.Omega.{arith}
+use Rattle.frames_walk.proofs.RangeLaws.{ahead_on, ahead_stops, ahead_ends}
+use Rattle.frames_walk.proofs.ahead.Goals as goal
+
+pub loop-place-init : goal.loop-place-init
+loop-place-init c = (omega arith, refl)
+
+pub returns-then-id-list : goal.returns-then-id-list
+returns-then-id-list c =
+    let l = c in
+    let v = l.args in
+    (sym (ahead_stops v.id v.list.now v.n l.loop-place.place (omega arith) (omega arith)) ∙ l.loop-place.invariant.1, omega arith)
+
+pub loop-place-preserved : goal.loop-place-preserved
+loop-place-preserved c =
+    let l = c in
+    let v = l.args in
+    (omega arith, sym (ahead_on v.id v.list.now v.n l.loop-place.place (omega arith) (omega arith)) ∙ l.loop-place.invariant.1)
+
+pub returns : goal.returns
+returns c =
+    let l = c in
+    let v = l.args in
+    (sym (ahead_ends v.id v.list.now v.n l.loop-place.place (omega arith)) ∙ l.loop-place.invariant.1, omega arith)

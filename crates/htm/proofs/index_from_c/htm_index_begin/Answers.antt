@@ -1,0 +1,14 @@
+-- `htm::index_from_c::htm_index_begin` is 0 where the list is an empty index now, or minus the refusal. Assumes nothing.
+use mathlib.Core.Path.{ap, ◌∙◌}
+use Rattle.algebra.proofs.Sized.{held}
+use Rattle.htm_abi.specs.Values.{status_of}
+use Rattle.htm.proofs.index_from_c.htm_index_begin.Goals as goal
+
+pub shape_of-index : goal.shape_of-index
+shape_of-index c = c.index_begin.auto.0
+
+pub returns : goal.returns
+returns c = let m = c.status.ensures in let a = c.index_begin.ensures in record {
+      value = (held m.1 tt).eq ∙ m.0 ∙ ap status_of a.result_value;
+      index_after = a.index_after;
+    }

@@ -1,0 +1,11 @@
+-- `index_entries::is_owned` compares the bits of the owner, as the numbers themselves are. Assumes nothing.
+use native.Mathlib.Omega.{arith}
+use lib.IntN.{pos}
+use Rattle.index_entries.proofs.NumberLaws.{same_bits}
+use Rattle.index_entries.proofs.is_owned.Goals as goal
+
+pub overflow_cast-result : goal.overflow_cast-result
+overflow_cast-result c = record { sfits = omega arith }
+
+pub returns : goal.returns
+returns c = let s = c in same_bits s.args.e.owner (pos s.args.owner) c.struct_told-1.given.1.1.0.1 (omega arith)

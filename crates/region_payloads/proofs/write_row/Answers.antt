@@ -1,0 +1,62 @@
+-- `region_payloads::write_row` stores the five numbers of the row, each of which fits 32 bits. Assumes nothing.
+use Prim.Native.Nat.{◌+◌, ◌-◌, ◌*◌}
+use native.Mathlib.Omega.{arith}
+use mathlib.Core.Path.{◌∙◌}
+use lib.ListN.{set, length-set}
+use mir.Syntax.{w32}
+use mir.Facts.{to_z_pos}
+use Rattle.algebra.proofs.Sized.{fits_narrower, same_narrower}
+use Rattle.answer.proofs.PutLaws.{stored_put}
+use Rattle.region.specs.Rows.{row}
+use Rattle.vector.proofs.Sizes.{Small}
+use Rattle.vector.specs.Numbers.{Kℕ}
+use Rattle.algebra.proofs.Sizes.{Upto}
+use Rattle.vector.proofs.SizeLaws.{between_upto}
+use Rattle.vector.proofs.VectorLaws.{vector_small}
+use Rattle.region_payloads.proofs.write_row.Goals as goal
+
+small : (c : goal.Start) → Small c.args.h.n
+small c = vector_small c.args.h.n c.requires.good_halfspace.vector
+
+offset : (c : goal.Start) → Upto Kℕ c.args.h.d
+offset c = between_upto c.args.h.d c.requires.good_halfspace.offset
+
+pub overflow_cast-rows : goal.overflow_cast-rows
+overflow_cast-rows c = record { sfits = omega arith }
+
+pub overflow_cast-rows-2 : goal.overflow_cast-rows-2
+overflow_cast-rows-2 c = fits_narrower (small c.before.before.before.before.before).x tt
+
+pub bounds-rows-at-2 : goal.bounds-rows-at-2
+bounds-rows-at-2 c = simp length-set (omega arith)
+
+pub overflow_cast-rows-3 : goal.overflow_cast-rows-3
+overflow_cast-rows-3 c = fits_narrower (small c.before.before.before.before.before.before.before).y tt
+
+pub bounds-rows-at-3 : goal.bounds-rows-at-3
+bounds-rows-at-3 c = simp length-set (omega arith)
+
+pub overflow_cast-rows-4 : goal.overflow_cast-rows-4
+overflow_cast-rows-4 c = fits_narrower (small c.before.before.before.before.before.before.before.before.before).z tt
+
+pub bounds-rows-at-4 : goal.bounds-rows-at-4
+bounds-rows-at-4 c = simp length-set (omega arith)
+
+pub overflow_cast-rows-5 : goal.overflow_cast-rows-5
+overflow_cast-rows-5 c = fits_narrower (offset c.before.before.before.before.before.before.before.before.before.before.before) tt
+
+pub bounds-rows-at-5 : goal.bounds-rows-at-5
+bounds-rows-at-5 c = simp length-set (omega arith)
+
+pub shape_of-rows : goal.shape_of-rows
+shape_of-rows c = simp length-set
+
+pub returns : goal.returns
+returns c =
+    let s = c.before.before.before.before.before.before.before.before.before.before.before in
+    let v = s.args in
+    let at = 5 * v.k.all in
+    let k = to_z_pos w32 {n = v.k.convexes - 1} (omega (arith, c.struct_known-1.given)) in
+    let n = small s in
+    (λ i. set (set (set (set (set v.rows.now at (k i)) (at + 1) (same_narrower n.x tt i)) (at + 2) (same_narrower n.y tt i)) (at + 3) (same_narrower n.z tt i)) (at + 4) (same_narrower (offset s) tt i))
+    ∙ stored_put at (row (v.k.convexes - 1) v.h) v.rows.now s.requires.convexes_nonzero.1

@@ -1,0 +1,81 @@
+-- In the plain style length and kind and the numbers stand one after the other, and so as one list; in the grouped one the group's length is put first, then
+-- the numbers. Assumes nothing.
+use Prim.Native.Nat.{◌+◌}
+use native.Mathlib.Omega.{arith}
+use mathlib.Core.Path.{refl, sym, ap, ◌∙◌}
+use Rattle.region.specs.declared.Record.{Record}
+use Rattle.region.specs.Writer.{begin, numbers_bytes}
+use Rattle.answer.specs.Lent.{put}
+use Rattle.answer.proofs.PutLaws.{put_next}
+use Rattle.region_writer.specs.Writing.{width, with_halfspace_at}
+use Rattle.region_writer.proofs.put_halfspace.Goals as goal
+
+pub overflow_add-next : goal.overflow_add-next
+overflow_add-next c = omega (arith, c.requires.style_in_bounds)
+
+pub put_kind-requires : goal.put_kind-requires
+put_kind-requires c =
+    let t = c.before in
+    let s = t in
+    (omega (arith, s.requires.style_in_bounds.0, ap width t.in-Plain.is), omega arith)
+
+pub overflow_add-at : goal.overflow_add-at
+overflow_add-at c =
+    let t = c in
+    omega (arith, t.requires.style_in_bounds.0, ap width t.in-Plain.is)
+
+pub put_numbers-requires : goal.put_numbers-requires
+put_numbers-requires c =
+    let k = c.before.before.before in
+    let t = k.before.before in
+    let s = t in
+    let both = (omega (arith, s.requires.style_in_bounds.0, ap width t.in-Plain.is, k.put_kind.auto.0), s.requires.small) in record {
+      at_in_bounds = both.0;
+      small = both.1.0;
+      upto = both.1.1;
+    }
+
+pub put_kind-requires-in-Grouped : goal.put_kind-requires-in-Grouped
+put_kind-requires-in-Grouped c = (omega arith, omega arith)
+
+pub put_numbers-requires-in-Grouped : goal.put_numbers-requires-in-Grouped
+put_numbers-requires-in-Grouped c =
+    let k = c.before.before.before in
+    let t = k.before.before.before in
+    let s = t in
+    let both = (omega (arith, s.requires.style_in_bounds.0, ap width t.in-Grouped.is, k.put_kind-in-Grouped.auto.0), s.requires.small) in record {
+      at_in_bounds = both.0;
+      small = both.1.0;
+      upto = both.1.1;
+    }
+
+pub shape_of-out-in-Plain : goal.shape_of-out-in-Plain
+shape_of-out-in-Plain c = let n = c in n.put_numbers.auto.0 ∙ n.put_kind.auto.0
+
+pub returns-in-Plain : goal.returns-in-Plain
+returns-in-Plain c =
+    let n = c.before.before in
+    let k = n.before.before.before.before in
+    let t = k.before.before in
+    let w = t in
+    let a = w.args in record {
+      value = (λ i. record { at = a.p.at + w.width.ensures.0 i; convexes = a.p.convexes; last = a.p.last + 1 });
+      out_after = put_next a.p.at (begin Record.Halfspace) (numbers_bytes a.h) a.out-1.now k.put_kind.ensures n.put_numbers.ensures refl (omega arith)
+          ∙ ap (λ s. with_halfspace_at s a.p a.h a.out-1.now) (sym t.in-Plain.is);
+    }
+
+pub shape_of-out-in-Grouped : goal.shape_of-out-in-Grouped
+shape_of-out-in-Grouped c = let n = c in n.put_numbers-in-Grouped.auto.0 ∙ n.put_kind-in-Grouped.auto.0
+
+pub returns-in-Grouped : goal.returns-in-Grouped
+returns-in-Grouped c =
+    let n = c.before.before in
+    let k = n.before.before.before.before in
+    let t = k.before.before.before in
+    let w = t in
+    let a = w.args in record {
+      value = (λ i. record { at = a.p.at + w.width.ensures.0 i; convexes = a.p.convexes; last = a.p.last + 1 });
+      out_after = n.put_numbers-in-Grouped.ensures
+          ∙ ap (put a.p.at (numbers_bytes a.h)) k.put_kind-in-Grouped.ensures
+          ∙ ap (λ s. with_halfspace_at s a.p a.h a.out-1.now) (sym t.in-Grouped.is);
+    }

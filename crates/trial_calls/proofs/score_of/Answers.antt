@@ -1,0 +1,21 @@
+-- `trial_calls::score_of` counts the identifiers of the outer list at depth 12. Assumes nothing.
+use Prim.Native.Nat.{◌+◌, ◌*◌}
+use native.Mathlib.Omega.{arith}
+use mathlib.Core.Path.{ap}
+use Rattle.trial_calls.specs.Tries.{score_of}
+use Rattle.trial_calls.proofs.ScoreLaws.{sky_fits}
+use Rattle.trial_calls.proofs.score_of.Goals as goal
+
+pub overflow_mul-result : goal.overflow_mul-result
+overflow_mul-result c =
+    let w = c in
+    let a = w.args in
+    let m = a.made.counts in
+    omega (arith, sky_fits a.depth (m.full + m.partial + m.swallowed) w.power-span.result w.requires.2 w.power-span.ensures w.requires.0)
+
+pub returns : goal.returns
+returns c =
+    let w = c in
+    let a = w.args in
+    let m = a.made.counts in
+    ap (λ p. record { result = (score_of a.depth a.made).result; sky = (m.full + m.partial + m.swallowed) * p }) w.power-span.ensures

@@ -1,0 +1,28 @@
+-- `vector_products::store` stores the three numbers one after the other. Assumes nothing.
+use Prim.Native.Nat.{◌+◌}
+use native.Mathlib.Omega.{arith}
+use mathlib.Core.Path.{◌∙◌}
+use lib.ListN.{set, length-set}
+use Rattle.algebra.proofs.Sized.{stored_same}
+use Rattle.answer.proofs.PutLaws.{stored_put}
+use Rattle.vector.specs.Vectors.{three}
+use Rattle.vector_products.proofs.store.Goals as goal
+
+pub bounds-xs-k-2 : goal.bounds-xs-k-2
+bounds-xs-k-2 c = simp length-set (omega arith)
+
+pub bounds-xs-k-3 : goal.bounds-xs-k-3
+bounds-xs-k-3 c = simp length-set (omega arith)
+
+pub shape_of-xs : goal.shape_of-xs
+shape_of-xs c = simp length-set
+
+pub returns : goal.returns
+returns c =
+    let s = c in
+    let v = s.args in
+    let k = v.k in
+    let x = stored_same v.v.x c.struct_told-1.given.0.1 in
+    let y = stored_same v.v.y c.struct_told-2-1.given.1.0.1 in
+    let z = stored_same v.v.z c.struct_told-3-1.given.1.1.0.1 in
+    (λ i. set (set (set v.xs.now k (x i)) (k + 1) (y i)) (k + 2) (z i)) ∙ stored_put k (three v.v) v.xs.now s.requires
