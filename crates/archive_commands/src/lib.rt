@@ -1,5 +1,6 @@
 // Lines of input over one index, each answered as it ends: the commands add, remove, list, frames and trial.
 #![tactic(auto)]
+
 use answer::OWNER;
 use check::same;
 use command_words::lines::{LINES, NextLine};

@@ -2,6 +2,7 @@
 // trixel that holds its pointing, or `refused N`. A line is three decimals parted by one blank and closed by a line feed; a last line without its line
 // feed is malformed. DEPTH is a decimal number from 1 to 12; where it is missing, is none or is not alone, one line says how to call it.
 #![tactic(auto)]
+
 use catalogue_stream::Argument;
 
 fn main() {

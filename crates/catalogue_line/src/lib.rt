@@ -1,6 +1,7 @@
 // Catalogue lines in code: three decimals parted by one blank and closed by a line feed. The rule stands in specs/Lines, what the parts give in
 // specs/Reading. A line is read from its beginning to the first byte that does not fit, and so no further than the longest line.
 #![tactic(auto)]
+
 ghost use Rattle.std.specs.Prelude.{◌≡◌, ◌*◌, ◌/◌, ◌^◌, ◌≤◌, ◌<◌, get_or, drop};
 ghost use Rattle.algebra.proofs.Sizes.{Upto};
 ghost use Rattle.vector.specs.Numbers.{Kℕ, signed};

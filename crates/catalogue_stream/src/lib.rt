@@ -1,5 +1,6 @@
 // Lines of a catalogue, each looked up as it ends, and the argument of the program.
 #![tactic(auto)]
+
 ghost use Rattle.catalogue_stream.specs.Argument.{DepthInRange};
 
 use command_words::lines::{LINES, NextLine};

@@ -1,5 +1,6 @@
 // The active halfspaces of a region beside a trixel, in two lists of their own, and the class of a trixel by them. specs/Active defines them.
 #![tactic(auto)]
+
 ghost use Rattle.std.specs.Prelude.{◌≡◌, true, ◌+◌, ◌*◌, ◌≤◌, ◌<◌, length, get_or, drop};
 ghost use Rattle.mesh_trixels.specs.Corners.{SmallTrixel};
 ghost use Rattle.classify_prepared.specs.Measures.{RaysOf};

@@ -1,6 +1,7 @@
 // The bounding cap of a trixel: b, E and the clearance beyond which no squares need be compared. The rules are `b_of` and `EOf` of classify/specs/Shape,
 // what is stored of it stands in specs/Middle.
 #![tactic(auto)]
+
 ghost use Rattle.std.specs.Prelude.{◌≡◌, ◌-◌, ◌*◌, ◌^◌, ◌≤◌};
 ghost use Rattle.algebra.proofs.Sizes.{Upto};
 ghost use Rattle.vector.proofs.Sizes.{AtMost, Small};

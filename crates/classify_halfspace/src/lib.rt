@@ -1,6 +1,7 @@
 // The class of a trixel for one halfspace: by the bounding cap, by the rays when that is inconclusive, and by the edges when the rays are. The rule
 // is `halfspace_class` of classify/specs/Classes, the tests on the way stand in specs/Halfspaces.
 #![tactic(auto)]
+
 ghost use Rattle.std.specs.Prelude.{◌≡◌, true, ◌&&◌, ◌+◌, ◌-◌, ◌*◌, ◌^◌, ◌≤◌, ltb, ◌*ℤ◌, length};
 ghost use Rattle.std.specs.Int.Signed.{lt_z};
 ghost use Rattle.algebra.proofs.Sizes.{Upto};

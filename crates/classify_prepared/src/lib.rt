@@ -1,6 +1,7 @@
 // What is measured once: f, D, G and f·f − D² of a halfspace, the rays of a trixel with their heights and the sign of V. The rules stand in
 // classify/specs/Shape, what is stored in specs/Measures.
 #![tactic(auto)]
+
 ghost use Rattle.std.specs.Prelude.{◌≡◌, true, ◌^◌, ◌≤◌, pos};
 ghost use Rattle.algebra.proofs.Sizes.{Upto};
 ghost use Rattle.vector.specs.Numbers.{Kℕ};

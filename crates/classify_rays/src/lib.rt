@@ -1,6 +1,7 @@
 // A halfspace against the rays of a trixel: squares compared by their upper bits in one word, and exactly in two words when that is inconclusive. The rule
 // is `passes` of classify/proofs/RaysFirst; what the filter decides stands in specs/Rays.
 #![tactic(auto)]
+
 ghost use Rattle.std.specs.Prelude.{◌≡◌, cond, not, ◌&&◌, ◌+◌, ◌*◌, ◌^◌, ◌≤◌, ◌<◌, leb, nat_abs};
 ghost use Rattle.algebra.proofs.Sizes.{Upto};
 ghost use Rattle.wide.specs.Value.{value_of};

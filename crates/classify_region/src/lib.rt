@@ -1,6 +1,7 @@
 // The class of a trixel for a region: nested loops over convexes and halfspaces, prepared in two lists of numbers. The rule is `region_class` of
 // classify/specs/Classes, the lists stand in classify_prepared/specs/PreparedLists.
 #![tactic(auto)]
+
 ghost use Rattle.std.specs.Prelude.{◌≡◌, ◌<◌, get_or};
 ghost use Rattle.classify.specs.Classes.{is_outside, is_full};
 ghost use Rattle.classify_prepared.specs.Measures.{RaysOf};

@@ -1,5 +1,6 @@
 // A command line as it is stored, and its words: numbers, pointings, files and floats in hexadecimal digits, lists of numbers.
 #![tactic(auto)]
+
 ghost use Rattle.std.specs.Prelude.{◌≡◌, [], ◌∷◌, ◌+◌, ◌-◌, ◌^◌, ◌≤◌, length};
 ghost use Rattle.command_words.specs.Numbers.{UpTo, natural_from, natural_in, whole_in, plain, negated};
 ghost use Rattle.command_words.specs.Files.{FileDigits, hex_value, letter_value, bytes_in, length_of, file_place, BytePushed, ByteStored};

@@ -1,6 +1,7 @@
 // The cover of the region file on standard input, as lines on standard output (print::covers has their shape). A file that cannot be read to its
 // end has no answer. There are no arguments: with `--help`, or with any, it prints how it is called.
 #![tactic(auto)]
+
 use limits::MAX_FILE_BYTES;
 use streams::Input;
 

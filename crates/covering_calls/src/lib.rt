@@ -1,6 +1,7 @@
 // The cover of rows: the eight roots one after the other, then the closing of the inner list, and the counts. The rule is `listed` and `cutting` of
 // covering/specs/Cover.
 #![tactic(auto)]
+
 ghost use Rattle.std.specs.Prelude.{◌≡◌, ◌*◌, ◌^◌, ◌≤◌, ◌<◌, length, drop};
 ghost use Rattle.classify_prepared.specs.PreparedLists.{count_in, Ready};
 ghost use Rattle.classify_active.specs.Active.{ActiveListsIn};

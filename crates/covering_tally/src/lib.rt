@@ -1,5 +1,6 @@
 // What a cutting has found so far, with its budget, as thirteen numbers, and the two lists in the lent list. specs/Tally says what they are.
 #![tactic(auto)]
+
 ghost use Rattle.std.specs.Prelude.{◌≡◌, ◌+◌, ◌-◌, ◌≤◌, ltb, length};
 ghost use Rattle.ranges.specs.Ranges.{range};
 ghost use Rattle.covering.specs.Cover.{taken_full, taken_partial};

@@ -1,6 +1,7 @@
 // The recursion over trixels: one trixel is classified and accepted, left out or cut into its children. The rule is `visit` of covering/specs/Cover; what is
 // found stands in specs/Walk, a trixel as numbers in specs/StoredTrixels.
 #![tactic(auto)]
+
 ghost use Rattle.std.specs.Prelude.{◌≡◌, ◌-◌, ◌<◌};
 ghost use Rattle.classify_prepared.specs.PreparedLists.{count_in, Ready};
 ghost use Rattle.classify_active.specs.Active.{ActiveListsIn};

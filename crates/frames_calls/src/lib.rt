@@ -1,6 +1,7 @@
 // All frames of a region in a single pass: the file is decoded once, its cover is made, and the owner's entries are walked beside the two lists, with the point
 // test on the decoded rows. The rules are those of frames/specs/Answers.
 #![tactic(auto)]
+
 ghost use Rattle.std.specs.Prelude.{◌≡◌, true, List, ℕ, ◌+◌, ◌*◌, ◌-◌, ◌≤◌, ◌<◌, length};
 ghost use Rattle.index.specs.Exposures.{OwnerCapacity, is_owner};
 ghost use Rattle.index.specs.Entries.{IndexLength};

@@ -1,6 +1,7 @@
 // The walk over one owner's entries beside the two lists of a cover in lent memory, each gone through once. The rule is `walk` of frames/specs/Walk;
 // specs/Steps says how far a walk is.
 #![tactic(auto)]
+
 ghost use Rattle.std.specs.Prelude.{◌≡◌, cond, [], ◌∷◌, ◌+◌, ◌*◌, ◌/◌, ◌^◌, ◌≤◌, ◌<◌, length, drop};
 ghost use Rattle.answer.specs.Lent.{put};
 ghost use Rattle.ranges.specs.Ranges.{ranges_in};

@@ -2,6 +2,7 @@
 // contract names, for good and bad input alike, and none has a `requires`. A refusal carries its number only (crate answer), and then every lent element keeps
 // its value.
 #![tactic(auto)]
+
 ghost use Rattle.std.specs.Prelude.{◌≡◌};
 ghost use Rattle.answer.specs.Calls.{number_of};
 ghost use Rattle.vector.specs.Vectors.{vec};

@@ -1,6 +1,7 @@
 // What the exported calls are made of: a pointing from three numbers; for C, answers as numbers and values in lent lists. No function here is exported, so each
 // may ask something of its callers. The rules stand in specs/Values.
 #![tactic(auto)]
+
 ghost use Rattle.std.specs.Prelude.{◌≡◌, [], ◌∷◌, ◌++◌, ℕ, ◌+◌, ◌^◌, ◌≤◌, length, pos, neg_ℤ};
 ghost use Rattle.algebra.proofs.Sizes.{Upto};
 ghost use Rattle.answer.specs.Answer.{gives, check, Owner};

@@ -1,5 +1,6 @@
 // The exposure index: the rules in specs/, the laws in proofs/, and the types that they name. Document 02, F-10 and F-11.
 #![tactic(auto)]
+
 use vector::Vec3;
 
 // The most entries that an index holds.

@@ -1,6 +1,7 @@
 // The calls on an index: it is begun, exposures are added and removed, the entries counted, and one read by its place. The rules stand in
 // index/specs/Answers; they say what is done with every list, index or not.
 #![tactic(auto)]
+
 ghost use Rattle.std.specs.Prelude.{◌≡◌};
 ghost use Rattle.answer.specs.Calls.{number_of};
 ghost use Rattle.index.specs.Exposures.{key, exposed};

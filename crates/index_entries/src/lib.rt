@@ -1,6 +1,7 @@
 // The entries of an index, in lent memory: reading, storing, their order, searches, and how entries move when one is inserted or removed. The rules
 // stand in index/specs, the steps of the code in specs/Steps. Each contract holds of every list, index or not.
 #![tactic(auto)]
+
 ghost use Rattle.std.specs.Prelude.{◌≡◌, ◌+◌, ◌-◌, ◌*◌, ◌≤◌, cond, not, length, drop};
 ghost use Rattle.algebra.specs.Lists.{tally};
 ghost use Rattle.answer.specs.Lent.{put};

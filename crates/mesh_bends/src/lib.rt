@@ -1,6 +1,7 @@
 // The bends of a trixel's edges in code. What they are stands in specs/Bends; how far they are from 8 (2 K − n) for each trixel below S0 from depth 3 to
 // depth 7, in proofs/BendFacts.
 #![tactic(auto)]
+
 ghost use Rattle.std.specs.Prelude.{◌≡◌, true, false, ◌^◌, ◌<◌, pos, ◌≤ℤ◌};
 ghost use Rattle.vector.specs.Numbers.{quot};
 ghost use Rattle.algebra.proofs.Sizes.{Upto};

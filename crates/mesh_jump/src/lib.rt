@@ -2,6 +2,7 @@
 // of the edges, as far as a margin makes them sure; and the corners along sure digits. What the functions give stands in specs/Jumps; why the digits are those
 // of the rule, in proofs/JumpLaws and jump/proofs/JumpLevel.
 #![tactic(auto)]
+
 ghost use Rattle.std.specs.Prelude.{◌≡◌, true, ◌+◌, ◌*◌, ◌^◌, ◌≤◌, ◌<◌, eqb, pos, ◌+ℤ◌, ◌-ℤ◌, ◌*ℤ◌, ◌≤ℤ◌};
 ghost use Rattle.algebra.proofs.Sizes.{Upto};
 ghost use Rattle.jump.proofs.Jump.{det};

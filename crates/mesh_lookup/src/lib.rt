@@ -1,6 +1,7 @@
 // The lookup in code: the root by the signs, the trixel of depth 3 by the table, and from there by a jump; where a digit is not sure, step by step from
 // corners. The rule stands in mesh/specs/Lookup, what the steps give in specs/LookupSteps.
 #![tactic(auto)]
+
 ghost use Rattle.std.specs.Prelude.{◌≡◌, cond, ◌-◌, ◌^◌, ◌≤◌, ◌<◌, pos};
 ghost use Rattle.std.specs.Int.Signed.{le_z};
 ghost use Rattle.answer.specs.Calls.{number_of};

@@ -1,5 +1,6 @@
 // Identifiers and names in code. The rules stand in mesh/specs/Identifiers, Names and Answers.
 #![tactic(auto)]
+
 ghost use Rattle.std.specs.Prelude.{◌≡◌, true, cond, ◌++◌, ◌+◌, ◌%◌, ◌≤◌, ◌<◌, eqb, length, drop};
 ghost use Rattle.answer.specs.Calls.{number_of};
 ghost use Rattle.mesh.specs.Identifiers.{depth_of};

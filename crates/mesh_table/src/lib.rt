@@ -1,6 +1,7 @@
 // The constant table of depth 3 for S0: corners and normals of the trixels 128 to 143, and the rotations that give those of the other seven roots.
 // specs/Table defines the numbers, mesh/specs/Rotations the rotations.
 #![tactic(auto)]
+
 ghost use Rattle.std.specs.Prelude.{◌≡◌, cond, ◌+◌, ◌<◌};
 ghost use Rattle.algebra.proofs.Sizes.{Upto};
 ghost use Rattle.vector.specs.Numbers.{Kℕ};

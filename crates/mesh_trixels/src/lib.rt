@@ -1,6 +1,7 @@
 // Trixels in code: roots, midpoints, cuts and children, with their normals and by corners alone; the corners of an identifier. The rules stand in
 // mesh/specs/Trixels and Identifiers, corners alone in specs/Corners.
 #![tactic(auto)]
+
 ghost use Rattle.std.specs.Prelude.{◌≡◌, ◌*◌, ◌^◌, ◌≤◌, ◌<◌};
 ghost use Rattle.vector.proofs.Sizes.{Small};
 ghost use Rattle.vector.specs.Vectors.{unit, plus};

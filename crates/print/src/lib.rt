@@ -1,6 +1,7 @@
 // What the programs print: bytes, numbers, names and refusals, collected in a lent buffer. Each function takes the place in the buffer where it begins
 // and gives the one where it ends. After a write that failed the place is LOST, and nothing more is written.
 #![tactic(auto)]
+
 ghost use Rattle.std.specs.Prelude.{◌≤◌, ◌≡◌, nat_abs};
 ghost use Rattle.print.specs.Lost.{lost};
 

@@ -1,5 +1,6 @@
 // Lines of input, each answered as it ends.
 #![tactic(auto)]
+
 use check::same;
 use command_words::lines;
 use command_words::lines::{LINES, NextLine};

@@ -1,5 +1,6 @@
 // The outer and the inner list, pushed range after range. The rules are `outer_push` and `inner_push` of ranges/proofs/Pushing.
 #![tactic(auto)]
+
 ghost use Rattle.std.specs.Prelude.{◌≡◌, [], ◌∷◌, ◌++◌, ◌+◌, ◌*◌, ◌-◌, ◌≤◌, ◌<◌, length};
 ghost use Rattle.ranges.specs.Lists.{gaps, join_at};
 ghost use Rattle.ranges.proofs.Pushing.{outer_push, outer_full, inner_full, inner_close, inner_push, inner_end};

@@ -1,6 +1,7 @@
 // Ranges in lent memory: the smallest gap or the shortest range, what is known of it, and the removing of a range. specs/Stored says how they
 // stand there.
 #![tactic(auto)]
+
 ghost use Rattle.std.specs.Prelude.{◌≡◌, [], ◌∷◌, ◌++◌, ◌+◌, ◌*◌, ◌-◌, ◌≤◌, ◌<◌, eqb, length, get_or};
 ghost use Rattle.ranges.specs.Lists.{earliest};
 ghost use Rattle.ranges_stored.specs.Stored.{differences_in, hint_of, no_hint, Hinted, FirstAt, PointsAt};

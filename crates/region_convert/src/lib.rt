@@ -1,6 +1,7 @@
 // Conversions of region files from one style to the other: a file in the wanted style is copied, another is written anew from its rows, with its depth and
 // budget as written. The rules stand in region/specs/Converting and Answers.
 #![tactic(auto)]
+
 ghost use Rattle.std.specs.Prelude.{◌≡◌, ◌≤◌, length};
 ghost use Rattle.answer.specs.Answer.{gives};
 ghost use Rattle.answer.specs.Calls.{number_of};

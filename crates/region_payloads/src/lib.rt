@@ -1,6 +1,7 @@
 // The payload readers of the records after the first: a header again, a convex, a halfspace, a group of halfspaces and the end, each checked for 4 and 7
 // to 9, with the rows in an array. The rules stand in region/specs/Reader and Building, size and state between records in specs/Payloads.
 #![tactic(auto)]
+
 ghost use Rattle.std.specs.Prelude.{◌≡◌, true, false, cond, ◌&&◌, List, ℕ, ◌+◌, ◌*◌, ◌-◌, ◌/◌, ◌≤◌, ◌<◌, ltb, eqb, length};
 ghost use Rattle.answer.specs.Answer.{Order};
 ghost use Rattle.answer.specs.Lent.{put};

@@ -1,5 +1,6 @@
 // The point test: a point against the rows of a file, one after the other. The rule is `point_test` of region/specs/Answers, the scan in specs/Points.
 #![tactic(auto)]
+
 ghost use Rattle.std.specs.Prelude.{◌≡◌, ◌&&◌, ◌||◌, ◌+◌, ◌*◌, ◌^◌, ◌≤◌, length, drop};
 ghost use Rattle.algebra.proofs.Sizes.{Upto};
 ghost use Rattle.vector.proofs.Sizes.{AtMost, Small};

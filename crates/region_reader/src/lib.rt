@@ -1,6 +1,7 @@
 // The reader of region files of both styles: one pass over the records, and the call that copies the rows. The rules stand in region/specs/Records,
 // Reader and Answers, what a pass gives in specs/Reading.
 #![tactic(auto)]
+
 ghost use Rattle.std.specs.Prelude.{◌≡◌, ◌-◌, ◌≤◌, length, take};
 ghost use Rattle.answer.specs.Answer.{gives, with_value};
 ghost use Rattle.answer.specs.Lent.{put};

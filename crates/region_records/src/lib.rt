@@ -1,6 +1,7 @@
 // Records of a region file in code: kinds and lengths, checked for 2 and 3; the first record with its payload reader, and the numbers of a halfspace. The
 // rules stand in region/specs/Records, Reader and Bytes, the frame of a record in specs/Frames.
 #![tactic(auto)]
+
 ghost use Rattle.std.specs.Prelude.{◌≡◌, ◌+◌, ◌-◌, ◌≤◌, ◌<◌, length, drop};
 ghost use Rattle.answer.specs.Answer.{with_value};
 ghost use Rattle.region.specs.Bytes as bytes;

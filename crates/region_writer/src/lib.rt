@@ -1,6 +1,7 @@
 // The writer of region files in either style: the rows are checked, then written record after record. The rules stand in region/specs/Writer and Answers,
 // what is written of a region that grows in specs/Writing.
 #![tactic(auto)]
+
 ghost use Rattle.std.specs.Prelude.{◌≡◌, ◌+◌, ◌*◌, ◌≤◌, ◌<◌, length};
 ghost use Rattle.algebra.proofs.Sizes.{Upto};
 ghost use Rattle.answer.specs.Answer.{gives};

@@ -1,6 +1,7 @@
 // Standard input, standard output and arguments of a program. A call that is interrupted is made again, a write that takes a part goes on with the rest,
 // and a failure is said on standard error.
 #![tactic(auto)]
+
 ghost use Rattle.std.specs.Prelude.{◌≡◌};
 ghost use Rattle.streams.specs.Input.{BytesIn};
 ghost use Rattle.streams.specs.declared.Input.{Input};

@@ -1,6 +1,7 @@
 // A trial of one region under two settings, and the call beside it that hands back the outer list of the setting chosen: a part of one of the two
 // buffers. The file is decoded once, and each setting is searched as frames are (frames_calls). The rules are those of trial/specs.
 #![tactic(auto)]
+
 ghost use Rattle.std.specs.Prelude.{◌≡◌, true, List, ℕ, ◌+◌, ◌*◌, ◌^◌, ◌≤◌, leb, length};
 ghost use Rattle.region.specs.Budgets.{budget_of};
 ghost use Rattle.index.specs.Exposures.{is_owner};

@@ -1,5 +1,6 @@
 // Sums, products and the vector rule in code, and vectors in lists of numbers. The rules stand in vector/specs, vectors in lists in specs/Stored.
 #![tactic(auto)]
+
 ghost use Rattle.std.specs.Prelude.{◌≡◌, ◌&&◌, ◌+◌, ◌-◌, ◌*◌, ◌^◌, ◌≤◌, pos, neg_ℤ, nat_abs, ◌+ℤ◌, ◌-ℤ◌, ◌*ℤ◌, length};
 ghost use Rattle.algebra.proofs.Sizes.{Upto};
 ghost use Rattle.vector.specs.Numbers.{K, between};

@@ -1,5 +1,6 @@
 // The integer square root in code: a guess, tested; two steps from it, each tested; bisection for the rest. The rule is `root` of vector/specs/Numbers.
 #![tactic(auto)]
+
 ghost use Rattle.std.specs.Prelude.{◌≡◌, ◌&&◌, ◌+◌, ◌-◌, ◌*◌, ◌/◌, ◌^◌, ◌≤◌, ◌<◌, leb, ltb};
 ghost use Rattle.vector.specs.Numbers.{root};
 

@@ -1,5 +1,6 @@
 // Unit and Scale in code: signed division, truncating toward zero. The rules are `unit` and `scale` of vector/specs/Vectors.
 #![tactic(auto)]
+
 ghost use Rattle.std.specs.Prelude.{◌≡◌, max, ◌-◌, ◌^◌, ◌≤◌, ◌<◌, pos, nat_abs, ◌*ℤ◌};
 ghost use Rattle.algebra.proofs.Sizes.{Upto};
 ghost use Rattle.vector.specs.Numbers.{K, quot};

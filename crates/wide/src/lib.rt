@@ -1,5 +1,6 @@
 // Unsigned numbers of two words. The squares that classifying compares pass 64 bits. The rules stand in specs/.
 #![tactic(auto)]
+
 ghost use Rattle.std.specs.Prelude.{◌≡◌, ◌+◌, ◌-◌, ◌*◌, ◌^◌, ◌<◌, ◌≤◌, ltb};
 ghost use Rattle.wide.specs.Value.{value_of};
 

@@ -29,9 +29,9 @@ prepared_at-q-requires c = let l = c.before.before in let s = l in (next_halfspa
 
 pub settled_class-c-requires : goal.settled_class-c-requires
 settled_class-c-requires c = record {
-      sound_halfspace = sound c;
-      anchor = c.requires.anchor.0;
-    }
+  sound_halfspace = sound c;
+  anchor = c.requires.anchor.0;
+}
 
 pub shape_of-active-then-is_outside : goal.shape_of-active-then-is_outside
 shape_of-active-then-is_outside c = c.loop-i.invariant.0

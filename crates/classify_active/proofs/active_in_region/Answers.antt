@@ -10,9 +10,9 @@ loop-i-init c = (refl, refl, (λ g p. region_search_start _ _ _ _ g p _ _ c.requ
 
 pub add_convex-s-requires : goal.add_convex-s-requires
 add_convex-s-requires c = let l = c.before.before.before in let s = l in let p = s.requires.ready in record {
-      anchor = (s.requires.anchor.0, s.requires.anchor.3);
-      some_region_search = (_, omega (arith, c.loop-i-test.true), p.0, l.loop-i.invariant.2 p.0 p.1);
-    }
+  anchor = (s.requires.anchor.0, s.requires.anchor.3);
+  some_region_search = (_, omega (arith, c.loop-i-test.true), p.0, l.loop-i.invariant.2 p.0 p.1);
+}
 
 pub shape_of-active-then-not-s : goal.shape_of-active-then-not-s
 shape_of-active-then-not-s c = c.add_convex-s.kept.1.1.1.1.1.0 ∙ c.loop-i.invariant.0

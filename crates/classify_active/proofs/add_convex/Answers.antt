@@ -12,9 +12,9 @@ bounds-ends-k c = let s = c in end_read _ _ _ _ _ s.requires.some_region_search.
 
 pub active_in_convex-o-requires : goal.active_in_convex-o-requires
 active_in_convex-o-requires c = let s = c in let a = s.requires.some_region_search.3 in record {
-      anchor = (s.requires.anchor.0, a.few, a.long, s.requires.anchor.1);
-      some_convex = some_convex _ _ _ _ _ s.requires.some_region_search.1 a;
-    }
+  anchor = (s.requires.anchor.0, a.few, a.long, s.requires.anchor.1);
+  some_convex = some_convex _ _ _ _ _ s.requires.some_region_search.1 a;
+}
 
 pub returns-then-m-w : goal.returns-then-m-w
 returns-then-m-w c n g h a e = absurd (false≢true e)

@@ -14,9 +14,9 @@ returns-then-not-s c e = absurd (false≢true e)
 
 pub is_close-requires : goal.is_close-requires
 is_close-requires c = let s = c in record {
-      anchor = subst IsAnchor (sym c.anchor_behind.ensures) s.requires.anchor;
-      bounding_cap = s.requires.rays_of.1;
-    }
+  anchor = subst IsAnchor (sym c.anchor_behind.ensures) s.requires.anchor;
+  bounding_cap = s.requires.rays_of.1;
+}
 
 pub returns : goal.returns
 returns c e =

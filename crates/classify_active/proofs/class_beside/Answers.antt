@@ -20,10 +20,10 @@ returns-then-are_few c g p = c.classify_few.ensures g (prepared_count c.count-n.
 
 pub class_by_caps-requires : goal.class_by_caps-requires
 class_by_caps-requires c = let n = c.before.before.before in let s = n in let both = ((subst (RaysOf s.args.t) (sym c.copied.ensures) s.requires.rays_of.0, s.requires.rays_of.1), s.requires.ready) in record {
-      rays_of = both.0;
-      ready = both.1.0;
-      active_lists_in = both.1.1;
-    }
+  rays_of = both.0;
+  ready = both.1.0;
+  active_lists_in = both.1.1;
+}
 
 pub returns : goal.returns
 returns c = c.class_by_caps.ensures

@@ -25,9 +25,9 @@ overflow_cast-e c = record { sfits = omega arith }
 
 pub dot-requires : goal.dot-requires
 dot-requires c = record {
-      small = c.requires.small;
-      at_most = at_most_mono (lit≤ tt) c.requires.small;
-    }
+  small = c.requires.small;
+  at_most = at_most_mono (lit≤ tt) c.requires.small;
+}
 
 pub overflow_mul-rest : goal.overflow_mul-rest
 overflow_mul-rest c = fits_mul (reach c.before) (reach c.before) tt

@@ -34,9 +34,9 @@ third c =
 
 pub along-x0-requires : goal.along-x0-requires
 along-x0-requires c = let s = c in record {
-      small = s.requires.b_value.1;
-      at_most = ray_size s.requires.rays_of.r0;
-    }
+  small = s.requires.b_value.1;
+  at_most = ray_size s.requires.rays_of.r0;
+}
 
 pub returns-then-x0-le0 : goal.returns-then-x0-le0
 returns-then-x0-le0 c =
@@ -46,9 +46,9 @@ returns-then-x0-le0 c =
 
 pub along-x1-requires : goal.along-x1-requires
 along-x1-requires c = let s = c in record {
-      small = s.requires.b_value.1;
-      at_most = ray_size s.requires.rays_of.r1;
-    }
+  small = s.requires.b_value.1;
+  at_most = ray_size s.requires.rays_of.r1;
+}
 
 pub returns-then-x1-le0 : goal.returns-then-x1-le0
 returns-then-x1-le0 c =
@@ -58,9 +58,9 @@ returns-then-x1-le0 c =
 
 pub along-x2-requires : goal.along-x2-requires
 along-x2-requires c = let s = c in record {
-      small = s.requires.b_value.1;
-      at_most = ray_size s.requires.rays_of.r2;
-    }
+  small = s.requires.b_value.1;
+  at_most = ray_size s.requires.rays_of.r2;
+}
 
 pub returns-then-x2-le0 : goal.returns-then-x2-le0
 returns-then-x2-le0 c =

@@ -5,9 +5,18 @@ use borrow.Author.Rules.{rules}
 use Rattle.vector.specs.Vectors.{plus, unit}
 use Rattle.vector.proofs.Sizes.{AtMost}
 use Rattle.vector.proofs.SizeLaws.{at_most_plus}
+use Rattle.classify.specs.Shape.{b_of}
 use Rattle.classify_cap.proofs.middle_of.Goals as goal
 
+pub sum-requires : goal.sum-requires
+unfolding b_of
+sum-requires c = record {
+  at_most = search rules;
+  at_most_2 = search rules;
+}
+
 pub sum-requires-2 : goal.sum-requires-2
+unfolding b_of
 sum-requires-2 c =
     let p = c.requires in
     record {
@@ -16,9 +25,11 @@ sum-requires-2 c =
     }
 
 pub unit-requires : goal.unit-requires
+unfolding b_of
 unit-requires c = c.sum-2.ensures.at_most_3
 
 pub returns : goal.returns
+unfolding b_of
 returns c =
     let t = c.args.t in
     record {

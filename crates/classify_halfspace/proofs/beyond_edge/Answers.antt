@@ -34,18 +34,18 @@ vec_in-p-requires c = c.requires.k_in_bounds.0
 
 pub dot-behind-requires : goal.dot-behind-requires
 dot-behind-requires c = record {
-      small = sound_small c.requires.sound_halfspace;
-      at_most = at_most_mono (lit≤ tt) (normal_small c);
-    }
+  small = sound_small c.requires.sound_halfspace;
+  at_most = at_most_mono (lit≤ tt) (normal_small c);
+}
 
 pub overflow_sub-behind : goal.overflow_sub-behind
 overflow_sub-behind c = fits_sub (lit 0 tt) (held (along c) tt) tt
 
 pub dot-requires : goal.dot-requires
 dot-requires c = let p = normal_small c.before in record {
-      small = p;
-      at_most = at_most_mono (lit≤ tt) p;
-    }
+  small = p;
+  at_most = at_most_mono (lit≤ tt) p;
+}
 
 pub square_exceeds-requires : goal.square_exceeds-requires
 square_exceeds-requires c =

@@ -18,9 +18,9 @@ module _ (s : goal.Start) {b x : Bool} where
 
 pub beyond_edge-requires : goal.beyond_edge-requires
 beyond_edge-requires c = let n = c.requires.normals_in in record {
-      sound_halfspace = c.requires.sound_halfspace;
-      k_in_bounds = (omega (arith, n.room), subst Small (sym n.p0) n.small.p0);
-    }
+  sound_halfspace = c.requires.sound_halfspace;
+  k_in_bounds = (omega (arith, n.room), subst Small (sym n.p0) n.small.p0);
+}
 
 pub returns-then-beyond_edge : goal.returns-then-beyond_edge
 returns-then-beyond_edge c =
@@ -30,9 +30,9 @@ returns-then-beyond_edge c =
 
 pub beyond_edge-requires-2 : goal.beyond_edge-requires-2
 beyond_edge-requires-2 c = let s = c in let n = s.requires.normals_in in record {
-      sound_halfspace = s.requires.sound_halfspace;
-      k_in_bounds = (omega (arith, n.room), subst Small (sym n.p1) n.small.p1);
-    }
+  sound_halfspace = s.requires.sound_halfspace;
+  k_in_bounds = (omega (arith, n.room), subst Small (sym n.p1) n.small.p1);
+}
 
 pub returns-then-beyond_edge-2 : goal.returns-then-beyond_edge-2
 returns-then-beyond_edge-2 c =
@@ -42,9 +42,9 @@ returns-then-beyond_edge-2 c =
 
 pub beyond_edge-requires-3 : goal.beyond_edge-requires-3
 beyond_edge-requires-3 c = let s = c in let n = s.requires.normals_in in record {
-      sound_halfspace = s.requires.sound_halfspace;
-      k_in_bounds = (omega (arith, n.room), subst Small (sym n.p2) n.small.p2);
-    }
+  sound_halfspace = s.requires.sound_halfspace;
+  k_in_bounds = (omega (arith, n.room), subst Small (sym n.p2) n.small.p2);
+}
 
 pub returns-then-beyond_edge-3 : goal.returns-then-beyond_edge-3
 returns-then-beyond_edge-3 c =

@@ -8,15 +8,15 @@ use Rattle.classify_halfspace.proofs.class_by_middle.Goals as goal
 
 pub far_from-apart-requires : goal.far_from-apart-requires
 far_from-apart-requires c = let p = c.requires.rays_of in record {
-      small_trixel = (p.1.0.small, p.0);
-      sound_halfspace = p.1.1;
-    }
+  small_trixel = (p.1.0.small, p.0);
+  sound_halfspace = p.1.1;
+}
 
 pub class_by_edges-requires : goal.class_by_edges-requires
 class_by_edges-requires c = let both = c.requires.rays_of.1 in record {
-      normals_in = both.0;
-      sound_halfspace = both.1;
-    }
+  normals_in = both.0;
+  sound_halfspace = both.1;
+}
 
 pub returns-then-apart : goal.returns-then-apart
 returns-then-apart c =

@@ -30,10 +30,10 @@ edges c = let s = c.before.before.before.before in rays_edges s.args.q s.args.t 
 
 pub all_pass-all-requires : goal.all_pass-all-requires
 all_pass-all-requires c = let p = c.requires in let both = (sound_small p.normals_in.1, (upto_held (sound_high p.normals_in.1) tt, own_rays p.rays_of.0)) in record {
-      small = both.0;
-      upto = both.1.0;
-      own_rays = both.1.1;
-    }
+  small = both.0;
+  upto = both.1.0;
+  own_rays = both.1.1;
+}
 
 pub returns-then-all : goal.returns-then-all
 returns-then-all c =
@@ -49,9 +49,9 @@ returns-then-q-le0 c =
 
 pub class_by_edges-requires : goal.class_by_edges-requires
 class_by_edges-requires c = let both = c.requires.normals_in in record {
-      normals_in = both.0;
-      sound_halfspace = both.1;
-    }
+  normals_in = both.0;
+  sound_halfspace = both.1;
+}
 
 pub returns : goal.returns
 returns c = c.class_by_edges.ensures ∙ sym (edges c.before.before.before.before)

@@ -22,19 +22,19 @@ rays c = let s = c in rays_passed_law s.args.q.f s.requires.rays_of (held (sound
 
 pub class_by_edges-requires : goal.class_by_edges-requires
 class_by_edges-requires c = let s = c in record {
-      normals_in = s.requires.normals_in.0;
-      sound_halfspace = s.requires.normals_in.1;
-    }
+  normals_in = s.requires.normals_in.0;
+  sound_halfspace = s.requires.normals_in.1;
+}
 
 pub returns-then-not-s : goal.returns-then-not-s
 returns-then-not-s c = let s = c in c.class_by_edges.ensures ∙ sym (not_oriented s.args.q s.args.t (sym s.requires.rays_of.oriented ∙ not-true _ c.if-not-s.true))
 
 pub count_passed-passed-requires : goal.count_passed-passed-requires
 count_passed-passed-requires c = let s = c in let both = (sound_small s.requires.normals_in.1, (upto_held (sound_high s.requires.normals_in.1) tt, own_rays s.requires.rays_of)) in record {
-      small = both.0;
-      upto = both.1.0;
-      own_rays = both.1.1;
-    }
+  small = both.0;
+  upto = both.1.0;
+  own_rays = both.1.1;
+}
 
 pub class_by_middle-requires : goal.class_by_middle-requires
 class_by_middle-requires c =

@@ -15,18 +15,18 @@ oriented c = sym c.requires.rays_of.oriented ∙ not-false _ c.if-not-s.false
 
 pub class_by_edges-requires : goal.class_by_edges-requires
 class_by_edges-requires c = let both = c.requires.bounding_cap.1 in record {
-      normals_in = both.0;
-      sound_halfspace = both.1;
-    }
+  normals_in = both.0;
+  sound_halfspace = both.1;
+}
 
 pub returns-then-not-s : goal.returns-then-not-s
 returns-then-not-s c = let s = c in c.class_by_edges.ensures ∙ sym (not_oriented s.args.q s.args.t (sym s.requires.rays_of.oriented ∙ not-true _ c.if-not-s.true))
 
 pub far-requires : goal.far-requires
 far-requires c = let p = c.requires.bounding_cap in record {
-      sound_halfspace = p.1.1;
-      bounding_cap = p.0;
-    }
+  sound_halfspace = p.1.1;
+  bounding_cap = p.0;
+}
 
 pub returns-then-far : goal.returns-then-far
 returns-then-far c =
@@ -36,9 +36,9 @@ returns-then-far c =
 
 pub encloses-requires : goal.encloses-requires
 encloses-requires c = let p = c.requires.bounding_cap in record {
-      sound_halfspace = p.1.1;
-      bounding_cap = p.0;
-    }
+  sound_halfspace = p.1.1;
+  bounding_cap = p.0;
+}
 
 pub returns-then-encloses : goal.returns-then-encloses
 returns-then-encloses c =
@@ -48,10 +48,10 @@ returns-then-encloses c =
 
 pub class_by_rays-requires : goal.class_by_rays-requires
 class_by_rays-requires c = let p = c.requires in let both = ((p.rays_of, not-false _ c.if-not-s.false), p.bounding_cap.1) in record {
-      rays_of = both.0;
-      normals_in = both.1.0;
-      sound_halfspace = both.1.1;
-    }
+  rays_of = both.0;
+  normals_in = both.1.0;
+  sound_halfspace = both.1.1;
+}
 
 pub returns : goal.returns
 returns c = let s = c in c.class_by_rays.ensures ∙ sym (when_near s.args.q s.args.t (sym c.far.ensures ∙ c.if-far.false))

@@ -40,9 +40,9 @@ returns-then-not-m c = sym (and_no_left _ (sym c.requires.bounding_cap.ahead ∙
 
 pub dot-requires : goal.dot-requires
 dot-requires c = record {
-      small = (half c.before.before.before.before).small;
-      at_most = at_most_mono (lit≤ tt) (cap c.before.before).small;
-    }
+  small = (half c.before.before.before.before).small;
+  at_most = at_most_mono (lit≤ tt) (cap c.before.before).small;
+}
 
 pub overflow_mul-inward : goal.overflow_mul-inward
 overflow_mul-inward c = let e = c.before.before.before.before.before.before.before in fits_mul (held (sound_near e.requires.sound_halfspace) tt) (held (cap e).size tt) tt

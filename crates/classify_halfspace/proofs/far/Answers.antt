@@ -34,9 +34,9 @@ overflow_mul-past c = let e = c.before.before.before.before.before.before in fit
 
 pub dot-requires : goal.dot-requires
 dot-requires c = record {
-      small = (half c.before.before.before.before.before.before.before.before).small;
-      at_most = at_most_mono (lit≤ tt) (cap c.before.before.before.before.before.before).small;
-    }
+  small = (half c.before.before.before.before.before.before.before.before).small;
+  at_most = at_most_mono (lit≤ tt) (cap c.before.before.before.before.before.before).small;
+}
 
 pub overflow_sub-past : goal.overflow_sub-past
 overflow_sub-past c = fits_sub (is_mul (held (half c.before.before.before.before.before.before.before.before.before).size tt) (held (cap c.before.before.before.before.before.before.before).size tt) tt) (held c.dot.ensures.upto tt) tt

@@ -33,9 +33,9 @@ high_of-requires c = size_most c.before
 
 pub dot-requires : goal.dot-requires
 dot-requires c = let h = c.turned-f.ensures.1 in record {
-      small = h;
-      at_most = at_most_mono (lit≤ tt) h;
-    }
+  small = h;
+  at_most = at_most_mono (lit≤ tt) h;
+}
 
 pub overflow_mul-result : goal.overflow_mul-result
 overflow_mul-result c = let h = c.low_of-low.ensures.1 in fits_mul (held h tt) (held h tt) tt

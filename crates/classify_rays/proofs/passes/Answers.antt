@@ -46,9 +46,9 @@ size_most c = subst (λ n. n ≤ 2 ^ 21) (sym c.size-k.ensures) (upto_held c.req
 
 pub dot-x-requires : goal.dot-x-requires
 dot-x-requires c = let p = c.requires in record {
-      small = p.small;
-      at_most = p.upto.1.size;
-    }
+  small = p.small;
+  at_most = p.upto.1.size;
+}
 
 pub returns-then-x-le0 : goal.returns-then-x-le0
 unfolding passes

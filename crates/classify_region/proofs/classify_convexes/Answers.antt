@@ -102,11 +102,11 @@ prepared_at-requires c = (next_halfspace c).in_list
 
 pub classify_one-c-requires : goal.classify_one-c-requires
 classify_one-c-requires c = let p = c.requires.rays_of in let both = (p.0, (p.1, (p.2, subst SoundHalfspace (sym c.prepared_at.ensures) (next_halfspace c.before).sound))) in record {
-      rays_of = both.0;
-      bounding_cap = both.1.0;
-      normals_in = both.1.1.0;
-      sound_halfspace = both.1.1.1;
-    }
+  rays_of = both.0;
+  bounding_cap = both.1.0;
+  normals_in = both.1.1.0;
+  sound_halfspace = both.1.1.1;
+}
 
 pub overflow_add-i : goal.overflow_add-i
 overflow_add-i c = let h = below c.before.before.before.before.before in omega arith

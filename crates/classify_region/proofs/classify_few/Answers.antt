@@ -38,10 +38,10 @@ prepared_at-requires c = (half c).0
 
 pub classify_by_rays-c-requires : goal.classify_by_rays-c-requires
 classify_by_rays-c-requires c = let p = c.requires.rays_of in let both = (p.0, (p.1, subst SoundHalfspace (sym c.prepared_at.ensures) (half c.before).1)) in record {
-      rays_of = both.0;
-      normals_in = both.1.0;
-      sound_halfspace = both.1.1;
-    }
+  rays_of = both.0;
+  normals_in = both.1.0;
+  sound_halfspace = both.1.1;
+}
 
 pub returns-then-is_outside : goal.returns-then-is_outside
 returns-then-is_outside c =

@@ -6,9 +6,9 @@ use Rattle.covering_calls.proofs.cover.Goals as goal
 
 pub prepare-requires : goal.prepare-requires
 prepare-requires c = let r = c.requires.some_rows.0 in record {
-      n_bound = r.1.most;
-      fit_rows = rows_fits r.0 _ _ r.1;
-    }
+  n_bound = r.1.most;
+  fit_rows = rows_fits r.0 _ _ r.1;
+}
 
 pub cover_prepared-requires : goal.cover_prepared-requires
 cover_prepared-requires c =

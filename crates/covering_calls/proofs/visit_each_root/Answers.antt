@@ -18,9 +18,9 @@ store_root-requires c = omega (arith, c.loop-k-test.true)
 
 pub visit-requires : goal.visit-requires
 visit-requires c = let d = c.loop-k.invariant.1 in record {
-      needs = root_needs d (omega (arith, c.loop-k-test.taken)) c.store_root.ensures.0;
-      active_lists_in = d.active;
-    }
+  needs = root_needs d (omega (arith, c.loop-k-test.taken)) c.store_root.ensures.0;
+  active_lists_in = d.active;
+}
 
 pub loop-k-preserved : goal.loop-k-preserved
 loop-k-preserved c =

@@ -13,11 +13,10 @@ nowhere = record {
   b = record { x = record { le = lit≤ tt }; y = record { le = lit≤ tt }; z = record { le = lit≤ tt } };
   reach = record { le = lit≤ tt };
   margin = record { le = lit≤ tt };
-
 }
 
 pub visit_each_root-requires : goal.visit_each_root-requires
 visit_each_root-requires c = record {
-      root_needs = search rules;
-      active_lists_in = active_lists_none nowhere;
-    }
+  root_needs = search rules;
+  active_lists_in = active_lists_none nowhere;
+}

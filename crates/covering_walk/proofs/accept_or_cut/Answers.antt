@@ -6,9 +6,9 @@ use Rattle.covering_walk.proofs.accept_or_cut.Goals as goal
 
 pub seen_more-requires : goal.seen_more-requires
 seen_more-requires c = let s = c in record {
-      s_len = c.seen_more-arg-1.given.0.1;
-      countable = countable s.requires.level_fits s.requires.tally_invariant;
-    }
+  s_len = c.seen_more-arg-1.given.0.1;
+  countable = countable s.requires.level_fits s.requires.tally_invariant;
+}
 
 pub overflow_mul-id : goal.overflow_mul-id
 overflow_mul-id c = omega (arith, (range_fits c.requires.level_fits).0)
@@ -24,18 +24,18 @@ overflow_add-id c = omega (arith, (range_fits c.requires.level_fits).0)
 
 pub take_full-requires : goal.take_full-requires
 take_full-requires c = let s = c in let both = (c.take_full-arg-in-Full-1.given.0.1, (s.requires.tally_invariant, (countable s.requires.level_fits s.requires.tally_invariant, small_range s.requires.level_fits))) in record {
-      s_len = both.0;
-      tally_invariant = both.1.0;
-      countable = both.1.1.0;
-      small_range = both.1.1.1;
-    }
+  s_len = both.0;
+  tally_invariant = both.1.0;
+  countable = both.1.1.0;
+  small_range = both.1.1.1;
+}
 
 pub take_partial-requires : goal.take_partial-requires
 take_partial-requires c = let s = c in let both = (c.take_partial-arg-then-level-eq0-1.given.0.1, (s.requires.tally_invariant, countable s.requires.level_fits s.requires.tally_invariant)) in record {
-      s_len = both.0;
-      tally_invariant = both.1.0;
-      countable = both.1.1;
-    }
+  s_len = both.0;
+  tally_invariant = both.1.0;
+  countable = both.1.1;
+}
 
 pub shape_of-out-then-level-eq0 : goal.shape_of-out-then-level-eq0
 shape_of-out-then-level-eq0 c = c.take_partial.auto.0
@@ -45,9 +45,9 @@ returns-then-level-eq0 c = done_last c.in-Partial.is c.if-level-eq0.true c.take_
 
 pub seen_more-requires-in-Partial : goal.seen_more-requires-in-Partial
 seen_more-requires-in-Partial c = let s = c in record {
-      s_len = c.seen_more-arg-in-Partial-1.given.0.1;
-      countable = countable s.requires.level_fits s.requires.tally_invariant;
-    }
+  s_len = c.seen_more-arg-in-Partial-1.given.0.1;
+  countable = countable s.requires.level_fits s.requires.tally_invariant;
+}
 
 pub returns-in-Outside : goal.returns-in-Outside
 returns-in-Outside c = done_outside c.in-Outside.is c.requires.tally_invariant c.seen_more.ensures refl

@@ -6,9 +6,9 @@ use Rattle.covering_walk.proofs.classify_trixel.Goals as goal
 
 pub measured-s-requires : goal.measured-s-requires
 measured-s-requires c = let e = c.trixel_in-t.ensures in let k = c.requires.stored_trixel in record {
-      small_trixel = stored_small e k;
-      r_value = stored_first_ray e k c.first_ray_in.ensures;
-    }
+  small_trixel = stored_small e k;
+  r_value = stored_first_ray e k c.first_ray_in.ensures;
+}
 
 pub class_beside-class-requires : goal.class_beside-class-requires
 class_beside-class-requires c =

@@ -26,9 +26,9 @@ returns-then-not-is_vector c =
 
 pub array_holds-requires : goal.array_holds-requires
 array_holds-requires c = record {
-      count_bound = c.requires;
-      small = vector_small c.args.p (vector c);
-    }
+  count_bound = c.requires;
+  small = vector_small c.args.p (vector c);
+}
 
 pub returns-then-array_holds : goal.returns-then-array_holds
 returns-then-array_holds c =

@@ -15,9 +15,9 @@ loop-i-init c =
 
 pub visit_if_owned-at-requires : goal.visit_if_owned-at-requires
 visit_if_owned-at-requires c = let l = c.before.before.before in let s = l in record {
-      lent = (s.requires.in_bounds.1, l.loop-i.invariant.1, omega (arith, s.requires.in_bounds.2, l.loop-i.invariant.2));
-      count_bound = s.requires.count_bound;
-    }
+  lent = (s.requires.in_bounds.1, l.loop-i.invariant.1, omega (arith, s.requires.in_bounds.2, l.loop-i.invariant.2));
+  count_bound = s.requires.count_bound;
+}
 
 pub loop-i-preserved : goal.loop-i-preserved
 loop-i-preserved c =

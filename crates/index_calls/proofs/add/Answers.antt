@@ -26,9 +26,9 @@ small c =
 
 pub returns-then-owner-ge-OWNERS : goal.returns-then-owner-ge-OWNERS
 returns-then-owner-ge-OWNERS c = let v = c.args in let both = by_add _ _ _ _ (no_owner (is_owner v.owner) _ v.index-1.now (le-ltb v.owner 2 (omega arith))) in record {
-      result_value = both.0;
-      index_after = both.1;
-    }
+  result_value = both.0;
+  index_after = both.1;
+}
 
 pub overflow_cast-id : goal.overflow_cast-id
 overflow_cast-id c = record { sfits = omega (arith, small c.before.before) }

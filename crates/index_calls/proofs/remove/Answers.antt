@@ -8,15 +8,15 @@ use Rattle.index_calls.proofs.remove.Goals as goal
 
 pub returns-then-owner-ge-OWNERS : goal.returns-then-owner-ge-OWNERS
 returns-then-owner-ge-OWNERS c = let v = c.args in let both = by_remove _ _ _ _ (no_owner (is_owner v.owner) _ v.index-1.now (le-ltb v.owner 2 (omega arith))) in record {
-      result_value = both.0;
-      index_after = both.1;
-    }
+  result_value = both.0;
+  index_after = both.1;
+}
 
 pub returns-then-index-lt-INDEX_LENGTH : goal.returns-then-index-lt-INDEX_LENGTH
 returns-then-index-lt-INDEX_LENGTH c = let v = c.args in let both = by_remove _ _ _ _ (of_owner (lt-ltb v.owner 2 (omega arith)) (too_short v.index-1.now _ c.if-index-lt-INDEX_LENGTH.true)) in record {
-      result_value = both.0;
-      index_after = both.1;
-    }
+  result_value = both.0;
+  index_after = both.1;
+}
 
 pub returns-then-n-i : goal.returns-then-n-i
 returns-then-n-i c =

@@ -10,15 +10,15 @@ use Rattle.mesh_bends.proofs.later_cut.Goals as goal
 
 pub part-requires : goal.part-requires
 part-requires c = record {
-      pos_bound = (subst (λ z. pos 0 ≤ℤ z) (sym (held c.requires.1 tt).eq) c.requires.0, upto_held c.requires.1 tt);
-      n_nonzero = lit< tt;
-    }
+  pos_bound = (subst (λ z. pos 0 ≤ℤ z) (sym (held c.requires.1 tt).eq) c.requires.0, upto_held c.requires.1 tt);
+  n_nonzero = lit< tt;
+}
 
 pub part-requires-2 : goal.part-requires-2
 part-requires-2 c = let p = c.requires in record {
-      pos_bound = (subst (λ z. pos 0 ≤ℤ z) (sym (held p.1 tt).eq) p.0, upto_held p.1 tt);
-      n_nonzero = lit< tt;
-    }
+  pos_bound = (subst (λ z. pos 0 ≤ℤ z) (sym (held p.1 tt).eq) p.0, upto_held p.1 tt);
+  n_nonzero = lit< tt;
+}
 
 pub overflow_add-result : goal.overflow_add-result
 overflow_add-result c = fits_add (held c.part.ensures.1 tt) (held c.part-2.ensures.1 tt) tt

@@ -14,10 +14,10 @@ last c =
 
 pub at_corner-requires : goal.at_corner-requires
 at_corner-requires c = let p = c.requires in let both = (p.within, (p.not_negative.0, (upto_held p.not_negative.1.0.a2 tt, upto_held p.not_negative.1.0.a1 tt))) in record {
-      within = both.0;
-      not_negative = both.1.0;
-      upto = both.1.1;
-    }
+  within = both.0;
+  not_negative = both.1.0;
+  upto = both.1.1;
+}
 
 pub returns-then-digit-eq0 : goal.returns-then-digit-eq0
 returns-then-digit-eq0 c =

@@ -56,9 +56,9 @@ so_far l =
 
 pub begin-numbers-requires : goal.begin-numbers-requires
 begin-numbers-requires c = record {
-      small = c.requires.small;
-      small_corners = c.requires.small_corners.0;
-    }
+  small = c.requires.small;
+  small_corners = c.requires.small_corners.0;
+}
 
 pub returns-then-not-can_start : goal.returns-then-not-can_start
 returns-then-not-can_start c =
@@ -82,9 +82,9 @@ loop-k-init c =
 
 pub sure_digit-digit-requires : goal.sure_digit-digit-requires
 sure_digit-digit-requires c = let l = c.before in record {
-      within = in_range l;
-      not_negative = not_negative (all l).0.following (nine l);
-    }
+  within = in_range l;
+  not_negative = not_negative (all l).0.following (nine l);
+}
 
 pub returns-then-digit-eq-UNSURE : goal.returns-then-digit-eq-UNSURE
 returns-then-digit-eq-UNSURE c = so_far c.before.before.before

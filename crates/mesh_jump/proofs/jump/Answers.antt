@@ -30,11 +30,11 @@ nine l = omega (arith, (jumping l).upto, l.loop-k.invariant.0)
 
 pub bent_digits-bent-requires : goal.bent_digits-bent-requires
 bent_digits-bent-requires c = let both = c.requires in record {
-      small = both.0;
-      small_corners = both.1.0;
-      entry = both.1.1.0;
-      id_bound = both.1.1.1;
-    }
+  small = both.0;
+  small_corners = both.1.0;
+  entry = both.1.1.0;
+  id_bound = both.1.1.1;
+}
 
 pub returns-then-k-lt-BENT_LEVELS : goal.returns-then-k-lt-BENT_LEVELS
 returns-then-k-lt-BENT_LEVELS c = c.bent_digits-bent.ensures.jumped
@@ -47,9 +47,9 @@ loop-k-init c =
 
 pub sure_digit-digit-requires : goal.sure_digit-digit-requires
 sure_digit-digit-requires c = let l = c.before in let f = (jumping l).following in record {
-      within = within f (nine l);
-      not_negative = not_negative f (nine l);
-    }
+  within = within f (nine l);
+  not_negative = not_negative f (nine l);
+}
 
 pub returns-then-digit-eq-UNSURE : goal.returns-then-digit-eq-UNSURE
 returns-then-digit-eq-UNSURE c = so_far c.before.before.before

@@ -24,15 +24,15 @@ pushed_volume a b c n e = ap (λ n. dot c n +ℤ δ *ℤ (n.x +ℤ n.y -ℤ n.z)
 
 pub cross-n-requires : goal.cross-n-requires
 cross-n-requires c = let both = c.requires.small in record {
-      small = both.0;
-      small_2 = both.1;
-    }
+  small = both.0;
+  small_2 = both.1;
+}
 
 pub dot-requires : goal.dot-requires
 dot-requires c = record {
-      small = c.requires.small_2;
-      at_most = c.cross-n.ensures.at_most;
-    }
+  small = c.requires.small_2;
+  at_most = c.cross-n.ensures.at_most;
+}
 
 pub push_along-requires : goal.push_along-requires
 push_along-requires c = c.cross-n.ensures.at_most

@@ -11,9 +11,9 @@ loop-k-init c = let q = c.requires in (q.small, q.small_corners.1.1, q.small_cor
 
 pub step-s-requires : goal.step-s-requires
 step-s-requires c = let v = c.loop-k.invariant in record {
-      small = v.0;
-      small_corners = v.4.small;
-    }
+  small = v.0;
+  small_corners = v.4.small;
+}
 
 pub overflow_mul-i : goal.overflow_mul-i
 overflow_mul-i c = omega (arith, at_most c.before.before.before)

@@ -43,9 +43,9 @@ returns-then-depth-eq2 c =
 
 pub from_table-start-requires : goal.from_table-start-requires
 from_table-start-requires c = let g = c in record {
-      small = g.requires.small;
-      root_bound = g.root_number-root.ensures.1;
-    }
+  small = g.requires.small;
+  root_bound = g.root_number-root.ensures.1;
+}
 
 pub returns-then-depth-eq3 : goal.returns-then-depth-eq3
 returns-then-depth-eq3 c =

@@ -36,15 +36,15 @@ side c = ap (λ v. not_negative (dot (scale v) c.args.p)) c.cross-c.ensures.valu
 
 pub cross-c-requires : goal.cross-c-requires
 cross-c-requires c = let both = c.requires.small in record {
-      small = both.0;
-      small_2 = both.1;
-    }
+  small = both.0;
+  small_2 = both.1;
+}
 
 pub dot-s-requires : goal.dot-s-requires
 dot-s-requires c = record {
-      small = c.requires.small_2;
-      at_most = c.cross-c.ensures.at_most;
-    }
+  small = c.requires.small_2;
+  at_most = c.cross-c.ensures.at_most;
+}
 
 pub largest-requires : goal.largest-requires
 largest-requires c = c.cross-c.ensures.at_most
@@ -66,9 +66,9 @@ returns-then-m-s c =
 
 pub exactly_on_side-requires : goal.exactly_on_side-requires
 exactly_on_side-requires c = let both = c.requires in record {
-      small = both.0;
-      small_2 = both.1;
-    }
+  small = both.0;
+  small_2 = both.1;
+}
 
 pub returns-then-s-ge0 : goal.returns-then-s-ge0
 returns-then-s-ge0 c = c.exactly_on_side.ensures
@@ -88,9 +88,9 @@ returns-then-s-m c =
 
 pub exactly_on_side-requires-2 : goal.exactly_on_side-requires-2
 exactly_on_side-requires-2 c = let both = c.requires in record {
-      small = both.0;
-      small_2 = both.1;
-    }
+  small = both.0;
+  small_2 = both.1;
+}
 
 pub returns : goal.returns
 returns c = c.exactly_on_side-2.ensures

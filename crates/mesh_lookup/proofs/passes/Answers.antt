@@ -10,9 +10,9 @@ use Rattle.mesh_lookup.proofs.passes.Goals as goal
 
 pub dot-requires : goal.dot-requires
 dot-requires c = record {
-      small = c.requires.small;
-      at_most = at_most_mono (lit≤ tt) c.requires.small_2;
-    }
+  small = c.requires.small;
+  at_most = at_most_mono (lit≤ tt) c.requires.small_2;
+}
 
 pub returns : goal.returns
 returns c =

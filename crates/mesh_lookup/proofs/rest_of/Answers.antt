@@ -12,10 +12,10 @@ overflow_sub-n c = omega (arith, c.requires.small_corners.1.1)
 
 pub descend-end-requires : goal.descend-end-requires
 descend-end-requires c = let q = c.requires in let both = (q.small, (c.corners_along.ensures.1, (q.small_corners.1.0, omega (arith, q.small_corners.1.2)))) in record {
-      small = both.0;
-      small_corners = both.1.0;
-      id_bound = both.1.1;
-    }
+  small = both.0;
+  small_corners = both.1.0;
+  id_bound = both.1.1;
+}
 
 pub returns : goal.returns
 returns c =

@@ -2,10 +2,15 @@
 use mathlib.Core.Path.{◌∙◌}
 use mathlib.Core.Bool.{cond}
 use Rattle.algebra.proofs.Sized.{held}
-use Rattle.mesh.specs.Lookup.{not_negative, north_root, south_root}
+use Rattle.mesh.specs.Lookup.{not_negative, north_root, south_root, root_number}
 use Rattle.mesh_lookup.proofs.root_number.Goals as goal
 
+pub root_by-requires : goal.root_by-requires
+unfolding root_number
+root_by-requires c = tt
+
 pub returns : goal.returns
+unfolding root_number
 returns c =
     let q = c.requires in
     let x = (held q.x tt).eq in

@@ -14,21 +14,21 @@ done p c {d} e h s = subst (ChildStep p c) (sym (e ∙ ap (child_at d) h)) s
 
 pub midpoint-w1-requires : goal.midpoint-w1-requires
 midpoint-w1-requires c = let p = c.requires.small_corners in record {
-      small = p.v0-1;
-      small_2 = p.v2-1;
-    }
+  small = p.v0-1;
+  small_2 = p.v2-1;
+}
 
 pub midpoint-w2-requires : goal.midpoint-w2-requires
 midpoint-w2-requires c = let p = c.requires.small_corners in record {
-      small = p.v0-1;
-      small_2 = p.v1-1;
-    }
+  small = p.v0-1;
+  small_2 = p.v1-1;
+}
 
 pub on_side-requires : goal.on_side-requires
 on_side-requires c = record {
-      small = (c.midpoint-w2.ensures.1, c.midpoint-w1.ensures.1);
-      small_2 = c.requires.small;
-    }
+  small = (c.midpoint-w2.ensures.1, c.midpoint-w1.ensures.1);
+  small_2 = c.requires.small;
+}
 
 pub returns-then-on_side : goal.returns-then-on_side
 returns-then-on_side c =
@@ -42,15 +42,15 @@ returns-then-on_side c =
 
 pub midpoint-w0-requires : goal.midpoint-w0-requires
 midpoint-w0-requires c = let p = c.requires.small_corners in record {
-      small = p.v1-1;
-      small_2 = p.v2-1;
-    }
+  small = p.v1-1;
+  small_2 = p.v2-1;
+}
 
 pub on_side-requires-2 : goal.on_side-requires-2
 on_side-requires-2 c = record {
-      small = (c.midpoint-w0.ensures.1, c.midpoint-w2.ensures.1);
-      small_2 = c.requires.small;
-    }
+  small = (c.midpoint-w0.ensures.1, c.midpoint-w2.ensures.1);
+  small_2 = c.requires.small;
+}
 
 pub returns-then-on_side-2 : goal.returns-then-on_side-2
 returns-then-on_side-2 c =
@@ -67,9 +67,9 @@ returns-then-on_side-2 c =
 
 pub on_side-requires-3 : goal.on_side-requires-3
 on_side-requires-3 c = record {
-      small = (c.midpoint-w1.ensures.1, c.midpoint-w0.ensures.1);
-      small_2 = c.requires.small;
-    }
+  small = (c.midpoint-w1.ensures.1, c.midpoint-w0.ensures.1);
+  small_2 = c.requires.small;
+}
 
 pub returns-then-on_side-3 : goal.returns-then-on_side-3
 returns-then-on_side-3 c =

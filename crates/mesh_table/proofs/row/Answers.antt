@@ -19,7 +19,6 @@ tested = (
       let first = second in
       let e : 3 ≡ first.args.d = omega (arith, c.if-d-eq2.false, second.if-d-eq1.false, first.if-d-eq0.false, first.requires) in
       ap row_of e,
-
 )
 
 pub returns-then-d-eq0 : goal.returns-then-d-eq0

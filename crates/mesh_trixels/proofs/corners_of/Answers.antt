@@ -24,9 +24,9 @@ overflow_sub-depth c = least c
 
 pub corners_below-requires : goal.corners_below-requires
 corners_below-requires c = let d = c in let both = level_range d.args.id _ d.depth_of-depth.ensures.value (least c) in record {
-      n_bound = both.0;
-      id_bound = both.1;
-    }
+  n_bound = both.0;
+  id_bound = both.1;
+}
 
 pub returns : goal.returns
 returns c =

@@ -11,39 +11,39 @@ normal e f g = e ∙ (λ i. scale (cross (f i) (g i)))
 
 pub midpoint-w0-requires : goal.midpoint-w0-requires
 midpoint-w0-requires c = let p = c.requires in record {
-      small = p.v1-1;
-      small_2 = p.v2-1;
-    }
+  small = p.v1-1;
+  small_2 = p.v2-1;
+}
 
 pub midpoint-w1-requires : goal.midpoint-w1-requires
 midpoint-w1-requires c = let p = c.requires in record {
-      small = p.v0-1;
-      small_2 = p.v2-1;
-    }
+  small = p.v0-1;
+  small_2 = p.v2-1;
+}
 
 pub midpoint-w2-requires : goal.midpoint-w2-requires
 midpoint-w2-requires c = let p = c.requires in record {
-      small = p.v0-1;
-      small_2 = p.v1-1;
-    }
+  small = p.v0-1;
+  small_2 = p.v1-1;
+}
 
 pub normal-requires : goal.normal-requires
 normal-requires c = record {
-      small = c.midpoint-w2.ensures.1;
-      small_2 = c.midpoint-w1.ensures.1;
-    }
+  small = c.midpoint-w2.ensures.1;
+  small_2 = c.midpoint-w1.ensures.1;
+}
 
 pub normal-requires-2 : goal.normal-requires-2
 normal-requires-2 c = record {
-      small = c.midpoint-w0.ensures.1;
-      small_2 = c.midpoint-w2.ensures.1;
-    }
+  small = c.midpoint-w0.ensures.1;
+  small_2 = c.midpoint-w2.ensures.1;
+}
 
 pub normal-requires-3 : goal.normal-requires-3
 normal-requires-3 c = record {
-      small = c.midpoint-w1.ensures.1;
-      small_2 = c.midpoint-w0.ensures.1;
-    }
+  small = c.midpoint-w1.ensures.1;
+  small_2 = c.midpoint-w0.ensures.1;
+}
 
 pub returns : goal.returns
 unfolding cut

@@ -7,9 +7,9 @@ use Rattle.mesh_trixels.proofs.midpoint.Goals as goal
 
 pub sum-requires : goal.sum-requires
 sum-requires c = record {
-      at_most = at_most_mono (lit≤ tt) c.requires.small;
-      at_most_2 = at_most_mono (lit≤ tt) c.requires.small_2;
-    }
+  at_most = at_most_mono (lit≤ tt) c.requires.small;
+  at_most_2 = at_most_mono (lit≤ tt) c.requires.small_2;
+}
 
 pub unit_two-requires : goal.unit_two-requires
 unit_two-requires c = c.sum.ensures.at_most_3

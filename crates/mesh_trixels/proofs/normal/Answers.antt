@@ -5,9 +5,9 @@ use Rattle.mesh_trixels.proofs.normal.Goals as goal
 
 pub cross-requires : goal.cross-requires
 cross-requires c = let both = c.requires in record {
-      small = both.0;
-      small_2 = both.1;
-    }
+  small = both.0;
+  small_2 = both.1;
+}
 
 pub scale-requires : goal.scale-requires
 scale-requires c = c.cross.ensures.at_most

@@ -23,28 +23,68 @@ last (suc (suc (suc (suc (suc zero))))) h a b c d e f g = absurd (f refl)
 last (suc (suc (suc (suc (suc (suc zero)))))) h a b c d e f g = absurd (g refl)
 last (suc (suc (suc (suc (suc (suc (suc k))))))) h a b c d e f g = omega arith
 
+pub triple-requires : goal.triple-requires
+unfolding root_trixel
+triple-requires c = tt
+
 pub returns-then-k-eq0 : goal.returns-then-k-eq0
+unfolding root_trixel
 returns-then-k-eq0 c = found c.args.k 0 c.if-k-eq0.true c.triple.ensures
 
+pub triple-requires-then-k-eq1 : goal.triple-requires-then-k-eq1
+unfolding root_trixel
+triple-requires-then-k-eq1 c = tt
+
 pub returns-then-k-eq1 : goal.returns-then-k-eq1
+unfolding root_trixel
 returns-then-k-eq1 c = found c.args.k 1 c.if-k-eq1.true c.triple-then-k-eq1.ensures
 
+pub triple-requires-then-k-eq2 : goal.triple-requires-then-k-eq2
+unfolding root_trixel
+triple-requires-then-k-eq2 c = tt
+
 pub returns-then-k-eq2 : goal.returns-then-k-eq2
+unfolding root_trixel
 returns-then-k-eq2 c = found c.args.k 2 c.if-k-eq2.true c.triple-then-k-eq2.ensures
 
+pub triple-requires-then-k-eq3 : goal.triple-requires-then-k-eq3
+unfolding root_trixel
+triple-requires-then-k-eq3 c = tt
+
 pub returns-then-k-eq3 : goal.returns-then-k-eq3
+unfolding root_trixel
 returns-then-k-eq3 c = found c.args.k 3 c.if-k-eq3.true c.triple-then-k-eq3.ensures
 
+pub triple-requires-then-k-eq4 : goal.triple-requires-then-k-eq4
+unfolding root_trixel
+triple-requires-then-k-eq4 c = tt
+
 pub returns-then-k-eq4 : goal.returns-then-k-eq4
+unfolding root_trixel
 returns-then-k-eq4 c = found c.args.k 4 c.if-k-eq4.true c.triple-then-k-eq4.ensures
 
+pub triple-requires-then-k-eq5 : goal.triple-requires-then-k-eq5
+unfolding root_trixel
+triple-requires-then-k-eq5 c = tt
+
 pub returns-then-k-eq5 : goal.returns-then-k-eq5
+unfolding root_trixel
 returns-then-k-eq5 c = found c.args.k 5 c.if-k-eq5.true c.triple-then-k-eq5.ensures
 
+pub triple-requires-then-k-eq6 : goal.triple-requires-then-k-eq6
+unfolding root_trixel
+triple-requires-then-k-eq6 c = tt
+
 pub returns-then-k-eq6 : goal.returns-then-k-eq6
+unfolding root_trixel
 returns-then-k-eq6 c = found c.args.k 6 c.if-k-eq6.true c.triple-then-k-eq6.ensures
 
+pub triple-requires-2 : goal.triple-requires-2
+unfolding root_trixel
+triple-requires-2 c = tt
+
 pub returns : goal.returns
+unfolding root_trixel
 returns c =
     let e = c in
     found e.args.k 7

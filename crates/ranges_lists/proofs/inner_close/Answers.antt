@@ -8,9 +8,9 @@ use Rattle.ranges_lists.proofs.inner_close.Goals as goal
 
 pub inner_full-next-requires : goal.inner_full-next-requires
 inner_full-next-requires c = record {
-      le_n = (omega arith, omega arith);
-      hinted = c.requires.hinted;
-    }
+  le_n = (omega arith, omega arith);
+  hinted = c.requires.hinted;
+}
 
 pub returns-then-n-budget : goal.returns-then-n-budget
 returns-then-n-budget c =

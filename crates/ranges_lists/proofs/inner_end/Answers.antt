@@ -6,15 +6,15 @@ use Rattle.ranges_lists.proofs.inner_end.Goals as goal
 
 pub returns-then-not-some : goal.returns-then-not-some
 returns-then-not-some c = let s = c in record {
-      writes = end_none s.args.budget s.args.p s.args.list.now (not-true _ c.if-not-some.true);
-      upper_bound = omega arith;
-    }
+  writes = end_none s.args.budget s.args.p s.args.list.now (not-true _ c.if-not-some.true);
+  upper_bound = omega arith;
+}
 
 pub inner_close-m-requires : goal.inner_close-m-requires
 inner_close-m-requires c = let both = c.requires in record {
-      le_budget = both.0;
-      hinted = both.1;
-    }
+  le_budget = both.0;
+  hinted = both.1;
+}
 
 pub returns : goal.returns
 returns c =

@@ -8,9 +8,9 @@ use Rattle.ranges_lists.proofs.inner_full.Goals as goal
 
 pub at_smallest-next-requires : goal.at_smallest-next-requires
 at_smallest-next-requires c = record {
-      le_count = (omega arith, omega arith);
-      hinted = c.requires.hinted;
-    }
+  le_count = (omega arith, omega arith);
+  hinted = c.requires.hinted;
+}
 
 -- the new range is the shortest
 pub returns-then-size_less_one-floor : goal.returns-then-size_less_one-floor

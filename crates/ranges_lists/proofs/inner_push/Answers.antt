@@ -30,9 +30,9 @@ returns-then-touches c =
 
 pub inner_close-m-requires : goal.inner_close-m-requires
 inner_close-m-requires c = let both = c.requires in record {
-      le_budget = both.0;
-      hinted = both.1;
-    }
+  le_budget = both.0;
+  hinted = both.1;
+}
 
 pub returns : goal.returns
 returns c =

@@ -16,10 +16,10 @@ shape_of-list-then-n-eq0 c = simp length-set (omega arith)
 
 pub returns-then-n-eq0 : goal.returns-then-n-eq0
 returns-then-n-eq0 c = let both = (push_first _ _ _ _ _ (omega arith) (omega arith), ((omega arith, omega arith), hinted_any c.no_hint.ensures _)) in record {
-      writes = both.0;
-      n_le_n = both.1.0;
-      hinted_2 = both.1.1;
-    }
+  writes = both.0;
+  n_le_n = both.1.0;
+  hinted_2 = both.1.1;
+}
 
 pub shape_of-list-then-touches : goal.shape_of-list-then-touches
 shape_of-list-then-touches c = simp length-set (omega arith)
@@ -59,9 +59,9 @@ returns-then-n-budget c =
 
 pub outer_full-next-requires : goal.outer_full-next-requires
 outer_full-next-requires c = record {
-      le_n = (omega arith, omega arith);
-      hinted = c.requires.hinted;
-    }
+  le_n = (omega arith, omega arith);
+  hinted = c.requires.hinted;
+}
 
 pub returns : goal.returns
 returns c =

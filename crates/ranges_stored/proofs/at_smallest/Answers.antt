@@ -5,9 +5,9 @@ use Rattle.ranges_stored.proofs.at_smallest.Goals as goal
 
 pub first_at-next-requires : goal.first_at-next-requires
 first_at-next-requires c = let s = c in record {
-      count_in_bounds = s.requires.le_count.1;
-      hinted = s.requires.hinted;
-    }
+  count_in_bounds = s.requires.le_count.1;
+  hinted = s.requires.hinted;
+}
 
 pub search_all-requires : goal.search_all-requires
 search_all-requires c = c.requires.le_count

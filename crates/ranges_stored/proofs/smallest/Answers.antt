@@ -17,6 +17,6 @@ loop-i-preserved c =
 
 pub returns : goal.returns
 returns c = let both = near_end _ _ _ _ _ c.requires _ _ _ (omega arith) c.loop-i.invariant.1 in record {
-      value = both.0;
-      upper_bound = both.1;
-    }
+  value = both.0;
+  upper_bound = both.1;
+}

@@ -6,9 +6,9 @@ use Rattle.region_convert.proofs.as_it_is.Goals as goal
 
 pub returns-then-out-file : goal.returns-then-out-file
 returns-then-out-file c = let a = c.args in let both = no_space (gives a.file.now) a.out-1.now a.file.now refl c.if-out-file.true in record {
-      result_value = both.0;
-      out_after = both.1;
-    }
+  result_value = both.0;
+  out_after = both.1;
+}
 
 pub copy-requires : goal.copy-requires
 copy-requires c = c.if-out-file.false

@@ -14,9 +14,9 @@ overflow_mul-result c = let s = c in fits_mul (held s.requires.at_most.1 tt) (li
 
 pub dot-requires : goal.dot-requires
 dot-requires c = let s = c in record {
-      small = s.requires.small;
-      at_most = at_most_mono (lit≤ tt) s.requires.at_most.0;
-    }
+  small = s.requires.small;
+  at_most = at_most_mono (lit≤ tt) s.requires.at_most.0;
+}
 
 pub returns : goal.returns
 returns c =

@@ -14,9 +14,9 @@ loop-i-init c =
 
 pub row_holds-requires : goal.row_holds-requires
 row_holds-requires c = record {
-      i_in_bounds = omega arith;
-      small = c.requires.small;
-    }
+  i_in_bounds = omega arith;
+  small = c.requires.small;
+}
 
 pub next-s-requires : goal.next-s-requires
 next-s-requires c = (c.loop-i.invariant.1, upto_held c.number_at.ensures.1 tt)

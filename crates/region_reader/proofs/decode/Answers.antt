@@ -13,9 +13,9 @@ headed c = sym (ap header_given c.in-Gives.is) ∙ c.before.before.before.header
 
 pub returns-then-file-gt-MAX_FILE_BYTES : goal.returns-then-file-gt-MAX_FILE_BYTES
 returns-then-file-gt-MAX_FILE_BYTES c = let a = c.args in let both = long_said a.file.now a.rows.now _ c.if-file-gt-MAX_FILE_BYTES.true in record {
-      result_value = both.0;
-      rows_after = both.1;
-    }
+  result_value = both.0;
+  rows_after = both.1;
+}
 
 pub style_of-style-requires : goal.style_of-style-requires
 style_of-style-requires c =

@@ -12,9 +12,9 @@ loop-next-init c =
 
 pub record_in-o-requires : goal.record_in-o-requires
 record_in-o-requires c = let l = c.loop-next in record {
-      at_in_bounds = l.invariant.1.within;
-      rows_len = l.invariant.1.same_length ∙ l.invariant.0;
-    }
+  at_in_bounds = l.invariant.1.within;
+  rows_len = l.invariant.1.same_length ∙ l.invariant.0;
+}
 
 pub loop-next-smaller : goal.loop-next-smaller
 loop-next-smaller c =

@@ -18,6 +18,6 @@ overflow_add-result-2 c = omega (arith, c.shared_slice_known-2-1.given c.args.k,
 
 pub returns : goal.returns
 returns c = record {
-      value = refl;
-      upper_bound = omega (arith, c.shared_slice_known-2-1.given c.args.k, c.shared_slice_known-2-1.given (c.args.k + 1));
-    }
+  value = refl;
+  upper_bound = omega (arith, c.shared_slice_known-2-1.given c.args.k, c.shared_slice_known-2-1.given (c.args.k + 1));
+}

@@ -23,15 +23,15 @@ counts c = let k = c in passed _ c.in-Gives.c (sym (ap region_size_given c.in-Gi
 
 pub returns-then-not-is_depth : goal.returns-then-not-is_depth
 returns-then-not-is_depth c = let both = no_depth _ _ _ _ _ (sym c.is_depth.ensures ∙ not-true _ c.if-not-is_depth.true) in record {
-      result_value = both.0;
-      out_after = both.1;
-    }
+  result_value = both.0;
+  out_after = both.1;
+}
 
 pub returns-then-not-is_budget : goal.returns-then-not-is_budget
 returns-then-not-is_budget c = let both = no_budget _ _ _ _ _ (depth c.before.before) (sym c.is_budget.ensures ∙ not-true _ c.if-not-is_budget.true) in record {
-      result_value = both.0;
-      out_after = both.1;
-    }
+  result_value = both.0;
+  out_after = both.1;
+}
 
 pub file_length-len-requires : goal.file_length-len-requires
 file_length-len-requires c = let q = counts c.before in (q.few, q.limit)

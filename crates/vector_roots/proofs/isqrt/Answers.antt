@@ -21,9 +21,9 @@ first c =
 
 pub returns-then-is_root : goal.returns-then-is_root
 returns-then-is_root c = record {
-      value = root_tested c.args.s c.guess-n.result (sym c.is_root.ensures ∙ c.if-is_root.true);
-      upper_bound = omega arith;
-    }
+  value = root_tested c.args.s c.guess-n.result (sym c.is_root.ensures ∙ c.if-is_root.true);
+  upper_bound = omega arith;
+}
 
 pub newton-m-requires : goal.newton-m-requires
 newton-m-requires c = (c.requires, omega arith, omega arith)
@@ -62,6 +62,6 @@ bisected-requires c = c.requires
 
 pub returns : goal.returns
 returns c = let both = c.bisected.ensures in record {
-      value = both.0;
-      upper_bound = both.1;
-    }
+  value = both.0;
+  upper_bound = both.1;
+}

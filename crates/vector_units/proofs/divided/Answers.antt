@@ -13,21 +13,21 @@ returns-then-n-eq0 c = rw (eq-eqb c.args.n 0 c.if-n-eq0.true)
 
 pub part-requires : goal.part-requires
 part-requires c = record {
-      upto = upto_held c.requires.at_most.x tt;
-      n_nonzero = (pos_of_ne-zero c.if-n-eq0.false, c.requires.n_bound);
-    }
+  upto = upto_held c.requires.at_most.x tt;
+  n_nonzero = (pos_of_ne-zero c.if-n-eq0.false, c.requires.n_bound);
+}
 
 pub part-requires-2 : goal.part-requires-2
 part-requires-2 c = record {
-      upto = upto_held c.requires.at_most.y tt;
-      n_nonzero = (pos_of_ne-zero c.if-n-eq0.false, c.requires.n_bound);
-    }
+  upto = upto_held c.requires.at_most.y tt;
+  n_nonzero = (pos_of_ne-zero c.if-n-eq0.false, c.requires.n_bound);
+}
 
 pub part-requires-3 : goal.part-requires-3
 part-requires-3 c = record {
-      upto = upto_held c.requires.at_most.z tt;
-      n_nonzero = (pos_of_ne-zero c.if-n-eq0.false, c.requires.n_bound);
-    }
+  upto = upto_held c.requires.at_most.z tt;
+  n_nonzero = (pos_of_ne-zero c.if-n-eq0.false, c.requires.n_bound);
+}
 
 pub returns : goal.returns
 returns c =

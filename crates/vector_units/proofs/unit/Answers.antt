@@ -19,12 +19,12 @@ isqrt-requires c = omega (arith, c.square_length.ensures.upper_bound)
 
 pub divided-requires : goal.divided-requires
 divided-requires c = record {
-      at_most = at_most_mono (lit≤ tt) c.requires;
-      n_bound = omega (arith, c.isqrt.ensures.upper_bound);
-    }
+  at_most = at_most_mono (lit≤ tt) c.requires;
+  n_bound = omega (arith, c.isqrt.ensures.upper_bound);
+}
 
 pub returns : goal.returns
 returns c = let both = unit_by c.args.s (length c.before) c.divided.ensures in record {
-      value = both.0;
-      small = both.1;
-    }
+  value = both.0;
+  small = both.1;
+}

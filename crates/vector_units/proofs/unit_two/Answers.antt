@@ -20,21 +20,21 @@ square_length-q-requires c = c.requires
 
 pub divided-requires : goal.divided-requires
 divided-requires c = let n = c in record {
-      at_most = at_most_mono (lit≤ tt) n.requires;
-      n_bound = omega (arith, n.near_two-n.ensures.1);
-    }
+  at_most = at_most_mono (lit≤ tt) n.requires;
+  n_bound = omega (arith, n.near_two-n.ensures.1);
+}
 
 pub returns-then-is_root : goal.returns-then-is_root
 returns-then-is_root c = let both = unit_by c.args.s (length c.before) c.divided.ensures in record {
-      value = both.0;
-      small = both.1;
-    }
+  value = both.0;
+  small = both.1;
+}
 
 pub unit-requires : goal.unit-requires
 unit-requires c = c.requires
 
 pub returns : goal.returns
 returns c = let both = c.unit.ensures in record {
-      value = both.0;
-      small = both.1;
-    }
+  value = both.0;
+  small = both.1;
+}

@@ -50,9 +50,9 @@ module _ (c : goal.After-dot-c) {x : Bool} where
 
 pub dot-c-requires : goal.dot-c-requires
 dot-c-requires c = record {
-      small = (half c.before.before).small;
-      at_most = at_most_mono (lit≤ tt) c.requires.anchor.b;
-    }
+  small = (half c.before.before).small;
+  at_most = at_most_mono (lit≤ tt) c.requires.anchor.b;
+}
 
 pub overflow_mul-q : goal.overflow_mul-q
 overflow_mul-q c = let s = c.before.before.before.before.before.before.before in fits_mul (held (half s).size tt) (held s.requires.anchor.reach tt) tt

@@ -16,9 +16,9 @@ overflow_add-middle c = record { fits = omega arith }
 
 pub reaches_all-requires : goal.reaches_all-requires
 reaches_all-requires c = record {
-      bounded = c.requires.bounded;
-      n_bound = omega arith;
-    }
+  bounded = c.requires.bounded;
+  n_bound = omega arith;
+}
 
 pub loop-low-preserved-then-reaches_all : goal.loop-low-preserved-then-reaches_all
 loop-low-preserved-then-reaches_all c =

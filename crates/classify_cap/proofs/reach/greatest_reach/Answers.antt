@@ -18,15 +18,15 @@ near_top-p-requires c = c.requires
 
 pub bisected-requires : goal.bisected-requires
 bisected-requires c = record {
-      bounded = c.requires;
-      spanned = c.near_top-p.ensures;
-    }
+  bounded = c.requires;
+  spanned = c.near_top-p.ensures;
+}
 
 pub returns-then-p-gt0 : goal.returns-then-p-gt0
 returns-then-p-gt0 c = let a = c.args in let both = at_most_K a.x0 a.x1 a.x2 a.s c.bisected.ensures in record {
-      value = both.0;
-      upper_bound = both.1;
-    }
+  value = both.0;
+  upper_bound = both.1;
+}
 
 pub on_axes-requires : goal.on_axes-requires
 on_axes-requires c = c.requires.rays
@@ -50,24 +50,24 @@ overflow_add-n c = record { fits = omega (arith, c.near_reach-n.ensures) }
 
 pub tested-above-requires : goal.tested-above-requires
 tested-above-requires c = record {
-      bounded = c.requires;
-      spanned = c.near_top-p.ensures;
-    }
+  bounded = c.requires;
+  spanned = c.near_top-p.ensures;
+}
 
 pub tested-requires : goal.tested-requires
 tested-requires c = record {
-      bounded = c.requires;
-      spanned = c.tested-above.ensures;
-    }
+  bounded = c.requires;
+  spanned = c.tested-above.ensures;
+}
 
 pub bisected-requires-2 : goal.bisected-requires-2
 bisected-requires-2 c = record {
-      bounded = c.requires;
-      spanned = c.tested.ensures;
-    }
+  bounded = c.requires;
+  spanned = c.tested.ensures;
+}
 
 pub returns : goal.returns
 returns c = let a = c.args in let both = at_most_K a.x0 a.x1 a.x2 a.s c.bisected-2.ensures in record {
-      value = both.0;
-      upper_bound = both.1;
-    }
+  value = both.0;
+  upper_bound = both.1;
+}

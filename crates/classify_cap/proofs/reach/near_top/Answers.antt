@@ -13,9 +13,9 @@ loop-step-init c = (omega arith, omega arith, omega arith, omega arith, λ k h l
 
 pub reaches_all-requires : goal.reaches_all-requires
 reaches_all-requires c = record {
-      bounded = c.requires;
-      n_bound = omega arith;
-    }
+  bounded = c.requires;
+  n_bound = omega arith;
+}
 
 pub returns-then-reaches_all : goal.returns-then-reaches_all
 returns-then-reaches_all c = record { order = omega arith; most = omega arith; passes = sym c.reaches_all.ensures ∙ c.if-reaches_all.true; above = c.loop-step.invariant.4 }

@@ -38,9 +38,9 @@ overflow_sub-n c = omega (arith, c.loop-step-test.true)
 
 pub far_at-requires : goal.far_at-requires
 far_at-requires c = let s = c in let p = s.requires.upto.0 in record {
-      sound_halfspace = s.requires.sound_halfspace;
-      upto = (upto_held p.0 tt, rw (held p.1.size tt).eq p.1, omega arith);
-    }
+  sound_halfspace = s.requires.sound_halfspace;
+  upto = (upto_held p.0 tt, rw (held p.1.size tt).eq p.1, omega arith);
+}
 
 pub least_far-requires : goal.least_far-requires
 least_far-requires c =
@@ -55,18 +55,18 @@ least_far-requires c =
 
 pub reaches_all-requires : goal.reaches_all-requires
 reaches_all-requires c = record {
-      bounded = c.requires.upto.1;
-      n_bound = c.least_far.ensures.most;
-    }
+  bounded = c.requires.upto.1;
+  n_bound = c.least_far.ensures.most;
+}
 
 pub returns-then-not-far_at : goal.returns-then-not-far_at
 returns-then-not-far_at c = by_the_least c.before.before.before.before.before.before c.least_far.result c.least_far.ensures c.reaches_all.ensures
 
 pub reaches_all-requires-in-loop-step : goal.reaches_all-requires-in-loop-step
 reaches_all-requires-in-loop-step c = record {
-      bounded = c.requires.upto.1;
-      n_bound = omega arith;
-    }
+  bounded = c.requires.upto.1;
+  n_bound = omega arith;
+}
 
 pub returns-then-reaches_all : goal.returns-then-reaches_all
 returns-then-reaches_all c =
@@ -91,9 +91,9 @@ loop-step-preserved c =
 
 pub far_at-requires-2 : goal.far_at-requires-2
 far_at-requires-2 c = let s = c in let p = s.requires.upto.0 in record {
-      sound_halfspace = s.requires.sound_halfspace;
-      upto = (upto_held p.0 tt, rw (held p.1.size tt).eq p.1, omega arith);
-    }
+  sound_halfspace = s.requires.sound_halfspace;
+  upto = (upto_held p.0 tt, rw (held p.1.size tt).eq p.1, omega arith);
+}
 
 pub returns-then-far_at : goal.returns-then-far_at
 returns-then-far_at c =
@@ -115,9 +115,9 @@ least_far-requires-2 c =
 
 pub reaches_all-requires-2 : goal.reaches_all-requires-2
 reaches_all-requires-2 c = record {
-      bounded = c.requires.upto.1;
-      n_bound = c.least_far-2.ensures.most;
-    }
+  bounded = c.requires.upto.1;
+  n_bound = c.least_far-2.ensures.most;
+}
 
 pub returns : goal.returns
 returns c = by_the_least c.before.before.before.before.before.before c.least_far-2.result c.least_far-2.ensures c.reaches_all-2.ensures

@@ -72,48 +72,48 @@ middle_of-b-requires c = c.requires.small_trixel.0
 
 pub dot-c-requires : goal.dot-c-requires
 dot-c-requires c = record {
-      small = (sound_beside c.requires.sound_halfspace).small;
-      at_most = at_most_mono (lit≤ tt) c.middle_of-b.ensures.small;
-    }
+  small = (sound_beside c.requires.sound_halfspace).small;
+  at_most = at_most_mono (lit≤ tt) c.middle_of-b.ensures.small;
+}
 
 pub dot-square-requires : goal.dot-square-requires
 dot-square-requires c = let b = c.middle_of-b.ensures.small in record {
-      small = b;
-      at_most = at_most_mono (lit≤ tt) b;
-    }
+  small = b;
+  at_most = at_most_mono (lit≤ tt) b;
+}
 
 pub far_at-requires : goal.far_at-requires
 far_at-requires c = record {
-      sound_halfspace = c.requires.sound_halfspace;
-      upto = (upto_held (c_size c.before) tt, rw (held (b_rest c).size tt).eq (b_rest c), le_refl Kℕ);
-    }
+  sound_halfspace = c.requires.sound_halfspace;
+  upto = (upto_held (c_size c.before) tt, rw (held (b_rest c).size tt).eq (b_rest c), le_refl Kℕ);
+}
 
 pub returns-then-not-far_at : goal.returns-then-not-far_at
 returns-then-not-far_at c = let f = c.before in let s = f in sym (and_no_right (ahead (b_of s.args.t) s.args.t) (near_at_K s.requires.sound_halfspace s.args.t (at_K f (not-true _ c.if-not-far_at.true))))
 
 pub along-x0-requires : goal.along-x0-requires
 along-x0-requires c = let f = c in record {
-      small = f.middle_of-b.ensures.small;
-      at_most = ray_size f.requires.small_trixel.1.r0;
-    }
+  small = f.middle_of-b.ensures.small;
+  at_most = ray_size f.requires.small_trixel.1.r0;
+}
 
 pub returns-then-x0-le0 : goal.returns-then-x0-le0
 returns-then-x0-le0 c = let x = c.before in sym (and_no_left _ (behind_first x.args.t (first x) c.if-x0-le0.true))
 
 pub along-x1-requires : goal.along-x1-requires
 along-x1-requires c = let f = c in record {
-      small = f.middle_of-b.ensures.small;
-      at_most = ray_size f.requires.small_trixel.1.r1;
-    }
+  small = f.middle_of-b.ensures.small;
+  at_most = ray_size f.requires.small_trixel.1.r1;
+}
 
 pub returns-then-x1-le0 : goal.returns-then-x1-le0
 returns-then-x1-le0 c = let y = c.before in sym (and_no_left _ (behind_second y.args.t (second y) c.if-x1-le0.true))
 
 pub along-x2-requires : goal.along-x2-requires
 along-x2-requires c = let f = c in record {
-      small = f.middle_of-b.ensures.small;
-      at_most = ray_size f.requires.small_trixel.1.r2;
-    }
+  small = f.middle_of-b.ensures.small;
+  at_most = ray_size f.requires.small_trixel.1.r2;
+}
 
 pub returns-then-x2-le0 : goal.returns-then-x2-le0
 returns-then-x2-le0 c = let z = c.before in sym (and_no_left _ (behind_third (start_before_far_at (far_at_before_along3 z)).args.t (third z) c.if-x2-le0.true))

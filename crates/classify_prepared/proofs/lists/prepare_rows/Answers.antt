@@ -8,18 +8,18 @@ loop-i-init c = prepare_start _ _ _ _
 
 pub prepared_of-requires : goal.prepared_of-requires
 prepared_of-requires c = let l = c in record {
-      k_in_bounds = omega arith;
-      fit_row = l.requires.fit_rows l.loop-i.i (omega arith);
-    }
+  k_in_bounds = omega arith;
+  fit_row = l.requires.fit_rows l.loop-i.i (omega arith);
+}
 
 pub store-requires : goal.store-requires
 store-requires c = let l = c in omega (arith, l.loop-i.invariant.long)
 
 pub convex_of-requires : goal.convex_of-requires
 convex_of-requires c = let l = c in record {
-      k_in_bounds = omega arith;
-      fit_row = l.requires.fit_rows l.loop-i.i (omega arith);
-    }
+  k_in_bounds = omega arith;
+  fit_row = l.requires.fit_rows l.loop-i.i (omega arith);
+}
 
 pub offset_bounds-ends-convex_of : goal.offset_bounds-ends-convex_of
 offset_bounds-ends-convex_of c = omega (arith, c.convex_of.ensures.1)
@@ -40,6 +40,6 @@ shape_of-ends c = c.loop-i.invariant.wide
 
 pub returns : goal.returns
 returns c = let l = c in let both = prepare_end _ _ _ _ _ _ _ l.loop-i.invariant (omega arith) in record {
-      prepared_after = both.0;
-      ends_after = both.1;
-    }
+  prepared_after = both.0;
+  ends_after = both.1;
+}

@@ -25,9 +25,9 @@ returns-then-out-lt-CORNERS_LENGTH c =
 
 pub put_corners-requires : goal.put_corners-requires
 put_corners-requires c = let a = c.before.before.before in record {
-      in_bounds = omega (arith, c.if-out-lt-CORNERS_LENGTH.false);
-      small_corners = corners_small a.args.id _ (found a);
-    }
+  in_bounds = omega (arith, c.if-out-lt-CORNERS_LENGTH.false);
+  small_corners = corners_small a.args.id _ (found a);
+}
 
 pub shape_of-out : goal.shape_of-out
 shape_of-out c = c.put_corners.auto.0

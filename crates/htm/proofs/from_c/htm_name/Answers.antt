@@ -14,6 +14,6 @@ shape_of-out c = c.name.auto.1.0
 
 pub returns : goal.returns
 returns c = let l = c.number_or_minus.ensures in let n = c.name.ensures in record {
-      value = (held l.1 tt).eq ∙ l.0 ∙ ap number_for_c n.result_value;
-      out_after = n.out_after;
-    }
+  value = (held l.1 tt).eq ∙ l.0 ∙ ap number_for_c n.result_value;
+  out_after = n.out_after;
+}

@@ -14,6 +14,6 @@ shape_of-out c = c.write.auto.1.1.1.0
 
 pub returns : goal.returns
 returns c = let l = c.number_or_minus.ensures in let w = c.write.ensures in record {
-      value = (held l.1 tt).eq ∙ l.0 ∙ ap number_for_c w.result_value;
-      out_after = w.out_after;
-    }
+  value = (held l.1 tt).eq ∙ l.0 ∙ ap number_for_c w.result_value;
+  out_after = w.out_after;
+}

@@ -9,6 +9,6 @@ shape_of-index c = c.remove.auto.0
 
 pub returns : goal.returns
 returns c = let m = c.status.ensures in let a = c.remove.ensures in record {
-      value = (held m.1 tt).eq ∙ m.0 ∙ ap status_of a.result_value;
-      index_after = a.index_after;
-    }
+  value = (held m.1 tt).eq ∙ m.0 ∙ ap status_of a.result_value;
+  index_after = a.index_after;
+}
