@@ -1,5 +1,5 @@
 -- The plane lemma: where a direction p is in front of the plane of P and f reaches p by D, f is not beyond that plane by more than D allows.
--- With q = (P-as-P) f − (f·P) P: (P-as-P)(f·p) ≤ q·p, since f·P < 0 ≤ P·p, and q·q = (P-as-P)((P-as-P)(f·f) − (f·P)²) < (P-as-P)² D². So (f·p)² < D² (p·p).
+-- With q = (P·P) f − (f·P) P: (P·P)(f·p) ≤ q·p, since f·P < 0 ≤ P·p, and q·q = (P·P)((P·P)(f·f) − (f·P)²) < (P·P)² D². So (f·p)² < D² (p·p).
 -- An edge of a cone is in front of its three planes. Assumes nothing.
 use mathlib.Core.Path.{◌≡◌, refl, sym, subst}
 use mathlib.Core.List.{[], ◌∷◌}
@@ -12,7 +12,7 @@ use Rattle.algebra.proofs.Inequalities.{`0, `1, false_le, <ℤ→≤ℤ, <ℤ-by
 use Rattle.algebra.proofs.Vec.{V3, dot, cross, dot_e, cross_e, ring_v, cauchy_schwarz, dot_nn, difference_bound}
 use Rattle.algebra.proofs.Cone.{Reaches}
 
--- ---- of numbers: N = P-as-P, a = f·P, c = f·f, F = f·p, y = P·p, n = p·p
+-- ---- of numbers: N = P·P, a = f·P, c = f·f, F = f·p, y = P·p, n = p·p
 
 -- a is negative and a² ≤ c N: N is positive
 normal_positive : (N a c : ℤ) → pos 0 ≤ℤ c → a <ℤ pos 0 → (a *ℤ a) ≤ℤ (c *ℤ N) → pos 0 <ℤ N

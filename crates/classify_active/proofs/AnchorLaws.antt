@@ -1,5 +1,5 @@
--- A halfspace that is settled beside an anchor is settled so for every trixel that is close to it: from the anchor to the trixel's middle D-as-E − f·b and
--- f·b − G-as-E move by at most K for each step, since f is within ±K, D at most K and G at most 2K, so that what is beyond the margin is beyond the clearance.
+-- A halfspace that is settled beside an anchor is settled so for every trixel that is close to it: from the anchor to the trixel's middle D·E − f·b and
+-- f·b − G·E move by at most K for each step, since f is within ±K, D at most K and G at most 2K, so that what is beyond the margin is beyond the clearance.
 -- Assumes nothing.
 use Prim.Native.Nat.{◌+◌, ◌*◌}
 use native.Mathlib.Omega.{arith}

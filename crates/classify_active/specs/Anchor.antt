@@ -1,5 +1,5 @@
--- A halfspace is settled once, at a trixel's middle, for every trixel whose middle is close to it. Document 01, 'Classifying': D-as-E − f·b and
--- f·b − G-as-E change by at most K for a step of b by one, and by at most 2K for a step of E by one (proofs/AnchorLaws).
+-- A halfspace is settled once, at a trixel's middle, for every trixel whose middle is close to it. Document 01, 'Classifying': D·E − f·b and
+-- f·b − G·E change by at most K for a step of b by one, and by at most 2K for a step of E by one (proofs/AnchorLaws).
 --   IsAnchor r     the numbers of r are in range
 --   anchor_in ps    the anchor of five numbers: b, E and the margin
 --   steps_to r m    the steps from r to the middle of m: those of b by component, and those of E, counted twice

@@ -1,4 +1,4 @@
--- The test `beyond_edge` by what was prepared: (P-as-P)·D² + (f·P)² > (P-as-P)·(f·f) is (P-as-P)(f·f − D²) < (f·P)². Where D is 0 it never holds, by Cauchy and
+-- The test `beyond_edge` by what was prepared: (P·P)·D² + (f·P)² > (P·P)·(f·f) is (P·P)(f·f − D²) < (f·P)². Where D is 0 it never holds, by Cauchy and
 -- Schwarz. And the class by the edges, one after the other. Assumes nothing.
 use Prim.Native.Nat.{◌*◌, ◌/◌}
 use mathlib.Core.Path.{◌≡◌, refl, sym, subst, ◌∙◌}
@@ -26,7 +26,7 @@ use Rattle.classify_halfspace.specs.Halfspaces.{class_apart, edges_class}
 use Rattle.classify_halfspace.proofs.ClassLaws.{is_beyond, not_beyond}
 use Rattle.classify.specs.declared.Class.TheVariants.{Partial}
 
--- ---- of numbers: a = f·P, N = P-as-P, c = f·f
+-- ---- of numbers: a = f·P, N = P·P, c = f·f
 
 turned : (a : ℤ) → positive (pos 0 -ℤ a) ≡ lt_z a (pos 0)
 turned a = same_lt_tests

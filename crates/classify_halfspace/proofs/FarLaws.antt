@@ -44,7 +44,7 @@ reach_pos : {t : Trixel} {m : BoundingCap} → IsBoundingCap t m → m.ahead ≡
 reach_pos {t} k a = ap (λ y. pos (nat_abs y)) (k.reach a) ∙ E_pos t ∙ sym (k.reach a)
 
 module _ {q : PreparedHalfspace} {t : Trixel} {m : BoundingCap} (h : SoundHalfspace q) (k : IsBoundingCap t m) (a : m.ahead ≡ true) {z : ℤ} where
-  -- z is D-as-E − c
+  -- z is D·E − c
   pub far_is : z ≡ q.low *ℤ m.reach -ℤ dot q.f m.b → positive z && lt_z (q.rest *ℤ m.rest) (z *ℤ z) ≡ far q.f q.low (b_of t) (EOf t)
   far_is e =
       let past : z ≡ q.low *ℤ EOf t -ℤ dot q.f (b_of t) = e ∙ (λ i. q.low *ℤ k.reach a i -ℤ dot q.f (k.b i)) in
@@ -61,12 +61,12 @@ module _ {q : PreparedHalfspace} {t : Trixel} {m : BoundingCap} (h : SoundHalfsp
     pub far_beyond : z ≡ q.low *ℤ m.reach -ℤ dot q.f m.b → true ≡ far q.f q.low (b_of t) (EOf t)
     far_beyond e = sym squares ∙ far_is e
 
-  -- z is f·b − G-as-E
+  -- z is f·b − G·E
   module _ (e : z ≡ dot q.f m.b -ℤ q.high *ℤ m.reach) where
     past : z ≡ dot q.f (b_of t) -ℤ q.high *ℤ EOf t
     past = e ∙ (λ i. dot q.f (k.b i) -ℤ q.high *ℤ k.reach a i)
 
-    -- S-as-G ≤ M-as-E
+    -- S·G ≤ M·E
     abbrev edges : Bool
     edges = le_z ((dot (b_of t) (b_of t) -ℤ square (EOf t)) *ℤ q.high) ((dot q.f (b_of t) -ℤ q.high *ℤ EOf t) *ℤ EOf t)
 

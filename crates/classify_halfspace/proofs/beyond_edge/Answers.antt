@@ -1,4 +1,4 @@
--- `classify_halfspace::beyond_edge` compares (f·P)² with (P-as-P)(f·f − D²), where f·P is negative. Assumes nothing.
+-- `classify_halfspace::beyond_edge` compares (f·P)² with (P·P)(f·f − D²), where f·P is negative. Assumes nothing.
 use Prim.Native.Nat.{◌+◌, ◌*◌}
 use mathlib.Core.Path.{sym, ap, subst, ◌∙◌}
 use mathlib.Core.Bool.{◌&&◌}
@@ -25,7 +25,7 @@ normal_small c = subst Small (sym c.vec_in-p.ensures) c.requires.k_in_bounds.1
 along : (c : goal.After-dot-behind) → Upto (Kℕ * Kℕ + Kℕ * Kℕ + Kℕ * Kℕ) c.dot-behind.result
 along c = subst (Upto (Kℕ * Kℕ + Kℕ * Kℕ + Kℕ * Kℕ)) (sym c.dot-behind.ensures.value) (dot_upto (sound_small c.requires.sound_halfspace) (normal_small c.before))
 
--- P-as-P
+-- P·P
 normal : (c : goal.After-dot) → Rest c.dot.result
 normal c = subst Rest (sym c.dot.ensures.value) (normal_rest (normal_small c.before.before))
 

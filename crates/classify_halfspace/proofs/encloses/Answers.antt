@@ -76,7 +76,7 @@ overflow_mul-inward-2 c =
 pub overflow_mul-m : goal.overflow_mul-m
 overflow_mul-m c = let e = c.before.before.before.before.before.before.before.before.before.before.before.before.before.before.before.before.before.before.before in fits_mul (held (rest e) tt) (held (sound_near e.requires.sound_halfspace) tt) tt
 
--- M-as-E against S-as-G, by the numbers themselves
+-- M·E against S·G, by the numbers themselves
 pub returns-then-inward-m : goal.returns-then-inward-m
 returns-then-inward-m c =
     let d = c.before.before.before.before.before.before.before.before.before.before.before.before.before.before.before.before.before in

@@ -1,4 +1,4 @@
--- `classify_halfspace::far` is the test: D-as-E − c stays below 2⁶³. Assumes nothing.
+-- `classify_halfspace::far` is the test: D·E − c stays below 2⁶³. Assumes nothing.
 use Prim.Native.Nat.{◌+◌, ◌*◌}
 use mathlib.Core.Path.{ap, subst, sym, ◌∙◌}
 use mathlib.Core.Bool.{◌&&◌}
