@@ -64,7 +64,7 @@ fn square_exceeds(x: i64, p: i64, q: i64) -> bool
     square_passes(x as u64, p as u64, q as u64)
 }
 
-// Whether b is ahead of the rays, D.E − c > 0 and (D.E − c)² > (f·f − D²)(b·b − E²), with c = f·b.
+// Whether b is ahead of the rays, D·E − c > 0 and (D·E − c)² > (f·f − D²)(b·b − E²), with c = f·b.
 fn far(q: PreparedHalfspace, t: Trixel, m: BoundingCap) -> bool
     requires sound_halfspace { SoundHalfspace q }
     requires bounding_cap { IsBoundingCap t m }
@@ -82,8 +82,8 @@ fn far(q: PreparedHalfspace, t: Trixel, m: BoundingCap) -> bool
     square_exceeds(past, q.rest, m.rest)
 }
 
-// Whether b is ahead of the rays and its cap by E lies in that of f and G, by a test that is enough: with M = f·b − G.E and S = b·b − E² it asks that
-// both are positive, S.G ≤ M.E and (f·f − D²) S < M².
+// Whether b is ahead of the rays and its cap by E lies in that of f and G, by a test that is enough: with M = f·b − G·E and S = b·b − E² it asks that
+// both are positive, S·G ≤ M·E and (f·f − D²) S < M².
 fn encloses(q: PreparedHalfspace, t: Trixel, m: BoundingCap) -> bool
     requires sound_halfspace { SoundHalfspace q }
     requires bounding_cap { IsBoundingCap t m }
