@@ -1,4 +1,3 @@
-use Prim.Native.Nat.{◌-◌}
 use native.Mathlib.Omega.{arith}
 use mathlib.Core.Path.{◌≡◌, sym, ap, ◌∙◌}
 use lib.ListN.{get_or, drop}
@@ -18,7 +17,7 @@ row : (c : After-with_row-r) → let l = c in let rs = l.args.rows.now in
     (g : Region) → region_size g ≡ l.loop-i.at → region_size_given c.with_row-r.result ≡ with_value region_size (row_in g (get_or rs l.loop-i.i (pos 0)) (halfspace_at (drop l.loop-i.i rs)))
 row c g e =
     let l = c.before.before.before.before in
-    let number = to_z-of_z {w = w32} {z = get_or l.args.rows.now l.loop-i.i (pos 0)} (record { sfits = c.with_row-arg-1.given }) in
+    let number = to_z-of_z {w = w32} {z = get_or l.args.rows.now l.loop-i.i (pos 0)} (record { sfits = omega arith }) in
     c.with_row-r.ensures g e ∙ (λ j. with_value region_size (row_in g (number j) (c.halfspace_at.ensures.value j)))
 
 pub loop-i-init : goal.loop-i-init

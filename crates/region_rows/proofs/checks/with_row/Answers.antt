@@ -1,7 +1,6 @@
 -- The code makes the checks of a row in the rule's order, by the size: the number, the convexes, then the halfspace. Assumes nothing.
 use mathlib.Core.Path.{◌≡◌, sym, ap, ◌∙◌}
 use mathlib.Core.Bool.{Bool}
-use borrow.Author.Tests.{not-true, not-false}
 use mir.Facts.{to_z-of_z}
 use Rattle.answer.specs.Answer.{Answer, then, with_value}
 use Rattle.region.specs.Regions.{Region}

@@ -4,7 +4,7 @@ use native.Mathlib.Omega.{arith}
 use mathlib.Core.Path.{◌≡◌, sym, ap, ◌∙◌}
 use mathlib.Core.Bool.{Bool, true, ◌&&◌}
 use lib.Dec.{ltb}
-use borrow.Author.Tests.{ltb-true, not-true, not-false}
+use borrow.Author.Tests.{ltb-true}
 use mir.Syntax.{w64}
 use mir.Facts.{to_z-of_z}
 use Rattle.algebra.proofs.Tests.{and_left, and_right}
@@ -29,7 +29,7 @@ vector c = sym c.is_vector.ensures ∙ c.if-not-is_vector.false
 offset : (c : After-is_offset) (t : Bool) → c.is_offset.result ≡ t → is_offset c.args.h.d ≡ t
 offset c t e =
     let d = c.args.h.d in
-    ap is_offset (sym (to_z-of_z {w = w64} {z = d} (record { sfits = c.struct_told-1.given.1.0.1 }))) ∙ sym c.is_offset.ensures ∙ e
+    ap is_offset (sym (to_z-of_z {w = w64} {z = d} (record { sfits = omega arith }))) ∙ sym c.is_offset.ensures ∙ e
 
 pub returns-then-not-below_limits : goal.returns-then-not-below_limits
 unfolding add_halfspace
