@@ -3,7 +3,6 @@ use native.Mathlib.Omega.{arith}
 use mathlib.Core.Path.{◌≡◌, sym, ap, ◌∙◌}
 use mathlib.Core.Bool.{true}
 use lib.ListN.{drop}
-use borrow.Author.Tests.{not-true, not-false}
 use Rattle.answer.specs.Answer.{Answer}
 use Rattle.region.specs.declared.Record.{Record}
 use Rattle.region.specs.Reader.{whole}

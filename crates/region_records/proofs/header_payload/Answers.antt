@@ -1,6 +1,5 @@
 -- `region_records::header_payload` checks 5, then 6, and gives the two words. Assumes nothing.
 use mathlib.Core.Path.{sym, ◌∙◌}
-use borrow.Author.Tests.{not-true, not-false}
 use Rattle.region_records.proofs.HeaderLaws.{payload_depth, payload_budget, payload_header}
 use Rattle.region_records.proofs.header_payload.Goals as goal
 
