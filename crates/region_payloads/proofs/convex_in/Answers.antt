@@ -1,6 +1,5 @@
 -- `region_payloads::convex_in` checks 4, and then counts the convex. Assumes nothing.
 use mathlib.Core.Path.{sym, ◌∙◌}
-use borrow.Author.Tests.{not-true, not-false}
 use Rattle.region_payloads.proofs.OutcomeLaws.{convex_order, convex_more}
 use Rattle.region_payloads.proofs.convex_in.Goals as goal
 

@@ -56,7 +56,7 @@ pub returns : goal.returns
 returns c =
     let v = c.args in
     let at = 5 * v.k.all in
-    let k = to_z_pos w32 {n = v.k.convexes - 1} (omega (arith, c.struct_known-1.given)) in
+    let k = to_z_pos w32 {n = v.k.convexes - 1} (omega arith) in
     let n = small (goal.at.returns c).Start in
     (λ i. set (set (set (set (set v.rows.now at (k i)) (at + 1) (same_narrower n.x tt i)) (at + 2) (same_narrower n.y tt i)) (at + 3) (same_narrower n.z tt i)) (at + 4) (same_narrower (offset (goal.at.returns c).Start) tt i))
     ∙ stored_put at (row (v.k.convexes - 1) v.h) v.rows.now c.requires.convexes_nonzero.1
