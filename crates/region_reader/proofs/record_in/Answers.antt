@@ -5,7 +5,6 @@ use mathlib.Core.Path.{◌≡◌, sym, ap, ◌∙◌}
 use mathlib.Core.Bool.{true}
 use mathlib.Core.List.{List}
 use lib.ListN.{length, take, drop, length-take, length-drop}
-use borrow.Author.Tests.{not-true, not-false}
 use Rattle.answer.specs.Answer.{gives, Order, Mixed}
 use Rattle.region.specs.declared.Record.{Record}
 use Rattle.region.specs.Records.{size, Styles, fits}

@@ -1,4 +1,3 @@
-use Prim.Native.Nat.{◌-◌}
 use native.Mathlib.Omega.{arith}
 use mathlib.Core.Path.{◌∙◌}
 use Rattle.region_reader.proofs.ReadingLaws.{reading_none, reading_further, reading_more, reading_done, reading_refused}
