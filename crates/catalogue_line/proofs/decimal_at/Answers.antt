@@ -10,12 +10,10 @@ overflow_add-at c = let a = c.args in omega (arith, inside a.line.now a.at (omeg
 
 pub returns-then-byte_at-eq45 : goal.returns-then-byte_at-eq45
 returns-then-byte_at-eq45 c =
-    let b = c in
-    let a = b.args in
-    c.unsigned_at.ensures ∙ ap valued (minus_there a.line.now a.at (sym b.byte_at.ensures ∙ c.if-byte_at-eq45.true))
+    let a = c.args in
+    c.unsigned_at.ensures ∙ ap valued (minus_there a.line.now a.at (sym c.byte_at.ensures ∙ c.if-byte_at-eq45.true))
 
 pub returns : goal.returns
 returns c =
-    let b = c in
-    let a = b.args in
-    c.unsigned_at-2.ensures ∙ ap valued (no_minus_there a.line.now a.at (λ e. c.if-byte_at-eq45.false (b.byte_at.ensures ∙ e)))
+    let a = c.args in
+    c.unsigned_at-2.ensures ∙ ap valued (no_minus_there a.line.now a.at (λ e. c.if-byte_at-eq45.false (c.byte_at.ensures ∙ e)))

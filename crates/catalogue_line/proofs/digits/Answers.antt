@@ -4,13 +4,13 @@ use mathlib.Core.Path.{◌≡◌, sym, ap, ◌∙◌}
 use mathlib.Core.Bool.{true}
 use mathlib.Core.List.{List}
 use lib.ListN.{length, get_or}
-use borrow.Author.Tests.{not-true, not-false}
 use Rattle.catalogue_line.specs.Lines.{is_digit_to, digit0}
 use Rattle.catalogue_line.proofs.ReadingLaws.{none_read, power_small, all_read, no_digits_left, no_digit, one_more, digit_inside}
 use Rattle.catalogue_line.proofs.digits.Goals as goal
+use Rattle.catalogue_line.proofs.digits.Goals.{Else-not-is_digit}
 
 -- a digit was read
-module _ (c : goal.Else-not-is_digit) where
+module _ (c : Else-not-is_digit) where
   abbrev line : List ℕ
   line = c.args.line.now
 
@@ -21,7 +21,7 @@ module _ (c : goal.Else-not-is_digit) where
   byte = c.byte_at-b.ensures
 
   is_one : is_digit_to 9 (get_or line next 0) ≡ true
-  is_one = ap (is_digit_to 9) (sym byte) ∙ sym c.is_digit.ensures ∙ not-false _ c.if-not-is_digit.false
+  is_one = ap (is_digit_to 9) (sym byte) ∙ sym c.is_digit.ensures ∙ c.if-not-is_digit.false
 
   there : (next < length line) × (digit0 ≤ c.byte_at-b.result) × (c.byte_at-b.result ≤ digit0 + 9)
   there =
@@ -65,7 +65,6 @@ returns-after-loop-left c =
 
 pub returns-then-not-is_digit : goal.returns-then-not-is_digit
 returns-then-not-is_digit c =
-    let t = c in
-    let l = t.loop-left in
-    all_read _ _ _ _ _ _ _ l.invariant (no_digit l.next t.args.line.now l.left
-    (ap (is_digit_to 9) (sym t.byte_at-b.ensures) ∙ sym c.is_digit.ensures ∙ not-true _ c.if-not-is_digit.true))
+    let l = c.loop-left in
+    all_read _ _ _ _ _ _ _ l.invariant (no_digit l.next c.args.line.now l.left
+    (ap (is_digit_to 9) (sym c.byte_at-b.ensures) ∙ sym c.is_digit.ensures ∙ c.if-not-is_digit.true))

@@ -7,8 +7,9 @@ use lib.ListN.{length, get_or}
 use Rattle.catalogue_line.specs.Lines.{line_feed}
 use Rattle.catalogue_line.proofs.ReadingLaws.{inside, ended, not_ended}
 use Rattle.catalogue_line.proofs.ends_at.Goals as goal
+use Rattle.catalogue_line.proofs.ends_at.Goals.{Then-byte_at-eq10}
 
-module _ (c : goal.Then-byte_at-eq10) where
+module _ (c : Then-byte_at-eq10) where
   abbrev line : List ℕ
   line = c.args.line.now
 

@@ -10,9 +10,8 @@ overflow_add-at c = let a = c.args in omega (arith, inside a.line.now a.at (omeg
 
 pub returns-then-byte_at-eq32 : goal.returns-then-byte_at-eq32
 returns-then-byte_at-eq32 c =
-    let b = c in
-    let a = b.args in
-    c.decimal_at.ensures ∙ ap valued (blank_there a.line.now a.at (sym b.byte_at.ensures ∙ c.if-byte_at-eq32.true))
+    let a = c.args in
+    c.decimal_at.ensures ∙ ap valued (blank_there a.line.now a.at (sym c.byte_at.ensures ∙ c.if-byte_at-eq32.true))
 
 pub returns : goal.returns
 returns c =

@@ -1,6 +1,6 @@
 -- The decimals one after another, each from where the last one ended. Assumes nothing.
+use native.Mathlib.Omega.{arith}
 use Prim.Native.Nat.{◌^◌, ◌<◌}
-use borrow.Author.Tests.{not-true, not-false}
 use mathlib.Core.Path.{◌≡◌, refl, sym, ap, ◌∙◌}
 use lib.IntN.{ℤ}
 use lib.Signed.{mag}
@@ -14,71 +14,59 @@ use Rattle.catalogue_line.specs.Lines.{pointing_in}
 use Rattle.catalogue_line.specs.Reading.{read_given}
 use Rattle.catalogue_line.proofs.ReadingLaws.{after_x, after_y, after_z, by_values}
 use Rattle.catalogue_line.proofs.pointing_in.Goals as goal
+use Rattle.catalogue_line.proofs.pointing_in.Goals.{After-decimal_at, After-next_at, After-next_at-2, After-ends_at}
 
 -- after the first decimal
-first : (c : goal.After-decimal_at) → let l = c.args.line.now in pointing_in l ≡ after_x (read_given l c.decimal_at.result)
+first : (c : After-decimal_at) → let l = c.args.line.now in pointing_in l ≡ after_x (read_given l c.decimal_at.result)
 first c = by_values c.args.line.now ∙ ap after_x (sym c.decimal_at.ensures)
 
 -- after the second
-second : (c : goal.After-next_at) → let x = c.before.before in let l = x.args.line.now in
-    pointing_in l ≡ after_y x.in-Is.x (read_given l c.next_at.result)
-second c =
-    let x = c.before.before in
-    let d = x.before.before in
-    first d ∙ ap (λ r. after_x (read_given d.args.line.now r)) x.in-Is.is ∙ ap (after_y x.in-Is.x) (sym c.next_at.ensures)
+second : (c : After-next_at) → let l = c.args.line.now in
+    pointing_in l ≡ after_x (read_given l c.decimal_at.result) → pointing_in l ≡ after_y c.in-Is.x (read_given l c.next_at.result)
+second c e = e ∙ ap (λ r. after_x (read_given c.args.line.now r)) c.in-Is.is ∙ ap (after_y c.in-Is.x) (sym c.next_at.ensures)
 
 -- after the third
-third : (c : goal.After-next_at-2) → let y = c.before.before in let x = y.before.before.before.before in let l = x.args.line.now in
-    pointing_in l ≡ after_z x.in-Is.x y.in-Is-next_at.y (read_given l c.next_at-2.result)
-third c =
-    let y = c.before.before in
-    let d = y.before.before in
-    let x = d in
-    let l = x.args.line.now in
-    second d ∙ ap (λ r. after_y x.in-Is.x (read_given l r)) y.in-Is-next_at.is ∙ ap (after_z x.in-Is.x y.in-Is-next_at.y) (sym c.next_at-2.ensures)
+third : (c : After-next_at-2) → let l = c.args.line.now in
+    pointing_in l ≡ after_y c.in-Is.x (read_given l c.next_at.result) → pointing_in l ≡ after_z c.in-Is.x c.in-Is-next_at.y (read_given l c.next_at-2.result)
+third c e =
+    e ∙ ap (λ r. after_y c.in-Is.x (read_given c.args.line.now r)) c.in-Is-next_at.is ∙ ap (after_z c.in-Is.x c.in-Is-next_at.y) (sym c.next_at-2.ensures)
 
 -- after the end
-end : (c : goal.After-ends_at) → let z = c.before.before in let y = z.before.before.before.before in let x = y in
-    pointing_in x.args.line.now ≡ check answer.Line c.ends_at.result (gives (vec x.in-Is.x y.in-Is-next_at.y z.in-Is-next_at-2.z))
-end c =
-    let z = c.before.before in
-    let d = z.before.before in
-    let y = d.before.before in
-    let x = y.before.before.before.before in
-    let l = x.args.line.now in
-    let p = vec x.in-Is.x y.in-Is-next_at.y z.in-Is-next_at-2.z in
-    third d ∙ ap (λ r. after_z x.in-Is.x y.in-Is-next_at.y (read_given l r)) z.in-Is-next_at-2.is ∙ ap (λ t. check answer.Line t (gives p)) (sym c.ends_at.ensures)
+end : (c : After-ends_at) → let l = c.args.line.now in
+    pointing_in l ≡ after_z c.in-Is.x c.in-Is-next_at.y (read_given l c.next_at-2.result)
+    → pointing_in l ≡ check answer.Line c.ends_at.result (gives (vec c.in-Is.x c.in-Is-next_at.y c.in-Is-next_at-2.z))
+end c e =
+    let p = vec c.in-Is.x c.in-Is-next_at.y c.in-Is-next_at-2.z in
+    e
+    ∙ ap (λ r. after_z c.in-Is.x c.in-Is-next_at.y (read_given c.args.line.now r)) c.in-Is-next_at-2.is
+    ∙ ap (λ t. check answer.Line t (gives p)) (sym c.ends_at.ensures)
 
 -- a value that was read fits its word
 same : (v : ℤ) → mag v < 2 ^ 63 → to_z w64 (of_z w64 v) ≡ v
-same v h = to_z-of_z (record { sfits = h })
+same v h = to_z-of_z {w = w64} (record { sfits = h })
 
 pub returns-in_default : goal.returns-in_default
 returns-in_default c =
-    let d = c.before.before in
-    sym (first d ∙ ap (λ r. after_x (read_given d.args.line.now r)) c.in_default.is)
+    sym (first (goal.at.returns-in_default c).After-decimal_at ∙ ap (λ r. after_x (read_given c.args.line.now r)) c.in_default.is)
 
 pub returns-in_default-next_at : goal.returns-in_default-next_at
 returns-in_default-next_at c =
-    let d = c.before.before in
-    let x = d in
-    sym (second d ∙ ap (λ r. after_y x.in-Is.x (read_given x.args.line.now r)) c.in_default-next_at.is)
+    let p = goal.at.returns-in_default-next_at c in
+    sym (second p.After-next_at (first p.After-decimal_at) ∙ ap (λ r. after_y c.in-Is.x (read_given c.args.line.now r)) c.in_default-next_at.is)
 
 pub returns-in_default-next_at-2 : goal.returns-in_default-next_at-2
 returns-in_default-next_at-2 c =
-    let d = c.before.before in
-    let y = d.before.before in
-    let x = y in
-    let l = x.args.line.now in
-    sym (third d ∙ ap (λ r. after_z x.in-Is.x y.in-Is-next_at.y (read_given l r)) c.in_default-next_at-2.is)
+    let p = goal.at.returns-in_default-next_at-2 c in
+    let l = c.args.line.now in
+    sym (third p.After-next_at-2 (second p.After-next_at (first p.After-decimal_at)) ∙ ap (λ r. after_z c.in-Is.x c.in-Is-next_at.y (read_given l r)) c.in_default-next_at-2.is)
 
 pub returns-then-not-ends_at : goal.returns-then-not-ends_at
-returns-then-not-ends_at c = sym (end c.before ∙ rw (not-true c.ends_at.result c.if-not-ends_at.true) refl)
+returns-then-not-ends_at c =
+    let p = goal.at.returns-then-not-ends_at c in
+    sym (end p.After-ends_at (third p.After-next_at-2 (second p.After-next_at (first p.After-decimal_at))) ∙ rw c.if-not-ends_at.true refl)
 
 pub returns : goal.returns
 returns c =
-    let z = c.before.before in
-    let y = z.before.before.before.before in
-    let x = y in
-    rw (same x.in-Is.x x.known_told-1.given.0.1, same y.in-Is-next_at.y y.known_told-in-Is-next_at-1.given.0.1, same z.in-Is-next_at-2.z z.known_told-in-Is-next_at-2-1.given.0.1)
-    (sym (end c.before ∙ rw (not-false c.ends_at.result c.if-not-ends_at.false) refl))
+    let p = goal.at.returns c in
+    rw (same c.in-Is.x (omega arith), same c.in-Is-next_at.y (omega arith), same c.in-Is-next_at-2.z (omega arith))
+    (sym (end p.After-ends_at (third p.After-next_at-2 (second p.After-next_at (first p.After-decimal_at))) ∙ rw c.if-not-ends_at.false refl))

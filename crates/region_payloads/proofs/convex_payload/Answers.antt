@@ -7,5 +7,4 @@ use Rattle.region_payloads.proofs.convex_payload.Goals as goal
 
 pub returns : goal.returns
 returns c x e =
-    let k = c in
-    c.counted.ensures ∙ ap (outcome_given _) (k.convex_in_law.ensures x e) ∙ outcome_counted k.args.next (convex_in x)
+    c.counted.ensures ∙ ap (outcome_given _) (c.convex_in.ensures x e) ∙ outcome_counted c.args.next (convex_in x)

@@ -13,34 +13,27 @@ use Rattle.region_payloads.proofs.group_payload.Goals as goal
 
 pub returns-then-begun-n-gt-HALFSPACES : goal.returns-then-begun-n-gt-HALFSPACES
 returns-then-begun-n-gt-HALFSPACES c =
-    let g = c.before.before.before in
-    let o = g in
-    let a = o.args in
+    let a = c.args in
     let n = halfspaces_count (length a.payload.now / 16) a.payload.now in
     counted_taken (refused Crowd) refl
-    (group_crowd a.s.counts (group_of a.payload.now) a.rows-1.now _ o.convex_in_law.ensures _ (ap region_size_given g.in-Gives.is) (omega arith))
+    (group_crowd a.s.counts (group_of a.payload.now) a.rows.now _ c.convex_in-c.ensures _ (ap region_size_given c.in-Gives.is) (omega arith))
 
 pub halfspaces_in-requires : goal.halfspaces_in-requires
 halfspaces_in-requires c = (omega arith, c.requires)
 
 pub shape_of-rows : goal.shape_of-rows
-shape_of-rows c = c.before.before.halfspaces_in_law.auto.1.1.1.0
+shape_of-rows c = c.halfspaces_in.auto.rows
 
 pub returns-else-begun-n-gt-HALFSPACES : goal.returns-else-begun-n-gt-HALFSPACES
 returns-else-begun-n-gt-HALFSPACES c =
-    let h = c.before.before in
-    let e = h.before.before in
-    let g = e.before.before.before in
-    let o = g in
-    let a = o.args in
+    let a = c.args in
     let n = halfspaces_count (length a.payload.now / 16) a.payload.now in
     counted_taken _ c.counted.ensures
-    (group_all a.s.counts (group_of a.payload.now) a.rows-1.now _ o.convex_in_law.ensures _ (ap region_size_given g.in-Gives.is) (omega arith) _ _
-    h.halfspaces_in_law.ensures)
+    (group_all a.s.counts (group_of a.payload.now) a.rows.now _ c.convex_in-c.ensures _ (ap region_size_given c.in-Gives.is) (omega arith) _ _
+    c.halfspaces_in.ensures)
 
 pub returns-in-Refused : goal.returns-in-Refused
 returns-in-Refused c =
-    let o = c in
-    let a = o.args in
+    let a = c.args in
     counted_taken (refused c.in-Refused.m) refl
-    (group_refused a.s.counts (group_of a.payload.now) a.rows-1.now _ o.convex_in_law.ensures _ (ap region_size_given c.in-Refused.is))
+    (group_refused a.s.counts (group_of a.payload.now) a.rows.now _ c.convex_in-c.ensures _ (ap region_size_given c.in-Refused.is))

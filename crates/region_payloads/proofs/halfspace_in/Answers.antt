@@ -7,13 +7,14 @@ use Rattle.region_rows.specs.RegionSizes.{region_size_given, add_halfspace}
 use Rattle.region_rows.proofs.CountLaws.{halfspace_passed}
 use Rattle.region_payloads.proofs.OutcomeLaws.{halfspace_order, halfspace_refused, halfspace_more}
 use Rattle.region_payloads.proofs.halfspace_in.Goals as goal
+use Rattle.region_payloads.proofs.halfspace_in.Goals.{In-Gives, Else-k-eq0}
 
 -- the halfspace is counted
-more : (c : goal.In-Gives) → let w = c in
+more : (c : In-Gives) → let w = c in
     gives c.in-Gives.with ≡ add_halfspace w.args.k w.args.h
 more c = sym (ap region_size_given c.in-Gives.is) ∙ c.with_halfspace-c.ensures
 
-begun : (c : goal.Else-k-eq0) → 0 < c.args.k.convexes
+begun : (c : Else-k-eq0) → 0 < c.args.k.convexes
 begun c = omega arith
 
 pub returns-then-k-eq0 : goal.returns-then-k-eq0
@@ -21,22 +22,19 @@ returns-then-k-eq0 c x before st = halfspace_order _ _ x before _ st (omega arit
 
 pub write_row-requires : goal.write_row-requires
 write_row-requires c =
-    let t = c.before in
-    let p = halfspace_passed _ _ _ (sym (more t)) in
+    let p = halfspace_passed _ _ _ (sym (more (goal.at.write_row-requires c).In-Gives)) in
     record {
       good_halfspace = p.0;
-      convexes_nonzero = (begun t.before.before.before.before, omega (arith, p.1));
+      convexes_nonzero = (begun (goal.at.write_row-requires c).Else-k-eq0, omega (arith, p.1));
     }
 
 pub shape_of-rows : goal.shape_of-rows
-shape_of-rows c = c.write_row.auto.1.1.0
+shape_of-rows c = c.write_row.auto.rows
 
 pub returns-in-Gives : goal.returns-in-Gives
 returns-in-Gives c x before st =
-    let t = c.before.before.before in
-    halfspace_more _ _ x before _ st (begun t.before.before.before.before) _ (more t) _ c.write_row.ensures
+    halfspace_more _ _ x before _ st (begun (goal.at.returns-in-Gives c).Else-k-eq0) _ (more (goal.at.returns-in-Gives c).In-Gives) _ c.write_row.ensures
 
 pub returns-in-Refused : goal.returns-in-Refused
 returns-in-Refused c x before st =
-    let w = c.before.before.before in
-    halfspace_refused _ _ x before _ st (begun w.before) _ (sym (ap region_size_given c.in-Refused.is) ∙ w.with_halfspace-c.ensures)
+    halfspace_refused _ _ x before _ st (begun (goal.at.returns-in-Refused c).Else-k-eq0) _ (sym (ap region_size_given c.in-Refused.is) ∙ c.with_halfspace-c.ensures)

@@ -11,10 +11,8 @@ pub halfspace_in-requires : goal.halfspace_in-requires
 halfspace_in-requires c = c.requires.1
 
 pub shape_of-rows : goal.shape_of-rows
-shape_of-rows c = c.before.before.halfspace_in_law.auto.1.1.0
+shape_of-rows c = c.halfspace_in.auto.rows
 
 pub returns : goal.returns
 returns c =
-    let t = c.before.before in
-    let h = t in
-    counted_taken _ c.counted.ensures (λ x before st. counted_as (ap (halfspace_in x) h.halfspace_of-h.ensures) (t.halfspace_in_law.ensures x before st))
+    counted_taken _ c.counted.ensures (λ x before st. counted_as (ap (halfspace_in x) c.halfspace_of-h.ensures) (c.halfspace_in.ensures x before st))

@@ -1,4 +1,3 @@
-use Prim.Native.Nat.{◌-◌}
 use native.Mathlib.Omega.{arith}
 use mathlib.Core.Path.{◌≡◌, refl, ap, ◌∙◌}
 use lib.ListN.{get_or, set, length-set}
@@ -16,10 +15,10 @@ pub loop-i-preserved : goal.loop-i-preserved
 loop-i-preserved c =
     let a = c.args in
     let l = c.loop-i in
-    let v = to_z-of_z {w = w32} {z = get_or a.from.now l.i (pos 0)} (record { sfits = c.to-1.given }) in (
+    let v = to_z-of_z {w = w32} {z = get_or a.from.now l.i (pos 0)} (record { sfits = omega arith }) in (
       omega arith,
-      length-set l.to-1 l.i _ ∙ l.invariant.1,
-      (λ j. set (l.invariant.2 j) l.i (v j)) ∙ copied_more a.from.now a.to-1.now (pos 0) l.i (omega arith) (omega arith),
+      length-set l.to l.i _ ∙ l.invariant.1,
+      (λ j. set (l.invariant.2 j) l.i (v j)) ∙ copied_more a.from.now a.to.now (pos 0) l.i (omega arith) (omega arith),
     )
 
 pub shape_of-to : goal.shape_of-to
@@ -30,4 +29,4 @@ returns c =
     let a = c.args in
     let l = c.loop-i in
     let e : l.i ≡ a.n = omega arith in
-    l.invariant.2 ∙ ap (paste a.to-1.now 0 a.from.now) e ∙ copied_all a.from.now a.to-1.now a.n (omega arith)
+    l.invariant.2 ∙ ap (paste a.to.now 0 a.from.now) e ∙ copied_all a.from.now a.to.now a.n (omega arith)

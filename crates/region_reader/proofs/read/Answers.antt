@@ -5,45 +5,39 @@ use Rattle.region.specs.Reader as reader
 use Rattle.region.specs.Answers.{header_of, header_given}
 use Rattle.region_reader.proofs.ReadAnswers.{file_refused, no_room, count_most, rows_read}
 use Rattle.region_reader.proofs.read.Goals as goal
+use Rattle.region_reader.proofs.read.Goals.{In-Gives}
 
-says : (c : goal.In-Gives) → gives c.in-Gives.h ≡ with_value header_of (reader.read c.args.file.now)
+says : (c : In-Gives) → gives c.in-Gives.h ≡ with_value header_of (reader.read c.args.file.now)
 says c = sym (ap header_given c.in-Gives.is) ∙ c.decode-said.ensures.result_value
 
 pub returns-then-rows-n : goal.returns-then-rows-n
 returns-then-rows-n c =
-    let t = c.before.before in
-    let a = t.args in
-    let both = no_room a.file.now a.rows-1.now t.in-Gives.h (says t) c.if-rows-n.true in record {
+    let a = c.args in
+    let both = no_room a.file.now a.rows.now c.in-Gives.h (says (goal.at.returns-then-rows-n c).In-Gives) c.if-rows-n.true in record {
       result_value = both.0;
       rows_after = both.1;
     }
 
 pub copy_rows-requires : goal.copy_rows-requires
 copy_rows-requires c =
-    let e = c.before.before in
-    let t = e.before.before in
-    let a = t.args in
-    (count_most a.file.now a.rows-1.now t.in-Gives.h (says t), e.if-rows-n.false)
+    let a = c.args in
+    (count_most a.file.now a.rows.now c.in-Gives.h (says (goal.at.copy_rows-requires c).In-Gives), c.if-rows-n.false)
 
 pub shape_of-rows : goal.shape_of-rows
-shape_of-rows c = c.copy_rows.auto.1.1.0
+shape_of-rows c = c.copy_rows.auto.to
 
 pub returns-else-rows-n : goal.returns-else-rows-n
 returns-else-rows-n c =
-    let e = c.before.before.before.before in
-    let t = e.before.before in
-    let d = t in
-    let a = d.args in
-    let both = rows_read a.file.now a.rows-1.now t.in-Gives.h (says t) _ _ d.decode-said.ensures.rows_after e.if-rows-n.false _ c.copy_rows.ensures in record {
+    let a = c.args in
+    let both = rows_read a.file.now a.rows.now c.in-Gives.h (says (goal.at.returns-else-rows-n c).In-Gives) _ _ c.decode-said.ensures.rows_after c.if-rows-n.false _ c.copy_rows.ensures in record {
       result_value = both.0;
       rows_after = both.1;
     }
 
 pub returns-in-Refused : goal.returns-in-Refused
 returns-in-Refused c =
-    let d = c in
-    let a = d.args in
-    let both = file_refused a.file.now a.rows-1.now c.in-Refused.n (sym (ap header_given c.in-Refused.is) ∙ d.decode-said.ensures.result_value) in record {
+    let a = c.args in
+    let both = file_refused a.file.now a.rows.now c.in-Refused.n (sym (ap header_given c.in-Refused.is) ∙ c.decode-said.ensures.result_value) in record {
       result_value = both.0;
       rows_after = both.1;
     }

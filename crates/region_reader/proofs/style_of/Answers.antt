@@ -11,24 +11,14 @@ frame_at-frame-requires c = let b = c.requires in omega (arith, b.most, b.its_si
 
 pub returns-then-kind_of-eq5 : goal.returns-then-kind_of-eq5
 returns-then-kind_of-eq5 c =
-    let k = c.before in
-    let g = k.before.before in
-    let a = g.before.before in
-    let s = a in
-    style_found s.args.file.now s.requires _ _ (sym g.in-Of.is ∙ a.frame_at-frame.ensures) true
-    (eq-eqb _ 5 (sym k.kind_of.ensures.0 ∙ c.if-kind_of-eq5.true))
+    style_found c.args.file.now c.requires _ _ (sym c.in-Of.is ∙ c.frame_at-frame.ensures) true
+    (eq-eqb _ 5 (sym c.kind_of.ensures.0 ∙ c.if-kind_of-eq5.true))
 
 pub returns-in-Refused : goal.returns-in-Refused
 returns-in-Refused c =
-    let a = c.before.before in
-    let s = a in
-    style_refused s.args.file.now s.requires _ (sym c.in-Refused.is ∙ a.frame_at-frame.ensures)
+    style_refused c.args.file.now c.requires _ (sym c.in-Refused.is ∙ c.frame_at-frame.ensures)
 
 pub returns-else-kind_of-eq5 : goal.returns-else-kind_of-eq5
 returns-else-kind_of-eq5 c =
-    let k = c.before in
-    let g = k.before.before in
-    let a = g.before.before in
-    let s = a in
-    style_found s.args.file.now s.requires _ _ (sym g.in-Of.is ∙ a.frame_at-frame.ensures) false
-    (ne_eqb _ 5 (λ q. c.if-kind_of-eq5.false (k.kind_of.ensures.0 ∙ q)))
+    style_found c.args.file.now c.requires _ _ (sym c.in-Of.is ∙ c.frame_at-frame.ensures) false
+    (ne_eqb _ 5 (λ q. c.if-kind_of-eq5.false (c.kind_of.ensures.0 ∙ q)))

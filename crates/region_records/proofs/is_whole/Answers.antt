@@ -10,12 +10,10 @@ returns-then-left-lt4 c = let a = c.args in whole_short a.file.now a.at c.if-lef
 
 pub returns-then-len-ge4 : goal.returns-then-len-ge4
 returns-then-len-ge4 c =
-    let t = c in
-    let a = t.args in
-    and_then _ (le-leb 4 t.word-len.result c.if-len-ge4.true) ∙ whole_is a.file.now a.at t.word-len.result t.word-len.ensures.value t.if-left-lt4.false
+    let a = c.args in
+    and_then _ (le-leb 4 c.word-len.result c.if-len-ge4.true) ∙ whole_is a.file.now a.at c.word-len.result c.word-len.ensures.value c.if-left-lt4.false
 
 pub returns-else-len-ge4 : goal.returns-else-len-ge4
 returns-else-len-ge4 c =
-    let t = c in
-    let a = t.args in
-    and_else _ (lt-leb 4 t.word-len.result c.if-len-ge4.false) ∙ whole_is a.file.now a.at t.word-len.result t.word-len.ensures.value t.if-left-lt4.false
+    let a = c.args in
+    and_else _ (lt-leb 4 c.word-len.result c.if-len-ge4.false) ∙ whole_is a.file.now a.at c.word-len.result c.word-len.ensures.value c.if-left-lt4.false

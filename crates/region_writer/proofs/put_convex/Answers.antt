@@ -15,17 +15,15 @@ opening_size Style.Grouped = omega arith
 
 pub put_kind-requires : goal.put_kind-requires
 put_kind-requires c =
-    let s = c in
-    (omega (arith, s.requires.0), subst (λ r. size r < 65536) (sym c.opening.ensures) (opening_size s.args.style))
+    (omega (arith, c.requires.0), subst (λ r. size r < 65536) (sym c.opening.ensures) (opening_size c.args.style))
 
 pub shape_of-out : goal.shape_of-out
-shape_of-out c = c.put_kind.auto.0
+shape_of-out c = c.put_kind.auto.out
 
 pub returns : goal.returns
 returns c =
-    let k = c in
-    let a = k.args in
+    let a = c.args in
     record {
       value = refl;
-      out_after = k.put_kind.ensures ∙ ap (λ r. put a.p.at (begin r) a.out-1.now) k.opening.ensures;
+      out_after = c.put_kind.ensures ∙ ap (λ r. put a.p.at (begin r) a.out.now) c.opening.ensures;
     }

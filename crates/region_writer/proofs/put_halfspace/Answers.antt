@@ -15,24 +15,18 @@ overflow_add-next c = omega (arith, c.requires.style_in_bounds)
 
 pub put_kind-requires : goal.put_kind-requires
 put_kind-requires c =
-    let t = c.before in
-    let s = t in
-    (omega (arith, s.requires.style_in_bounds.0, ap width t.in-Plain.is), omega arith)
+    (omega (arith, c.requires.style_in_bounds.0, ap width c.in-Plain.is), omega arith)
 
 pub overflow_add-at : goal.overflow_add-at
 overflow_add-at c =
-    let t = c in
-    omega (arith, t.requires.style_in_bounds.0, ap width t.in-Plain.is)
+    omega (arith, c.requires.style_in_bounds.0, ap width c.in-Plain.is)
 
 pub put_numbers-requires : goal.put_numbers-requires
 put_numbers-requires c =
-    let k = c.before.before.before in
-    let t = k.before.before in
-    let s = t in
-    let both = (omega (arith, s.requires.style_in_bounds.0, ap width t.in-Plain.is, k.put_kind.auto.0), s.requires.small) in record {
-      at_in_bounds = both.0;
-      small = both.1.0;
-      upto = both.1.1;
+    record {
+      at_in_bounds = omega (arith, c.requires.style_in_bounds.0, ap width c.in-Plain.is, c.put_kind.auto.out);
+      small = c.requires.small;
+      upto = c.requires.upto;
     }
 
 pub put_kind-requires-in-Grouped : goal.put_kind-requires-in-Grouped
@@ -40,42 +34,31 @@ put_kind-requires-in-Grouped c = (omega arith, omega arith)
 
 pub put_numbers-requires-in-Grouped : goal.put_numbers-requires-in-Grouped
 put_numbers-requires-in-Grouped c =
-    let k = c.before.before.before in
-    let t = k.before.before.before in
-    let s = t in
-    let both = (omega (arith, s.requires.style_in_bounds.0, ap width t.in-Grouped.is, k.put_kind-in-Grouped.auto.0), s.requires.small) in record {
-      at_in_bounds = both.0;
-      small = both.1.0;
-      upto = both.1.1;
+    record {
+      at_in_bounds = omega (arith, c.requires.style_in_bounds.0, ap width c.in-Grouped.is, c.put_kind-in-Grouped.auto.out);
+      small = c.requires.small;
+      upto = c.requires.upto;
     }
 
 pub shape_of-out-in-Plain : goal.shape_of-out-in-Plain
-shape_of-out-in-Plain c = let n = c in n.put_numbers.auto.0 ∙ n.put_kind.auto.0
+shape_of-out-in-Plain c = c.put_numbers.auto.out ∙ c.put_kind.auto.out
 
 pub returns-in-Plain : goal.returns-in-Plain
 returns-in-Plain c =
-    let n = c.before.before in
-    let k = n.before.before.before.before in
-    let t = k.before.before in
-    let w = t in
-    let a = w.args in record {
-      value = (λ i. record { at = a.p.at + w.width.ensures.0 i; convexes = a.p.convexes; last = a.p.last + 1 });
-      out_after = put_next a.p.at (begin Record.Halfspace) (numbers_bytes a.h) a.out-1.now k.put_kind.ensures n.put_numbers.ensures refl (omega arith)
-          ∙ ap (λ s. with_halfspace_at s a.p a.h a.out-1.now) (sym t.in-Plain.is);
+    let a = c.args in record {
+      value = (λ i. record { at = a.p.at + c.width.ensures.0 i; convexes = a.p.convexes; last = a.p.last + 1 });
+      out_after = put_next a.p.at (begin Record.Halfspace) (numbers_bytes a.h) a.out.now c.put_kind.ensures c.put_numbers.ensures refl (omega arith)
+          ∙ ap (λ s. with_halfspace_at s a.p a.h a.out.now) (sym c.in-Plain.is);
     }
 
 pub shape_of-out-in-Grouped : goal.shape_of-out-in-Grouped
-shape_of-out-in-Grouped c = let n = c in n.put_numbers-in-Grouped.auto.0 ∙ n.put_kind-in-Grouped.auto.0
+shape_of-out-in-Grouped c = c.put_numbers-in-Grouped.auto.out ∙ c.put_kind-in-Grouped.auto.out
 
 pub returns-in-Grouped : goal.returns-in-Grouped
 returns-in-Grouped c =
-    let n = c.before.before in
-    let k = n.before.before.before.before in
-    let t = k.before.before.before in
-    let w = t in
-    let a = w.args in record {
-      value = (λ i. record { at = a.p.at + w.width.ensures.0 i; convexes = a.p.convexes; last = a.p.last + 1 });
-      out_after = n.put_numbers-in-Grouped.ensures
-          ∙ ap (put a.p.at (numbers_bytes a.h)) k.put_kind-in-Grouped.ensures
-          ∙ ap (λ s. with_halfspace_at s a.p a.h a.out-1.now) (sym t.in-Grouped.is);
+    let a = c.args in record {
+      value = (λ i. record { at = a.p.at + c.width.ensures.0 i; convexes = a.p.convexes; last = a.p.last + 1 });
+      out_after = c.put_numbers-in-Grouped.ensures
+          ∙ ap (put a.p.at (numbers_bytes a.h)) c.put_kind-in-Grouped.ensures
+          ∙ ap (λ s. with_halfspace_at s a.p a.h a.out.now) (sym c.in-Grouped.is);
     }

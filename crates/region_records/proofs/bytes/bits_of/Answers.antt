@@ -14,6 +14,7 @@ use Rattle.algebra.proofs.Sized.{held, lit, is_add, fits_add, same_lt}
 use Rattle.vector.specs.Numbers.{Kℕ}
 use Rattle.region.specs.Bytes.{bits_of}
 use Rattle.region_records.proofs.bytes.bits_of.Goals as goal
+use Rattle.region_records.proofs.bytes.bits_of.Goals.{Then-z-lt0, Else-z-lt0}
 
 fit : (z : ℤ) → Upto Kℕ z → bits_of z < 2 ^ 32
 fit (pos n) h = omega (arith, h.le)
@@ -31,12 +32,12 @@ not_below (negsuc n) e = absurd (true≢false e)
 cast : (z v : ℤ) → Upto Kℕ z → v ≡ pos (bits_of z) → T (non_neg v) × Fits w32 (nat_abs v)
 cast z v h e = subst (λ v. T (non_neg v) × Fits w32 (nat_abs v)) (sym e) (tt, record { fits = fit z h })
 
-added : (c : goal.Then-z-lt0) → to_z w64 (of_z w64 (pos 4294967296 +ℤ to_z w64 (of_z w64 c.args.z))) ≡ pos (bits_of c.args.z)
+added : (c : Then-z-lt0) → to_z w64 (of_z w64 (pos 4294967296 +ℤ to_z w64 (of_z w64 c.args.z))) ≡ pos (bits_of c.args.z)
 added c =
     let h = c.requires in
     (is_add (lit 4294967296 tt) (held h tt) tt).eq ∙ below c.args.z h (sym (same_lt (held h tt) (lit 0 tt)) ∙ c.if-z-lt0.true)
 
-kept : (c : goal.Else-z-lt0) → to_z w64 (of_z w64 c.args.z) ≡ pos (bits_of c.args.z)
+kept : (c : Else-z-lt0) → to_z w64 (of_z w64 c.args.z) ≡ pos (bits_of c.args.z)
 kept c =
     let h = c.requires in
     (held h tt).eq ∙ not_below c.args.z (sym (same_lt (held h tt) (lit 0 tt)) ∙ c.if-z-lt0.false)
@@ -45,13 +46,13 @@ pub overflow_add-result : goal.overflow_add-result
 overflow_add-result c = fits_add (lit 4294967296 tt) (held c.requires tt) tt
 
 pub overflow_cast-result : goal.overflow_cast-result
-overflow_cast-result c = cast c.args.z _ c.requires (added c)
+overflow_cast-result c = cast c.args.z _ c.requires (added (goal.at.overflow_cast-result c).Then-z-lt0)
 
 pub overflow_cast-result-else-z-lt0 : goal.overflow_cast-result-else-z-lt0
-overflow_cast-result-else-z-lt0 c = cast c.args.z _ c.requires (kept c)
+overflow_cast-result-else-z-lt0 c = cast c.args.z _ c.requires (kept (goal.at.overflow_cast-result-else-z-lt0 c).Else-z-lt0)
 
 pub returns-then-z-lt0 : goal.returns-then-z-lt0
-returns-then-z-lt0 c = ap nat_abs (added c)
+returns-then-z-lt0 c = ap nat_abs (added (goal.at.returns-then-z-lt0 c).Then-z-lt0)
 
 pub returns-else-z-lt0 : goal.returns-else-z-lt0
-returns-else-z-lt0 c = ap nat_abs (kept c)
+returns-else-z-lt0 c = ap nat_abs (kept (goal.at.returns-else-z-lt0 c).Else-z-lt0)

@@ -14,56 +14,46 @@ use Rattle.region.specs.Bytes.{signed_bytes}
 use Rattle.region.specs.Writer.{numbers_bytes}
 use Rattle.answer.proofs.PutLaws.{put_next}
 use Rattle.region_records.proofs.bytes.put_numbers.Goals as goal
+use Rattle.region_records.proofs.bytes.put_numbers.Goals.{After-put_signed-2}
 
 -- the bytes of a number that is handed on by its bits
 abbrev handed : ℤ → List ℕ
 handed z = signed_bytes (to_z w64 (of_z w64 z))
 
-length_y : (y : goal.After-put_signed-2) → length y.put_signed-2.new.0 ≡ length y.args.out.now
-length_y y = y.put_signed-2.auto.0 ∙ y.put_signed.auto.0
+length_y : (y : After-put_signed-2) → length y.put_signed-2.new.out ≡ length y.args.out.now
+length_y y = y.put_signed-2.auto.out ∙ y.put_signed.auto.out
 
 pub put_signed-requires : goal.put_signed-requires
-put_signed-requires c = let p = c.requires in (omega (arith, p.at_in_bounds), upto_held p.small.0.x tt)
+put_signed-requires c = let p = c.requires in (omega (arith, p.at_in_bounds), upto_held p.small.x tt)
 
 pub put_signed-requires-2 : goal.put_signed-requires-2
 put_signed-requires-2 c =
-    let x = c in
-    let p = x.requires in
-    (omega (arith, x.put_signed.kept.0, p.at_in_bounds), upto_held p.small.0.y tt)
+    let p = c.requires in
+    (omega (arith, c.put_signed.auto.out, p.at_in_bounds), upto_held p.small.y tt)
 
 pub put_signed-requires-3 : goal.put_signed-requires-3
 put_signed-requires-3 c =
-    let y = c.before.before.before.before in
-    let p = y.requires in
-    (omega (arith, length_y y, p.at_in_bounds), upto_held p.small.0.z tt)
+    let p = c.requires in
+    (omega (arith, length_y (goal.at.put_signed-requires-3 c).After-put_signed-2, p.at_in_bounds), upto_held p.small.z tt)
 
 pub put_signed-requires-4 : goal.put_signed-requires-4
 put_signed-requires-4 c =
-    let z = c.before.before.before.before in
-    let y = z.before.before.before.before.before in
-    let p = y.requires in
-    (omega (arith, z.put_signed-3.kept.0, length_y y, p.at_in_bounds), upto_held p.small.1 tt)
+    let p = c.requires in
+    (omega (arith, c.put_signed-3.auto.out, length_y (goal.at.put_signed-requires-4 c).After-put_signed-2, p.at_in_bounds), upto_held p.upto tt)
 
 pub shape_of-out : goal.shape_of-out
 shape_of-out c =
-    let d = c.before.before in
-    let z = d.before.before.before.before.before in
-    d.put_signed-4.auto.0 ∙ z.put_signed-3.kept.0 ∙ length_y z.before.before.before.before.before
+    c.put_signed-4.auto.out ∙ c.put_signed-3.auto.out ∙ length_y (goal.at.shape_of-out c).After-put_signed-2
 
 pub returns : goal.returns
 returns c =
-    let d = c.before.before in
-    let z = d.before.before.before.before.before in
-    let y = z.before.before.before.before.before in
-    let x = y.before.before.before.before.before in
-    let s = x in
-    let at = s.args.at in
-    let n = s.args.h.n in
-    let out = s.args.out.now in
-    let f : at ≤ length out = omega (arith, s.requires.at_in_bounds) in
-    let a = put_next at (handed n.x) (handed n.y) out x.put_signed.ensures y.put_signed-2.ensures refl f in
-    let b = put_next at (handed n.x ++ handed n.y) (handed n.z) out a z.put_signed-3.ensures refl f in
-    let g = put_next at (handed n.x ++ handed n.y ++ handed n.z) (handed s.args.h.d) out b d.put_signed-4.ensures refl f in
-    let p = s.requires.small in
+    let at = c.args.at in
+    let n = c.args.h.n in
+    let out = c.args.out.now in
+    let f : at ≤ length out = omega (arith, c.requires.at_in_bounds) in
+    let a = put_next at (handed n.x) (handed n.y) out c.put_signed.ensures c.put_signed-2.ensures refl f in
+    let b = put_next at (handed n.x ++ handed n.y) (handed n.z) out a c.put_signed-3.ensures refl f in
+    let g = put_next at (handed n.x ++ handed n.y ++ handed n.z) (handed c.args.h.d) out b c.put_signed-4.ensures refl f in
+    let p = c.requires.small in
     g
-    ∙ (λ j. put at (numbers_bytes (record { n = vec ((held p.0.x tt).eq j) ((held p.0.y tt).eq j) ((held p.0.z tt).eq j); d = (held p.1 tt).eq j })) out)
+    ∙ (λ j. put at (numbers_bytes (record { n = vec ((held p.x tt).eq j) ((held p.y tt).eq j) ((held p.z tt).eq j); d = (held c.requires.upto tt).eq j })) out)

@@ -11,17 +11,15 @@ pub bits_of-b-requires : goal.bits_of-b-requires
 bits_of-b-requires c = upto_held c.requires.1 tt
 
 pub put_word-requires-2 : goal.put_word-requires-2
-put_word-requires-2 c = omega (arith, c.put_word.auto.0)
+put_word-requires-2 c = omega (arith, c.put_word.auto.out)
 
 pub shape_of-out : goal.shape_of-out
-shape_of-out c = c.put_word-2.auto.0 ∙ c.put_word.auto.0
+shape_of-out c = c.put_word-2.auto.out ∙ c.put_word.auto.out
 
 pub returns : goal.returns
 returns c =
-    let two = c.before.before in
-    let one = two.before.before.before.before in
-    let s = one in
-    let e = one.bits_of-b.ensures ∙ ap bits_of (held s.requires.1 tt).eq in
-    let b = bits_of s.args.z in
-    put_next s.args.at (word_bytes (b % 65536)) (word_bytes (b / 65536)) _
-    (rw e at one.put_word.ensures) (rw e at two.put_word-2.ensures) refl (omega arith)
+    let a = c.args in
+    let e = c.bits_of-b.ensures ∙ ap bits_of (held c.requires.1 tt).eq in
+    let b = bits_of a.z in
+    put_next a.at (word_bytes (b % 65536)) (word_bytes (b / 65536)) _
+    (rw e at c.put_word.ensures) (rw e at c.put_word-2.ensures) refl (omega arith)
