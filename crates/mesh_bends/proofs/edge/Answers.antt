@@ -35,4 +35,4 @@ bend_by-requires c = let s = is_quotient 65536 (omega arith) tt (is_sub (lit 109
 pub returns : goal.returns
 returns c =
     let s = is_quotient 65536 (omega arith) tt (is_sub (lit 1099511627776 tt) (found c.before) tt) tt in
-    to_z-of_z (record { sfits = c.bend_by.type_inv }) ∙ c.bend_by.ensures ∙ ap bend_by s.eq
+    to_z-of_z {w = w64} (record { sfits = c.bend_by.type_inv }) ∙ c.bend_by.ensures ∙ ap bend_by s.eq

@@ -2,6 +2,7 @@
 use Prim.Native.Nat.{◌^◌}
 use mathlib.Core.Path.{◌≡◌, ap, sym, subst, ◌∙◌}
 use lib.Dec.{lit≤}
+use mir.Syntax.{w64}
 use mir.Facts.{to_z-of_z}
 use Rattle.algebra.proofs.Sizes.{Upto}
 use Rattle.algebra.proofs.Sized.{held, upto_held, upto_mono, is_add, fits_add}
@@ -30,8 +31,8 @@ returns c =
     let s = first in
     let w = s.requires in
     let sum = is_add (is_add (held w.a0 tt) (held w.a1 tt) tt) (held w.a2 tt) tt in
-    let x = to_z-of_z (record { sfits = first.first_cut.type_inv }) ∙ first.first_cut.ensures ∙ (λ i. first_cut ((held w.a0 tt).eq i) (sum.eq i)) in
-    let y = to_z-of_z (record { sfits = second.first_half.type_inv }) ∙ second.first_half.ensures ∙ ap first_half (held w.a1 tt).eq in
-    let z = to_z-of_z (record { sfits = c.first_half-2.type_inv }) ∙ c.first_half-2.ensures ∙ ap first_half (held w.a2 tt).eq in
+    let x = to_z-of_z {w = w64} (record { sfits = first.first_cut.type_inv }) ∙ first.first_cut.ensures ∙ (λ i. first_cut ((held w.a0 tt).eq i) (sum.eq i)) in
+    let y = to_z-of_z {w = w64} (record { sfits = second.first_half.type_inv }) ∙ second.first_half.ensures ∙ ap first_half (held w.a1 tt).eq in
+    let z = to_z-of_z {w = w64} (record { sfits = c.first_half-2.type_inv }) ∙ c.first_half-2.ensures ∙ ap first_half (held w.a2 tt).eq in
     let e : _ ≡ first_at_corner s.args.a = λ i. bends (x i) (y i) (z i) in
     e

@@ -2,6 +2,7 @@
 use Prim.Native.Nat.{◌^◌}
 use mathlib.Core.Path.{◌≡◌, sym, subst, ◌∙◌}
 use lib.Dec.{lit≤}
+use mir.Syntax.{w64}
 use mir.Facts.{to_z-of_z}
 use Rattle.algebra.proofs.Sizes.{Upto}
 use Rattle.algebra.proofs.Sized.{held, upto_held, upto_mono, is_add, fits_add}
@@ -48,8 +49,8 @@ returns c =
     let s = first in
     let w = s.requires in
     let sum = is_add (is_add (held w.a0 tt) (held w.a1 tt) tt) (held w.a2 tt) tt in
-    let x = to_z-of_z (record { sfits = first.first_cut.type_inv }) ∙ first.first_cut.ensures ∙ (λ i. first_cut ((held w.a0 tt).eq i) (sum.eq i)) in
-    let y = to_z-of_z (record { sfits = second.first_cut-2.type_inv }) ∙ second.first_cut-2.ensures ∙ (λ i. first_cut ((held w.a1 tt).eq i) (sum.eq i)) in
-    let z = to_z-of_z (record { sfits = c.first_cut-3.type_inv }) ∙ c.first_cut-3.ensures ∙ (λ i. first_cut ((held w.a2 tt).eq i) (sum.eq i)) in
+    let x = to_z-of_z {w = w64} (record { sfits = first.first_cut.type_inv }) ∙ first.first_cut.ensures ∙ (λ i. first_cut ((held w.a0 tt).eq i) (sum.eq i)) in
+    let y = to_z-of_z {w = w64} (record { sfits = second.first_cut-2.type_inv }) ∙ second.first_cut-2.ensures ∙ (λ i. first_cut ((held w.a1 tt).eq i) (sum.eq i)) in
+    let z = to_z-of_z {w = w64} (record { sfits = c.first_cut-3.type_inv }) ∙ c.first_cut-3.ensures ∙ (λ i. first_cut ((held w.a2 tt).eq i) (sum.eq i)) in
     let e : _ ≡ first_in_middle s.args.a = λ i. bends (x i) (y i) (z i) in
     e

@@ -6,9 +6,6 @@ use Rattle.algebra.proofs.Sized.{held, upto_held, lit, is_sub, is_mul, fits_sub,
 use Rattle.mesh_jump.specs.Jumps.{less_of, at_corner}
 use Rattle.mesh_jump.proofs.at_corner.Goals as goal
 
-abbrev start_before_told5 : goal.After-struct_told-5-1 → goal.Start
-start_before_told5 c = c.before.before.before.before.before.before.before.before.before.before
-
 pub overflow_sub-result : goal.overflow_sub-result
 overflow_sub-result c = let w = c.requires.within in fits_sub (held w.d0 tt) (held w.d1 tt) tt
 
@@ -19,31 +16,28 @@ pub twice_less-requires : goal.twice_less-requires
 twice_less-requires c =
     let p = c.requires in
     record {
-      pos_bound = (subst (λ z. pos 0 ≤ℤ z) (sym (held p.within.d1 tt).eq) p.not_negative.0.d1, upto_held p.within.d1 tt);
-      upto = upto_held p.not_negative.1.0 tt;
+      pos_bound = (subst (λ z. pos 0 ≤ℤ z) (sym (held p.within.d1 tt).eq) p.not_negative.d1, upto_held p.within.d1 tt);
+      upto = upto_held p.upto.0 tt;
     }
 
 pub twice_less-requires-2 : goal.twice_less-requires-2
 twice_less-requires-2 c =
     let p = c.requires in
     record {
-      pos_bound = (subst (λ z. pos 0 ≤ℤ z) (sym (held p.within.d2 tt).eq) p.not_negative.0.d2, upto_held p.within.d2 tt);
-      upto = upto_held p.not_negative.1.1 tt;
+      pos_bound = (subst (λ z. pos 0 ≤ℤ z) (sym (held p.within.d2 tt).eq) p.not_negative.d2, upto_held p.within.d2 tt);
+      upto = upto_held p.upto.1 tt;
     }
 
 pub overflow_mul-result : goal.overflow_mul-result
-overflow_mul-result c = let w = (start_before_told5 c).requires.0 in fits_mul (lit 2 tt) (held w.margin tt) tt
+overflow_mul-result c = let w = c.requires.within in fits_mul (lit 2 tt) (held w.margin tt) tt
 
 pub returns : goal.returns
 returns c =
-    let s = start_before_told5 c in
-    let w = s.requires.within in
-    let second = c.before.before in
-    let first = second in
+    let w = c.requires.within in
+    let u = c.requires.upto in
     let a = (is_sub (is_sub (held w.d0 tt) (held w.d1 tt) tt) (held w.d2 tt) tt).eq in
-    let u = s.requires.not_negative.1 in
-    let b = (held first.twice_less.ensures.1 tt).eq ∙ first.twice_less.ensures.0 ∙ (λ i. less_of (pos 2 *ℤ (held w.d1 tt).eq i) ((held u.0 tt).eq i)) in
-    let d = (held second.twice_less-2.ensures.1 tt).eq ∙ second.twice_less-2.ensures.0 ∙ (λ i. less_of (pos 2 *ℤ (held w.d2 tt).eq i) ((held u.1 tt).eq i)) in
+    let b = (held c.twice_less.ensures.1 tt).eq ∙ c.twice_less.ensures.0 ∙ (λ i. less_of (pos 2 *ℤ (held w.d1 tt).eq i) ((held u.0 tt).eq i)) in
+    let d = (held c.twice_less-2.ensures.1 tt).eq ∙ c.twice_less-2.ensures.0 ∙ (λ i. less_of (pos 2 *ℤ (held w.d2 tt).eq i) ((held u.1 tt).eq i)) in
     let m = (is_mul (lit 2 tt) (held w.margin tt) tt).eq in
-    let e : _ ≡ at_corner s.args.n s.args.b s.args.c = λ i. record { d0 = a i; d1 = b i; d2 = d i; margin = m i } in
+    let e : _ ≡ at_corner c.args.n c.args.b c.args.c = λ i. record { d0 = a i; d1 = b i; d2 = d i; margin = m i } in
     e

@@ -12,14 +12,14 @@ done e h small = (e ∙ h, subst SmallCorners (sym e) small)
 
 pub midpoint-w1-requires : goal.midpoint-w1-requires
 midpoint-w1-requires c = let p = c.requires in record {
-  small = p.v0-1;
-  small_2 = p.v2-1;
+  small = p.v0;
+  small_2 = p.v2;
 }
 
 pub midpoint-w2-requires : goal.midpoint-w2-requires
 midpoint-w2-requires c = let p = c.requires in record {
-  small = p.v0-1;
-  small_2 = p.v1-1;
+  small = p.v0;
+  small_2 = p.v1;
 }
 
 pub returns-then-k-eq0 : goal.returns-then-k-eq0
@@ -34,14 +34,14 @@ returns-then-k-eq0 c =
 
 pub midpoint-w0-requires : goal.midpoint-w0-requires
 midpoint-w0-requires c = let p = c.requires in record {
-  small = p.v1-1;
-  small_2 = p.v2-1;
+  small = p.v1;
+  small_2 = p.v2;
 }
 
 pub midpoint-w2-requires-then-k-eq1 : goal.midpoint-w2-requires-then-k-eq1
 midpoint-w2-requires-then-k-eq1 c = let p = c.requires in record {
-  small = p.v0-1;
-  small_2 = p.v1-1;
+  small = p.v0;
+  small_2 = p.v1;
 }
 
 pub returns-then-k-eq1 : goal.returns-then-k-eq1
@@ -56,8 +56,8 @@ returns-then-k-eq1 c =
 
 pub midpoint-w1-requires-2 : goal.midpoint-w1-requires-2
 midpoint-w1-requires-2 c = let p = c.requires in record {
-  small = p.v0-1;
-  small_2 = p.v2-1;
+  small = p.v0;
+  small_2 = p.v2;
 }
 
 pub returns-then-k-eq2 : goal.returns-then-k-eq2
@@ -72,8 +72,8 @@ returns-then-k-eq2 c =
 
 pub midpoint-w2-requires-2 : goal.midpoint-w2-requires-2
 midpoint-w2-requires-2 c = let w0 = c in let p = w0.requires in record {
-  small = p.v0-1;
-  small_2 = p.v1-1;
+  small = p.v0;
+  small_2 = p.v1;
 }
 
 pub returns : goal.returns

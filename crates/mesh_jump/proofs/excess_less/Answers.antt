@@ -20,15 +20,14 @@ less-requires c =
     let w = c.requires.upto in
     let r = is_sub (is_add (held w.0 tt) (held w.1 tt) tt) (held w.2 tt) tt in
     record {
-      pos_bound = (subst (λ z. pos 0 ≤ℤ z) (sym r.eq) c.requires.pos_bound.0, subst (Upto (3 * 2 ^ 61)) (sym r.eq) (upto_mono (omega arith) r.size));
-      upto = upto_held c.requires.pos_bound.1 tt;
+      pos_bound = (subst (λ z. pos 0 ≤ℤ z) (sym r.eq) c.requires.pos_bound, subst (Upto (3 * 2 ^ 61)) (sym r.eq) (upto_mono (omega arith) r.size));
+      upto = upto_held c.requires.upto_2 tt;
     }
 
 pub returns : goal.returns
 returns c =
-    let s = c in
-    let w = s.requires.upto in
+    let w = c.requires.upto in
     let r = c.less.ensures in (
-      (held r.1 tt).eq ∙ r.0 ∙ (λ i. less_of ((is_sub (is_add (held w.0 tt) (held w.1 tt) tt) (held w.2 tt) tt).eq i) ((held s.requires.pos_bound.1 tt).eq i)),
+      (held r.1 tt).eq ∙ r.0 ∙ (λ i. less_of ((is_sub (is_add (held w.0 tt) (held w.1 tt) tt) (held w.2 tt) tt).eq i) ((held c.requires.upto_2 tt).eq i)),
       upto_held r.1 tt,
     )

@@ -10,12 +10,6 @@ use Rattle.algebra.proofs.Sized.{held, upto_held, lit, is_mul, fits_mul}
 use Rattle.mesh_jump.specs.Jumps.{less_of, in_middle}
 use Rattle.mesh_jump.proofs.in_middle.Goals as goal
 
-abbrev start_before_told8 : goal.After-struct_told-8-1 → goal.Start
-start_before_told8 c = c.before.before.before.before.before.before.before.before.before
-
-abbrev start_before_told12 : goal.After-struct_told-12-1 → goal.Start
-start_before_told12 c = start_before_told8 c.before.before.before.before.before
-
 -- three numbers, as their bits have them
 stored : {x y z : ℤ} → Upto (2 ^ 61) x → Upto (2 ^ 61) y → Upto (2 ^ 61) z → pos 0 ≤ℤ (x +ℤ y -ℤ z)
     → pos 0 ≤ℤ (to_z w64 (of_z w64 x) +ℤ to_z w64 (of_z w64 y) -ℤ to_z w64 (of_z w64 z))
@@ -29,46 +23,42 @@ pub excess_less-requires : goal.excess_less-requires
 excess_less-requires c =
     let p = c.requires in
     let w = p.within in
-    let both = ((upto_held w.d1 tt, upto_held w.d2 tt, upto_held w.d0 tt), (stored w.d1 w.d2 w.d0 p.in_middle.0.at0, upto_held p.in_middle.1.a0 tt)) in record {
-      upto = both.0;
-      pos_bound = both.1.0;
-      upto_2 = both.1.1;
+    record {
+      upto = (upto_held w.d1 tt, upto_held w.d2 tt, upto_held w.d0 tt);
+      pos_bound = stored w.d1 w.d2 w.d0 p.in_middle.at0;
+      upto_2 = upto_held p.small_bends.a0 tt;
     }
 
 pub excess_less-requires-2 : goal.excess_less-requires-2
 excess_less-requires-2 c =
-    let p = (start_before_told8 c).requires in
-    let w = p.0 in
-    let both = ((upto_held w.d0 tt, upto_held w.d2 tt, upto_held w.d1 tt), (stored w.d0 w.d2 w.d1 p.1.0.at1, upto_held p.1.1.a1 tt)) in record {
-      upto = both.0;
-      pos_bound = both.1.0;
-      upto_2 = both.1.1;
+    let p = c.requires in
+    let w = p.within in
+    record {
+      upto = (upto_held w.d0 tt, upto_held w.d2 tt, upto_held w.d1 tt);
+      pos_bound = stored w.d0 w.d2 w.d1 p.in_middle.at1;
+      upto_2 = upto_held p.small_bends.a1 tt;
     }
 
 pub excess_less-requires-3 : goal.excess_less-requires-3
 excess_less-requires-3 c =
-    let p = (start_before_told12 c).requires in
-    let w = p.0 in
-    let both = ((upto_held w.d0 tt, upto_held w.d1 tt, upto_held w.d2 tt), (stored w.d0 w.d1 w.d2 p.1.0.at2, upto_held p.1.1.a2 tt)) in record {
-      upto = both.0;
-      pos_bound = both.1.0;
-      upto_2 = both.1.1;
+    let p = c.requires in
+    let w = p.within in
+    record {
+      upto = (upto_held w.d0 tt, upto_held w.d1 tt, upto_held w.d2 tt);
+      pos_bound = stored w.d0 w.d1 w.d2 p.in_middle.at2;
+      upto_2 = upto_held p.small_bends.a2 tt;
     }
 
 pub overflow_mul-result : goal.overflow_mul-result
-overflow_mul-result c = let w = (start_before_told12 c.before.before.before).requires.0 in fits_mul (lit 2 tt) (held w.margin tt) tt
+overflow_mul-result c = fits_mul (lit 2 tt) (held c.requires.within.margin tt) tt
 
 pub returns : goal.returns
 returns c =
-    let third = c.before.before in
-    let s = start_before_told12 third.before in
-    let second = third.before.before.before.before.before in
-    let first = second in
-    let w = s.requires.within in
-    let u = s.requires.in_middle.1 in
-    let a = (held first.excess_less.ensures.1 tt).eq ∙ first.excess_less.ensures.0 ∙ less w.d1 w.d2 w.d0 u.a0 in
-    let b = (held second.excess_less-2.ensures.1 tt).eq ∙ second.excess_less-2.ensures.0 ∙ less w.d0 w.d2 w.d1 u.a1 in
-    let d = (held third.excess_less-3.ensures.1 tt).eq ∙ third.excess_less-3.ensures.0 ∙ less w.d0 w.d1 w.d2 u.a2 in
+    let w = c.requires.within in
+    let u = c.requires.small_bends in
+    let a = (held c.excess_less.ensures.1 tt).eq ∙ c.excess_less.ensures.0 ∙ less w.d1 w.d2 w.d0 u.a0 in
+    let b = (held c.excess_less-2.ensures.1 tt).eq ∙ c.excess_less-2.ensures.0 ∙ less w.d0 w.d2 w.d1 u.a1 in
+    let d = (held c.excess_less-3.ensures.1 tt).eq ∙ c.excess_less-3.ensures.0 ∙ less w.d0 w.d1 w.d2 u.a2 in
     let m = (is_mul (lit 2 tt) (held w.margin tt) tt).eq in
-    let e : _ ≡ in_middle s.args.n s.args.a = λ i. record { d0 = a i; d1 = b i; d2 = d i; margin = m i } in
+    let e : _ ≡ in_middle c.args.n c.args.a = λ i. record { d0 = a i; d1 = b i; d2 = d i; margin = m i } in
     e

@@ -11,7 +11,7 @@ use Rattle.mesh_jump.proofs.jump.Given as goal
 abbrev pub invariant-loop-k : goal.invariant-loop-k
 invariant-loop-k l =
     (l.n ≤ 9) × (l.id < 2 ^ 40) × (4 ≤ l.k)
-    × ((p : Vec3) (c : Corners) → Small p → Reached p c l.id l.n (record { count = l.initial.k; l.id = l.initial.i; l.numbers = l.initial.numbers }) → Jumping p c l.n l.id l.i l.k l.numbers)
+    × ((p : Vec3) (c : Corners) → Small p → Reached p c l.id l.n (record { count = l.initial.k; id = l.initial.i; numbers = l.initial.numbers }) → Jumping p c l.n l.id l.i l.k l.numbers)
 
 abbrev pub decreases-loop-k : goal.decreases-loop-k
 decreases-loop-k l = l.n - l.k

@@ -1,5 +1,6 @@
 -- `mesh_jump::not_negative` tests the three numbers one after the other. Assumes nothing.
 use Prim.Native.Nat.{◌^◌, ◌<◌}
+use native.Mathlib.Omega.{arith}
 use mathlib.Core.Path.{◌≡◌, sym, ap, ◌∙◌}
 use mathlib.Core.Bool.{false, true≢false, false≢true}
 use lib.IntN.{ℤ, pos}
@@ -23,13 +24,9 @@ returns-then-n-lt0-2 c = λ e. absurd (false≢true e)
 
 pub returns : goal.returns
 returns c =
-    let second = c.before.before in
-    let told2 = second.before in
-    let first = told2.before.before in
-    let told1 = first in
-    let n = told1.args.n in
+    let n = c.args.n in
     λ e. (
-      not_below n.d0 told1.struct_told-1.given.0.1 first.if-n-lt0.false,
-      not_below n.d1 told2.struct_told-2-1.given.1.0.1 second.if-n-lt0-2.false,
-      le_yes (sym (ap (λ v. le_z (pos 0) v) (stored_same n.d2 c.struct_told-3-1.given.1.1.0.1)) ∙ e),
+      not_below n.d0 (omega arith) c.if-n-lt0.false,
+      not_below n.d1 (omega arith) c.if-n-lt0-2.false,
+      le_yes (sym (ap (λ v. le_z (pos 0) v) (stored_same n.d2 (omega arith))) ∙ e),
     )

@@ -29,8 +29,7 @@ less-requires c =
 
 pub returns : goal.returns
 returns c =
-    let s = c in
     let r = c.less.ensures in (
-      (held r.1 tt).eq ∙ r.0 ∙ (λ i. less_of ((is_mul (lit 2 tt) (held s.requires.pos_bound.1 tt) tt).eq i) ((held s.requires.upto tt).eq i)),
+      (held r.1 tt).eq ∙ r.0 ∙ (λ i. less_of ((is_mul (lit 2 tt) (held c.requires.pos_bound.1 tt) tt).eq i) ((held c.requires.upto tt).eq i)),
       upto_held r.1 tt,
     )
