@@ -1,22 +1,15 @@
 -- `classify_rays::square_length` is r·r: the sum of three squares within 2⁸². Assumes nothing.
-use Prim.Native.Nat.{ℕ, ◌+◌, ◌*◌, ◌^◌, ◌≤◌}
+use Prim.Native.Nat.{ℕ, ◌+◌, ◌*◌}
 use native.Mathlib.Nat.{lt_of_le_of_lt, add-le-add}
-use mathlib.Core.Path.{sym, ap, subst, ◌∙◌}
+use mathlib.Core.Path.{sym, ap, ◌∙◌}
 use lib.Dec.{lit<}
 use lib.IntN.{ℤ, nat_abs}
 use Rattle.algebra.proofs.Sized.{held}
-use Rattle.wide.specs.Value.{value_of}
 use Rattle.vector.proofs.SizeLaws.{dot_self}
 use Rattle.classify_rays.proofs.square_length.Goals as goal
 
-two : (c : goal.After-sum) → value_of c.sum.result ≤ 2 ^ 83
-two c = subst (λ m. m ≤ 2 ^ 83) (sym c.sum.ensures) (add-le-add c.squared.ensures.1 c.squared-2.ensures.1)
-
 pub sum-requires : goal.sum-requires
 sum-requires c = lt_of_le_of_lt (add-le-add c.squared.ensures.1 c.squared-2.ensures.1) (lit< tt)
-
-pub sum-requires-2 : goal.sum-requires-2
-sum-requires-2 c = lt_of_le_of_lt (add-le-add (two c.before.before) c.squared-3.ensures.1) (lit< tt)
 
 pub returns : goal.returns
 returns c =
