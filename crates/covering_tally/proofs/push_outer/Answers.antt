@@ -3,4 +3,4 @@ use Rattle.covering_tally.proofs.TallyLaws.{outer_pushed}
 use Rattle.covering_tally.proofs.push_outer.Goals as goal
 
 pub returns : goal.returns
-returns c = let p = c in outer_pushed _ p.outer_push.ensures c.note_outer.ensures
+returns c = let e = c.outer_push.ensures in outer_pushed _ (e.writes, (e.n_le_n, e.hinted_2)) c.note_outer.ensures

@@ -1,17 +1,12 @@
 -- `covering_tally::take_full` pushes the range onto the outer list and onto the inner list, and counts the trixel. Assumes nothing.
-use borrow.Author.Rules.{rules}
-use Rattle.covering_tally.proofs.TallyLaws.{inner_wants, outer_counts, inner_added_counts}
+use Rattle.covering_tally.proofs.TallyLaws.{inner_wants, full_taken, outer_counts, inner_added_counts}
 use Rattle.covering_tally.proofs.take_full.Goals as goal
 
-pub add_inner-requires : goal.add_inner-requires
-add_inner-requires c = let o = c.push_outer in record {
-  s_len = search rules;
-  inner_needs = inner_wants (search rules) o.ensures o.kept.0;
-}
+pub add_inner-requires-clause-inner_needs : goal.add_inner-requires-clause-inner_needs
+add_inner-requires-clause-inner_needs c = inner_wants c.requires.tally_invariant c.push_outer.ensures c.push_outer.auto.out
 
-pub full_more-requires : goal.full_more-requires
-full_more-requires c = let both = (search rules, (inner_added_counts c.add_inner.ensures (search outer_counts), search rules)) in record {
-  s_len = both.0;
-  countable = both.1.0;
-  small_range = both.1.1;
-}
+pub full_more-requires-clause-countable : goal.full_more-requires-clause-countable
+full_more-requires-clause-countable c = inner_added_counts c.add_inner.ensures (outer_counts c.push_outer.ensures c.requires.countable)
+
+pub returns : goal.returns
+returns c = full_taken c.requires.tally_invariant c.push_outer.ensures c.push_outer.auto.out c.add_inner.ensures c.add_inner.auto.out c.requires.small_range c.full_more.ensures
