@@ -22,7 +22,7 @@ pub returns-in-Skipped : goal.returns-in-Skipped
 returns-in-Skipped c = rw c.in-Skipped.is
 
 pub returns-in-Unchecked : goal.returns-in-Unchecked
-returns-in-Unchecked c = let v = c.args in stored v.k v.numbers.now v.disposition (omega arith) c.number_of_lem.ensures (ap is_delivered c.in-Unchecked.is)
+returns-in-Unchecked c = let v = c.args in stored v.k v.numbers.now v.disposition (omega arith) c.number_of.ensures (ap is_delivered c.in-Unchecked.is)
 
 pub returns-in-Held : goal.returns-in-Held
 returns-in-Held c = let v = c.args in stored v.k v.numbers.now v.disposition (omega arith) c.number_of-in-Held.ensures (ap is_delivered c.in-Held.is)

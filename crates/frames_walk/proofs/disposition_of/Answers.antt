@@ -1,28 +1,28 @@
 -- `frames_walk::disposition_of` by its tests, one after the other. Assumes nothing.
 use mathlib.Core.Path.{◌≡◌, sym, ◌∙◌}
 use mathlib.Core.Bool.{true}
-use borrow.Author.Tests.{not-true, not-false}
 use Rattle.vector.specs.Vectors.{is_vector}
 use Rattle.vector.proofs.VectorLaws.{vector_small}
 use Rattle.frames_walk.proofs.disposition_of.Goals as goal
+use Rattle.frames_walk.proofs.disposition_of.Goals.{Else-not-is_vector, Else-not-outer}
 
 -- what the tests said: in an outer range, and a vector
-outer : (c : goal.Else-not-outer) → c.args.outer ≡ true
-outer c = not-false c.args.outer c.if-not-outer.false
+outer : (c : Else-not-outer) → c.args.outer ≡ true
+outer c = c.if-not-outer.false
 
-vector : (c : goal.Else-not-is_vector) → is_vector c.args.p ≡ true
-vector c = sym c.is_vector.ensures ∙ not-false c.is_vector.result c.if-not-is_vector.false
+vector : (c : Else-not-is_vector) → is_vector c.args.p ≡ true
+vector c = sym c.is_vector.ensures ∙ c.if-not-is_vector.false
 
 pub returns-then-inner : goal.returns-then-inner
 returns-then-inner c = rw c.if-inner.true
 
 pub returns-then-not-outer : goal.returns-then-not-outer
-returns-then-not-outer c = rw (c.if-inner.false, not-true c.args.outer c.if-not-outer.true)
+returns-then-not-outer c = rw (c.if-inner.false, c.if-not-outer.true)
 
 pub returns-then-not-is_vector : goal.returns-then-not-is_vector
 returns-then-not-is_vector c =
     let o = c.before.before in
-    rw (o.if-inner.false, outer o, sym c.is_vector.ensures ∙ not-true c.is_vector.result c.if-not-is_vector.true)
+    rw (o.if-inner.false, outer o, sym c.is_vector.ensures ∙ c.if-not-is_vector.true)
 
 pub array_holds-requires : goal.array_holds-requires
 array_holds-requires c = record {

@@ -7,10 +7,11 @@ use Rattle.algebra.proofs.Sized.{stored_same}
 use Rattle.index.specs.Exposures.{is_number}
 use Rattle.frames.specs.Walk as rule
 use Rattle.frames_walk.proofs.number_of.Goals as goal
+use Rattle.frames_walk.proofs.number_of.Goals.{After-natural-n}
 
 -- the number that is tested is that of the entry
-read : (c : goal.After-natural-n) → c.natural-n.result ≡ rule.natural-n c.args.e.number
-read c = c.natural-n.ensures.0 ∙ ap rule.natural-n (stored_same c.args.e.number c.struct_told-1.given.1.0.1)
+read : (c : After-natural-n) → c.natural-n.result ≡ rule.natural c.args.e.number
+read c = c.natural-n.ensures.0 ∙ ap rule.natural (stored_same c.args.e.number c.struct_told-1.given.1.0.1)
 
 chosen : {n m : ℕ} {t : Bool} → n ≡ m → is_number n ≡ t → cond t n 0 ≡ cond (is_number m) m 0
 chosen {n} e f = ap (λ u. cond u n 0) (sym f) ∙ ap (λ k. cond (is_number k) k 0) e

@@ -32,7 +32,7 @@ returns c =
     let id = s.shortened-id.result in
     let t = tail v.lists.from v.ranges.now in
     let b : WalkState = record { visited = v.at.visited + 1; outer = o₁.ahead-outer.result; inner = n₁.ahead-inner.result; dispositions = c.count_disposition.result } in
-    let turn : Turn v.lists v.ranges.now v.rows.now v.count v.e v.at v.numbers-1.now b d.deliver.last.0 id n.begins.result o.begins-2.result f.disposition_of-disposition.result =
+    let turn : Turn v.lists v.ranges.now v.rows.now v.count v.e v.at v.numbers.now b d.deliver.new.numbers id n.begins.result o.begins-2.result f.disposition_of-disposition.result =
     record {
       id = s.shortened-id.ensures;
       outer = o₁.ahead-outer.ensures.0;
@@ -46,6 +46,6 @@ returns c =
     } in
     let few = subst (λ t. t.unchecked + t.held + t.discarded ≤ v.at.visited + 1) (sym c.count_disposition.ensures)
     (omega (arith, with_disposition_most v.at.dispositions f.disposition_of-disposition.result, p.lent.1.dispositions)) in record {
-      visits_entry = turned v.lists v.ranges.now v.rows.now v.count v.e v.at v.numbers-1.now b d.deliver.last.0 id n.begins.result o.begins-2.result f.disposition_of-disposition.result turn;
-      fits = (record { outer = o₁.ahead-outer.ensures.1; inner = n₁.ahead-inner.ensures.1; dispositions = few; visited = omega (arith, p.lent.2) }, refl, d.deliver.kept.0);
+      visits_entry = turned v.lists v.ranges.now v.rows.now v.count v.e v.at v.numbers.now b d.deliver.new.numbers id n.begins.result o.begins-2.result f.disposition_of-disposition.result turn;
+      fits = (record { outer = o₁.ahead-outer.ensures.1; inner = n₁.ahead-inner.ensures.1; dispositions = few; visited = omega (arith, p.lent.2) }, refl, d.deliver.auto.numbers);
     }

@@ -1,7 +1,6 @@
 -- `frames_walk::visit_if_owned` passes over what the walk does not visit. Assumes nothing.
 use mathlib.Core.Path.{refl, sym, ◌∙◌}
 use native.Mathlib.Omega.{arith}
-use borrow.Author.Tests.{not-true, not-false}
 use Rattle.frames_walk.proofs.WalkLaws.{visits_other, visits_full, visits_own}
 use Rattle.frames_walk.proofs.visit_if_owned.Goals as goal
 
@@ -10,7 +9,7 @@ returns-then-not-is_owned c =
     let i = c.before in
     let s = i in
     let v = s.args in record {
-      visits_if_owned = visits_other v.owner v.lists v.ranges.now v.rows.now v.count v.e v.at v.numbers-1.now (sym i.is_owned.ensures ∙ not-true i.is_owned.result c.if-not-is_owned.taken);
+      visits_if_owned = visits_other v.owner v.lists v.ranges.now v.rows.now v.count v.e v.at v.numbers.now (sym i.is_owned.ensures ∙ c.if-not-is_owned.true);
       fits = (s.requires.lent.1, refl);
     }
 
@@ -19,7 +18,7 @@ returns-then-at-ge-OWNER_CAPACITY c =
     let s = c in
     let v = s.args in
     record {
-      visits_if_owned = visits_full v.owner v.lists v.ranges.now v.rows.now v.count v.e v.at v.numbers-1.now (omega arith);
+      visits_if_owned = visits_full v.owner v.lists v.ranges.now v.rows.now v.count v.e v.at v.numbers.now (omega arith);
       fits = (s.requires.lent.1, refl);
     }
 
@@ -31,7 +30,7 @@ returns c =
     let i = q.before in
     let s = i in
     let v = s.args in record {
-      visits_if_owned = visits_own v.owner v.lists v.ranges.now v.rows.now v.count v.e v.at v.numbers-1.now m.visit_entry.result _
-          (sym i.is_owned.ensures ∙ not-false i.is_owned.result q.if-not-is_owned.left) (omega (arith, e.if-at-ge-OWNER_CAPACITY.left)) m.visit_entry.ensures.fits.1 m.visit_entry.ensures.visits_entry;
+      visits_if_owned = visits_own v.owner v.lists v.ranges.now v.rows.now v.count v.e v.at v.numbers.now m.visit_entry.result _
+          (sym i.is_owned.ensures ∙ q.if-not-is_owned.false) (omega (arith, e.if-at-ge-OWNER_CAPACITY.false)) m.visit_entry.ensures.fits.1 m.visit_entry.ensures.visits_entry;
       fits = (m.visit_entry.ensures.fits.0, m.visit_entry.ensures.fits.2);
     }

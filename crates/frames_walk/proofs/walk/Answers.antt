@@ -10,7 +10,7 @@ loop-i-init c =
       omega arith,
       record { outer = omega arith; inner = omega arith; dispositions = omega arith; visited = omega arith },
       refl,
-      past_none v.owner v.index.now v.lists v.ranges.now v.rows.now v.count v.numbers-1.now,
+      past_none v.owner v.index.now v.lists v.ranges.now v.rows.now v.count v.numbers.now,
     )
 
 pub visit_if_owned-at-requires : goal.visit_if_owned-at-requires
@@ -29,7 +29,7 @@ loop-i-preserved c =
       omega arith,
       p.visit_if_owned-at.ensures.fits.0,
       p.visit_if_owned-at.ensures.fits.1 ∙ l.loop-i.invariant.2,
-      past_next v.owner v.index.now v.lists v.ranges.now v.rows.now v.count v.numbers-1.now l.loop-i.i e.entry_at.result l.loop-i.at p.visit_if_owned-at.result l.loop-i.numbers _
+      past_next v.owner v.index.now v.lists v.ranges.now v.rows.now v.count v.numbers.now l.loop-i.i e.entry_at.result l.loop-i.at p.visit_if_owned-at.result l.loop-i.numbers _
           (omega (arith, n.count_in-n.ensures.0)) e.entry_at.ensures p.visit_if_owned-at.ensures.visits_if_owned l.loop-i.invariant.3,
     )
 
@@ -41,4 +41,4 @@ returns c =
     let l = c.before.before in
     let n = l in
     let v = n.args in
-    past_all v.owner v.index.now v.lists v.ranges.now v.rows.now v.count v.numbers-1.now l.loop-i.i l.loop-i.at l.loop-i.numbers (omega (arith, n.count_in-n.ensures.0)) l.loop-i.invariant.3
+    past_all v.owner v.index.now v.lists v.ranges.now v.rows.now v.count v.numbers.now l.loop-i.i l.loop-i.at l.loop-i.numbers (omega (arith, n.count_in-n.ensures.0)) l.loop-i.invariant.3

@@ -14,18 +14,19 @@ use Rattle.index.specs.Entries.{entry}
 use Rattle.index_calls.proofs.CallLaws.{by_add, no_owner}
 use Rattle.index_calls.proofs.LookupLaws.{not_added, added}
 use Rattle.index_calls.proofs.add.Goals as goal
+use Rattle.index_calls.proofs.add.Goals.{In-Gives-2}
 
 -- the identifier that was found, by the rule
-given : (c : goal.In-Gives-2) → lookup c.args.p 12 ≡ gives c.in-Gives.id
+given : (c : In-Gives-2) → lookup c.args.p 12 ≡ gives c.in-Gives.id
 given c = sym c.lookup-found.ensures ∙ ap number_of c.in-Gives.is
 
-small : (c : goal.In-Gives-2) → c.in-Gives.id ≤ 2 ^ 26
+small : (c : In-Gives-2) → c.in-Gives.id ≤ 2 ^ 26
 small c =
     let p = c.args.p in
     omega (arith, identifier_small p 12 (omega arith), (lookup_is p 12 _ (given c)).2)
 
 pub returns-then-owner-ge-OWNERS : goal.returns-then-owner-ge-OWNERS
-returns-then-owner-ge-OWNERS c = let v = c.args in let both = by_add _ _ _ _ (no_owner (is_owner v.owner) _ v.index-1.now (le-ltb v.owner 2 (omega arith))) in record {
+returns-then-owner-ge-OWNERS c = let v = c.args in let both = by_add _ _ _ _ (no_owner (is_owner v.owner) _ v.index.now (le-ltb v.owner 2 (omega arith))) in record {
   result_value = both.0;
   index_after = both.1;
 }
@@ -44,13 +45,13 @@ returns-in-Refused c =
     let f = c in
     let v = f.args in
     let both = by_add _ _ _ _
-    (not_added (exposed v.owner v.number v.p) v.index-1.now f.in-Refused.n (lt-ltb v.owner 2 (omega arith)) (sym (ap number_of f.in-Refused.is) ∙ f.lookup-found.ensures)) in record {
+    (not_added (exposed v.owner v.number v.p) v.index.now f.in-Refused.n (lt-ltb v.owner 2 (omega arith)) (sym (ap number_of f.in-Refused.is) ∙ f.lookup-found.ensures)) in record {
       result_value = both.0;
       index_after = both.1;
     }
 
 pub shape_of-index : goal.shape_of-index
-shape_of-index c = c.insert.auto.0
+shape_of-index c = c.insert.auto.index
 
 pub returns-in-Gives : goal.returns-in-Gives
 returns-in-Gives c =
@@ -61,7 +62,7 @@ returns-in-Gives c =
     let n : v.number ≤ 2 ^ 32 = omega arith in
     let id = (nat (small f) tt).eq ∙ ap pos (sym l.2) in
     let both = by_add _ _ _ _
-    (added (exposed v.owner v.number v.p) _ v.index-1.now c.insert.new.0 c.insert.result (lt-ltb v.owner 2 (omega arith)) l.0
+    (added (exposed v.owner v.number v.p) _ v.index.now c.insert.new.index c.insert.result (lt-ltb v.owner 2 (omega arith)) l.0
     (λ j. entry (id j) ((nat n tt).eq j) ((nat o tt).eq j) v.p) c.insert.ensures) in record {
       result_value = both.0;
       index_after = both.1;

@@ -7,26 +7,26 @@ use Rattle.index_calls.proofs.CallLaws.{by_remove, no_owner, of_owner, too_short
 use Rattle.index_calls.proofs.remove.Goals as goal
 
 pub returns-then-owner-ge-OWNERS : goal.returns-then-owner-ge-OWNERS
-returns-then-owner-ge-OWNERS c = let v = c.args in let both = by_remove _ _ _ _ (no_owner (is_owner v.owner) _ v.index-1.now (le-ltb v.owner 2 (omega arith))) in record {
+returns-then-owner-ge-OWNERS c = let v = c.args in let both = by_remove _ _ _ _ (no_owner (is_owner v.owner) _ v.index.now (le-ltb v.owner 2 (omega arith))) in record {
   result_value = both.0;
   index_after = both.1;
 }
 
 pub returns-then-index-lt-INDEX_LENGTH : goal.returns-then-index-lt-INDEX_LENGTH
-returns-then-index-lt-INDEX_LENGTH c = let v = c.args in let both = by_remove _ _ _ _ (of_owner (lt-ltb v.owner 2 (omega arith)) (too_short v.index-1.now _ c.if-index-lt-INDEX_LENGTH.true)) in record {
+returns-then-index-lt-INDEX_LENGTH c = let v = c.args in let both = by_remove _ _ _ _ (of_owner (lt-ltb v.owner 2 (omega arith)) (too_short v.index.now _ c.if-index-lt-INDEX_LENGTH.true)) in record {
   result_value = both.0;
   index_after = both.1;
 }
 
 pub returns-then-n-i : goal.returns-then-n-i
 returns-then-n-i c =
-    let a = c.before in
-    let h = a.before.before in
+    let a = c in
+    let h = c in
     let e = h in
     let v = e.args in
     let both = by_remove _ _ _ _
     (of_owner (lt-ltb v.owner 2 (omega arith))
-    (is_absent v.index-1.now h.count_in-n.result e.if-index-lt-INDEX_LENGTH.false h.count_in-n.ensures.0 (key v.owner v.number) a.find-i.result.place a.find-i.ensures.place_value.0 (omega arith))) in record {
+    (is_absent v.index.now h.count_in-n.result e.if-index-lt-INDEX_LENGTH.false h.count_in-n.ensures.0 (key v.owner v.number) a.find-i.result.place a.find-i.ensures.place_value.0 (omega arith))) in record {
       result_value = both.0;
       index_after = both.1;
     }
@@ -39,15 +39,15 @@ shape_of-index c = simp length-set (omega arith)
 
 pub returns : goal.returns
 returns c =
-    let r = c.before in
-    let o = r.before.before in
-    let a = o.before in
-    let h = a.before.before in
+    let r = c in
+    let o = c in
+    let a = c in
+    let h = c in
     let e = h in
     let v = e.args in
     let both = by_remove _ _ _ _
     (of_owner (lt-ltb v.owner 2 (omega arith))
-    (is_removed v.index-1.now h.count_in-n.result e.if-index-lt-INDEX_LENGTH.false h.count_in-n.ensures.0 (key v.owner v.number) a.find-i.result.place a.find-i.ensures.place_value.0 _
+    (is_removed v.index.now h.count_in-n.result e.if-index-lt-INDEX_LENGTH.false h.count_in-n.ensures.0 (key v.owner v.number) a.find-i.result.place a.find-i.ensures.place_value.0 _
     (omega arith) (omega arith) r.shift_down.ensures)) in record {
       result_value = both.0;
       index_after = both.1;
