@@ -18,8 +18,15 @@
 // answered. There are no arguments: with `--help`, or with any, it prints how it is called.
 #![tactic(auto)]
 
-fn main() {
-    if streams::has_no_argument(b"usage: archive < LINES\n") {
-        archive_commands::answer_lines();
+use streams::Streams;
+
+fn main(rt: HostRuntime) {
+    let streams = Streams {
+        input: rt.stdin(),
+        output: rt.stdout(),
+        errors: rt.stderr(),
+    };
+    if streams::has_no_argument(&rt, streams, b"usage: archive < LINES\n") {
+        archive_commands::answer_lines(streams);
     }
 }

@@ -4,13 +4,20 @@
 #![tactic(auto)]
 
 use catalogue_stream::Argument;
+use streams::{Streams, WORD_BYTES};
 
-fn main() {
-    let mut word = io::buffer();
-    let length = os::arg(1, &mut word);
-    let Argument::Depth(depth) = catalogue_stream::depth_in(&word[..length], os::arg_count()) else {
-        catalogue_stream::usage();
+fn main(rt: HostRuntime) {
+    let streams = Streams {
+        input: rt.stdin(),
+        output: rt.stdout(),
+        errors: rt.stderr(),
+    };
+    let mut word = [0u8; WORD_BYTES];
+    let length = streams::argument(&rt, 1, &mut word);
+    let arguments = streams::argument_count(&rt);
+    let Argument::Depth(depth) = catalogue_stream::depth_in(&word[..length], arguments) else {
+        catalogue_stream::usage(streams);
         return;
     };
-    catalogue_stream::answer_lines(depth);
+    catalogue_stream::answer_lines(streams, depth);
 }

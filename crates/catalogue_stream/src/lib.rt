@@ -6,6 +6,7 @@ ghost use Rattle.catalogue_stream.specs.Argument.{DepthInRange};
 use command_words::lines::{LINES, NextLine};
 use command_words::{NaturalAt, lines};
 use print::Buffer;
+use streams::Streams;
 
 // The program's argument: a depth, or no depth.
 #[derive(Clone, Copy)]
@@ -34,24 +35,26 @@ pub fn depth_in(word: &[u8], arguments: usize) -> Argument
 }
 
 // How the program is called.
-pub fn usage() {
-    streams::write(b"usage: catalogue DEPTH < LINES\n");
+pub fn usage(streams: Streams) {
+    streams::write(streams, b"usage: catalogue DEPTH < LINES\n");
 }
 
 // Answers the lines of the input.
-pub fn answer_lines(depth: u32) {
+pub fn answer_lines(streams: Streams, depth: u32) {
     let mut block = io::large_buffer();
     let mut store = io::large_buffer();
     let mut out = io::large_buffer();
     let mut state = lines::begin();
     for _ in 0..LINES {
-        let NextLine::Line(line, after) = lines::next(&mut block, &mut store, state, &out) else {
+        let NextLine::Line(line, after) = lines::next(streams, &mut block, &mut store, state, &out)
+        else {
             return;
         };
         state = after;
         state.at = answer(
             lines::with_feed(&block, &store, line),
             depth,
+            streams,
             &mut out,
             after.at,
         );
@@ -59,6 +62,6 @@ pub fn answer_lines(depth: u32) {
 }
 
 // The answer to a line, its line feed included.
-fn answer(line: &[u8], depth: u32, out: &mut Buffer, at: usize) -> usize {
-    print::located(out, at, htm::locate_line(line, depth))
+fn answer(line: &[u8], depth: u32, streams: Streams, out: &mut Buffer, at: usize) -> usize {
+    print::located(streams, out, at, htm::locate_line(line, depth))
 }

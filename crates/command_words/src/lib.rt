@@ -204,7 +204,10 @@ fn end(line: &[u8], at: usize) -> usize
     ensures { result ≤ length line.now }
 {
     if at < line.len() {
-        return bytes::scan::find(line, at, line.len(), BLANK);
+        return match line[at..].iter().position(|b| *b == BLANK) {
+            Some(n) => at + n,
+            None => line.len(),
+        };
     }
     line.len()
 }

@@ -3,7 +3,7 @@
 // found, and after a write that failed nothing more is read.
 use crate::StoredLine;
 use print::{Buffer, LOST};
-use streams::Input;
+use streams::{Input, Streams};
 
 // A loop must end, and no run has so many lines or blocks.
 pub const LINES: u64 = u64::MAX;
@@ -51,10 +51,16 @@ fn state_at(next: usize, end: usize, at: usize) -> LineState {
 }
 
 // The next line.
-pub fn next(block: &mut Buffer, store: &mut Buffer, state: LineState, out: &Buffer) -> NextLine {
+pub fn next(
+    streams: Streams,
+    block: &mut Buffer,
+    store: &mut Buffer,
+    state: LineState,
+    out: &Buffer,
+) -> NextLine {
     let mut at = state.at;
     if state.is_last || at == LOST {
-        print::flush(out, at);
+        print::flush(streams, out, at);
         return NextLine::Over;
     }
     let mut from = state.next;
@@ -72,7 +78,7 @@ pub fn next(block: &mut Buffer, store: &mut Buffer, state: LineState, out: &Buff
             return NextLine::Line(ended(block, store, stored, rest), state_at(after, end, at));
         }
         stored = append_part(store, stored, part(block, from, end));
-        let Input::Bytes(n) = refill(block, out, at) else {
+        let Input::Bytes(n) = refill(streams, block, out, at) else {
             return NextLine::Over;
         };
         if n == 0 {
@@ -93,8 +99,10 @@ fn after_feed(block: &[u8], from: usize, end: usize) -> usize {
     if block.len() < end {
         return 0;
     }
-    let feed = bytes::scan::find(block, from, end, LINE_FEED);
-    if feed < end { feed + 1 } else { 0 }
+    match block[from..end].iter().position(|b| *b == LINE_FEED) {
+        Some(n) => from + n + 1,
+        None => 0,
+    }
 }
 
 // The line whose rest lies in the block: the rest alone, or behind what is stored.
@@ -141,11 +149,11 @@ fn append_part(store: &mut Buffer, stored: StoredLine, part: &[u8]) -> StoredLin
 }
 
 // Writes what is collected, and reads the next block.
-fn refill(block: &mut Buffer, out: &Buffer, at: usize) -> Input {
-    if print::flush(out, at) == LOST {
+fn refill(streams: Streams, block: &mut Buffer, out: &Buffer, at: usize) -> Input {
+    if print::flush(streams, out, at) == LOST {
         return Input::Failed;
     }
-    streams::read(block)
+    streams::read(streams, block)
 }
 
 // The bytes of a line without its line feed. A line that is too long to be stored has none.

@@ -9,6 +9,7 @@ use covering::Counts;
 use htm::CoverOf;
 use limits::MAX_BUDGET;
 use region::{Header, HeaderOf};
+use streams::Streams;
 
 // The elements of two lists of pairs, each within the largest budget.
 pub const RANGES_LENGTH: usize = 4 * MAX_BUDGET as usize;
@@ -21,16 +22,17 @@ pub enum RangeShape {
 }
 
 // The lines of the cover of a file, with the byte `separator` between them; or its refusal.
-pub fn lines(out: &mut Buffer, at: usize, file: &[u8], separator: u8) -> usize {
+pub fn lines(streams: Streams, out: &mut Buffer, at: usize, file: &[u8], separator: u8) -> usize {
     let mut lists = [0u64; RANGES_LENGTH];
     match htm::cover(file, &mut lists) {
-        CoverOf::Gives(counts) => accepted(out, at, file, counts, &lists, separator),
-        CoverOf::Refused(n) => crate::refused(out, at, n),
+        CoverOf::Gives(counts) => accepted(streams, out, at, file, counts, &lists, separator),
+        CoverOf::Refused(n) => crate::refused(streams, out, at, n),
     }
 }
 
 // The lines of a file that is accepted.
 fn accepted(
+    streams: Streams,
     out: &mut Buffer,
     at: usize,
     file: &[u8],
@@ -39,8 +41,8 @@ fn accepted(
     separator: u8,
 ) -> usize {
     match header_of(file) {
-        HeaderOf::Gives(header) => covered(out, at, header, counts, lists, separator),
-        HeaderOf::Refused(n) => crate::refused(out, at, n),
+        HeaderOf::Gives(header) => covered(streams, out, at, header, counts, lists, separator),
+        HeaderOf::Refused(n) => crate::refused(streams, out, at, n),
     }
 }
 
@@ -53,6 +55,7 @@ fn header_of(file: &[u8]) -> HeaderOf
 }
 
 fn covered(
+    streams: Streams,
     out: &mut Buffer,
     at: usize,
     header: Header,
@@ -60,9 +63,10 @@ fn covered(
     lists: &[u64; RANGES_LENGTH],
     separator: u8,
 ) -> usize {
-    let end = first_line(out, at, header.depth, counts);
+    let end = first_line(streams, out, at, header.depth, counts);
     let inner = pairs(lists, inner_start(header.budget), counts.inner);
     let end = ranges(
+        streams,
         out,
         end,
         RangeShape::Names {
@@ -72,6 +76,7 @@ fn covered(
         pairs(lists, 0, counts.outer),
     );
     let end = ranges(
+        streams,
         out,
         end,
         RangeShape::Names {
@@ -80,22 +85,22 @@ fn covered(
         },
         inner,
     );
-    crate::byte(out, end, b'\n')
+    crate::byte(streams, out, end, b'\n')
 }
 
-fn first_line(out: &mut Buffer, at: usize, depth: u32, counts: Counts) -> usize {
-    let end = labelled(out, at, b"depth ", depth as u64);
-    let end = labelled(out, end, b" outer ", counts.outer);
-    let end = labelled(out, end, b" inner ", counts.inner);
-    let end = labelled(out, end, b" seen ", counts.seen);
-    let end = labelled(out, end, b" full ", counts.full);
-    let end = labelled(out, end, b" partial ", counts.partial);
-    labelled(out, end, b" swallowed ", counts.swallowed)
+fn first_line(streams: Streams, out: &mut Buffer, at: usize, depth: u32, counts: Counts) -> usize {
+    let end = labelled(streams, out, at, b"depth ", depth as u64);
+    let end = labelled(streams, out, end, b" outer ", counts.outer);
+    let end = labelled(streams, out, end, b" inner ", counts.inner);
+    let end = labelled(streams, out, end, b" seen ", counts.seen);
+    let end = labelled(streams, out, end, b" full ", counts.full);
+    let end = labelled(streams, out, end, b" partial ", counts.partial);
+    labelled(streams, out, end, b" swallowed ", counts.swallowed)
 }
 
-fn labelled(out: &mut Buffer, at: usize, label: &[u8], n: u64) -> usize {
-    let end = crate::text(out, at, label);
-    crate::digits(out, end, n)
+fn labelled(streams: Streams, out: &mut Buffer, at: usize, label: &[u8], n: u64) -> usize {
+    let end = crate::text(streams, out, at, label);
+    crate::digits(streams, out, end, n)
 }
 
 // The element of the lent list at which the inner list begins: twice the budget.
@@ -113,32 +118,55 @@ fn pairs(lists: &[u64], from: usize, count: u64) -> &[u64] {
 }
 
 // The ranges of a list.
-pub fn ranges(out: &mut Buffer, at: usize, shape: RangeShape, pairs: &[u64]) -> usize {
+pub fn ranges(
+    streams: Streams,
+    out: &mut Buffer,
+    at: usize,
+    shape: RangeShape,
+    pairs: &[u64],
+) -> usize {
     let mut end = at;
     for i in 0..pairs.len() / 2 {
-        end = range(out, end, shape, pairs[i * 2], pairs[i * 2 + 1]);
+        end = range(streams, out, end, shape, pairs[i * 2], pairs[i * 2 + 1]);
     }
     end
 }
 
-fn range(out: &mut Buffer, at: usize, shape: RangeShape, low: u64, high: u64) -> usize {
+fn range(
+    streams: Streams,
+    out: &mut Buffer,
+    at: usize,
+    shape: RangeShape,
+    low: u64,
+    high: u64,
+) -> usize {
     match shape {
-        RangeShape::Names { separator, letter } => names(out, at, separator, letter, low, high),
-        RangeShape::Identifiers => identifiers(out, at, low, high),
+        RangeShape::Names { separator, letter } => names(
+            streams, out, at, separator, letter, low, high,
+        ),
+        RangeShape::Identifiers => identifiers(streams, out, at, low, high),
     }
 }
 
-fn names(out: &mut Buffer, at: usize, separator: u8, letter: u8, low: u64, high: u64) -> usize {
-    let end = crate::byte(out, at, separator);
-    let end = crate::byte(out, end, letter);
-    let end = crate::byte(out, end, b' ');
-    let end = crate::name(out, end, low);
-    let end = crate::byte(out, end, b' ');
-    crate::name(out, end, high)
+fn names(
+    streams: Streams,
+    out: &mut Buffer,
+    at: usize,
+    separator: u8,
+    letter: u8,
+    low: u64,
+    high: u64,
+) -> usize {
+    let end = crate::byte(streams, out, at, separator);
+    let end = crate::byte(streams, out, end, letter);
+    let end = crate::byte(streams, out, end, b' ');
+    let end = crate::name(streams, out, end, low);
+    let end = crate::byte(streams, out, end, b' ');
+    crate::name(streams, out, end, high)
 }
 
-fn identifiers(out: &mut Buffer, at: usize, low: u64, high: u64) -> usize {
-    let end = crate::byte(out, at, b'|');
-    let end = crate::natural(out, end, low, b' ');
-    crate::digits(out, end, high)
+fn identifiers(streams: Streams, out: &mut Buffer, at: usize, low: u64, high: u64) -> usize {
+    let end = crate::byte(streams, out, at, b'|');
+    let end = crate::natural(streams, out, end, low, b' ');
+    crate::digits(streams, out, end, high)
 }

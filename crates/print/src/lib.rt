@@ -6,6 +6,7 @@ ghost use Rattle.std.specs.Prelude.{◌≤◌, ◌≡◌, nat_abs};
 ghost use Rattle.print.specs.Lost.{lost};
 
 use answer::Number;
+use streams::Streams;
 
 pub mod covers;
 pub mod regions;
@@ -24,51 +25,51 @@ pub type Buffer = [u8; SIZE];
 // Past every place of the buffer, and past its end.
 pub const LOST: usize = SIZE + 1;
 
-pub fn byte(out: &mut Buffer, at: usize, b: u8) -> usize
+pub fn byte(streams: Streams, out: &mut Buffer, at: usize, b: u8) -> usize
     ensures { at ≡ lost → result ≡ lost }
 {
     if at < SIZE {
         out[at] = b;
         return at + 1;
     }
-    if flush(out, at) == LOST {
+    if flush(streams, out, at) == LOST {
         return LOST;
     }
     out[0] = b;
     1
 }
 
-pub fn text(out: &mut Buffer, at: usize, bytes: &[u8]) -> usize {
+pub fn text(streams: Streams, out: &mut Buffer, at: usize, bytes: &[u8]) -> usize {
     let mut end = at;
     for i in 0..bytes.len() {
-        end = byte(out, end, bytes[i]);
+        end = byte(streams, out, end, bytes[i]);
     }
     end
 }
 
 // A number, and the byte that parts it from what follows; `digits` and `integer` without that byte.
-pub fn natural(out: &mut Buffer, at: usize, n: u64, then: u8) -> usize {
-    let end = digits(out, at, n);
-    byte(out, end, then)
+pub fn natural(streams: Streams, out: &mut Buffer, at: usize, n: u64, then: u8) -> usize {
+    let end = digits(streams, out, at, n);
+    byte(streams, out, end, then)
 }
 
-pub fn digits(out: &mut Buffer, at: usize, n: u64) -> usize {
+pub fn digits(streams: Streams, out: &mut Buffer, at: usize, n: u64) -> usize {
     let mut digits = [0u8; DIGITS];
     let k = io::decimal(n, &mut digits);
-    text(out, at, &digits[..k])
+    text(streams, out, at, &digits[..k])
 }
 
-pub fn whole(out: &mut Buffer, at: usize, n: i64, then: u8) -> usize {
-    let end = integer(out, at, n);
-    byte(out, end, then)
+pub fn whole(streams: Streams, out: &mut Buffer, at: usize, n: i64, then: u8) -> usize {
+    let end = integer(streams, out, at, n);
+    byte(streams, out, end, then)
 }
 
-pub fn integer(out: &mut Buffer, at: usize, n: i64) -> usize {
+pub fn integer(streams: Streams, out: &mut Buffer, at: usize, n: i64) -> usize {
     if n < 0 {
-        let end = byte(out, at, b'-');
-        return digits(out, end, size(n));
+        let end = byte(streams, out, at, b'-');
+        return digits(streams, out, end, size(n));
     }
-    digits(out, at, size(n))
+    digits(streams, out, at, size(n))
 }
 
 // How far a number is from 0.
@@ -83,26 +84,26 @@ fn size(n: i64) -> u64
 }
 
 // The name of an identifier, or the refusal of a number that is none.
-pub fn name(out: &mut Buffer, at: usize, id: u64) -> usize {
+pub fn name(streams: Streams, out: &mut Buffer, at: usize, id: u64) -> usize {
     let mut name = [0u8; NAME_BYTES];
     match htm::name(id, &mut name) {
         Number::Gives(n) => {
             let k = least(n, NAME_BYTES);
-            text(out, at, &name[0..k])
+            text(streams, out, at, &name[0..k])
         },
-        Number::Refused(n) => refusal(out, at, n),
+        Number::Refused(n) => refusal(streams, out, at, n),
     }
 }
 
 // The answer of a lookup, and the line's end: identifier and name, or the refusal.
-pub fn located(out: &mut Buffer, at: usize, answer: Number) -> usize {
+pub fn located(streams: Streams, out: &mut Buffer, at: usize, answer: Number) -> usize {
     match answer {
         Number::Gives(id) => {
-            let end = natural(out, at, id, b' ');
-            let end = name(out, end, id);
-            byte(out, end, b'\n')
+            let end = natural(streams, out, at, id, b' ');
+            let end = name(streams, out, end, id);
+            byte(streams, out, end, b'\n')
         },
-        Number::Refused(n) => refused(out, at, n),
+        Number::Refused(n) => refused(streams, out, at, n),
     }
 }
 
@@ -114,27 +115,31 @@ pub fn least(n: u64, most: usize) -> usize
 }
 
 // A refusal, and one that is a line of its own.
-fn refusal(out: &mut Buffer, at: usize, number: u32) -> usize {
-    let end = text(out, at, b"refused ");
-    digits(out, end, number as u64)
+fn refusal(streams: Streams, out: &mut Buffer, at: usize, number: u32) -> usize {
+    let end = text(streams, out, at, b"refused ");
+    digits(streams, out, end, number as u64)
 }
 
-pub fn refused(out: &mut Buffer, at: usize, number: u32) -> usize {
-    let end = refusal(out, at, number);
-    byte(out, end, b'\n')
+pub fn refused(streams: Streams, out: &mut Buffer, at: usize, number: u32) -> usize {
+    let end = refusal(streams, out, at, number);
+    byte(streams, out, end, b'\n')
 }
 
-pub fn usage(out: &mut Buffer, at: usize) -> usize {
-    text(out, at, b"usage\n")
+pub fn usage(streams: Streams, out: &mut Buffer, at: usize) -> usize {
+    text(streams, out, at, b"usage\n")
 }
 
 // Writes what was collected. The place is then the buffer's beginning, or LOST.
-pub fn flush(out: &Buffer, at: usize) -> usize
+pub fn flush(streams: Streams, out: &Buffer, at: usize) -> usize
     ensures { at ≡ lost → result ≡ lost }
 {
     let all: &[u8] = out;
     if all.len() < at {
         return LOST;
     }
-    if streams::write(&all[0..at]) { 0 } else { LOST }
+    if streams::write(streams, &all[0..at]) {
+        0
+    } else {
+        LOST
+    }
 }

@@ -22,8 +22,15 @@
 // with any, it prints how it is called.
 #![tactic(auto)]
 
-fn main() {
-    if streams::has_no_argument(b"usage: query < LINES\n") {
-        query_commands::answer_lines();
+use streams::Streams;
+
+fn main(rt: HostRuntime) {
+    let streams = Streams {
+        input: rt.stdin(),
+        output: rt.stdout(),
+        errors: rt.stderr(),
+    };
+    if streams::has_no_argument(&rt, streams, b"usage: query < LINES\n") {
+        query_commands::answer_lines(streams);
     }
 }

@@ -6,6 +6,7 @@ ghost use Rattle.std.specs.Float.Ieee.{of_bits};
 use command_words::{Natural, NaturalAt};
 use mount::{Double, Report, Single};
 use print::Buffer;
+use streams::Streams;
 
 // The bits of infinity in double precision, and the bit of the sign. What is above infinity without its sign is a NaN.
 const DOUBLE_INFINITY: u64 = 2047 << 52;
@@ -34,29 +35,39 @@ enum ReportAt {
 }
 
 // double X Y Z DEPTH
-pub fn double(line: &[u8], next: usize, out: &mut Buffer, at: usize) -> usize {
+pub fn double(line: &[u8], next: usize, streams: Streams, out: &mut Buffer, at: usize) -> usize {
     let ReportAt::Is { x, y, z, depth } = report_at(line, next, 16) else {
-        return print::usage(out, at);
+        return print::usage(streams, out, at);
     };
     let report = Double {
         x: double_of(x),
         y: double_of(y),
         z: double_of(z),
     };
-    print::located(out, at, htm::locate_report(Report::Double(report), depth))
+    print::located(
+        streams,
+        out,
+        at,
+        htm::locate_report(Report::Double(report), depth),
+    )
 }
 
 // single X Y Z DEPTH
-pub fn single(line: &[u8], next: usize, out: &mut Buffer, at: usize) -> usize {
+pub fn single(line: &[u8], next: usize, streams: Streams, out: &mut Buffer, at: usize) -> usize {
     let ReportAt::Is { x, y, z, depth } = report_at(line, next, 8) else {
-        return print::usage(out, at);
+        return print::usage(streams, out, at);
     };
     let report = Single {
         x: single_of(x),
         y: single_of(y),
         z: single_of(z),
     };
-    print::located(out, at, htm::locate_report(Report::Single(report), depth))
+    print::located(
+        streams,
+        out,
+        at,
+        htm::locate_report(Report::Single(report), depth),
+    )
 }
 
 // Three floats of `digits` digits each and a depth, to the line's end.

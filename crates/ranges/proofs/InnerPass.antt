@@ -147,7 +147,7 @@ module _ (B : ℕ) (one : 1 ≤ B) where
 
   fold_inner : {done : List Range} {s : Inner} (rest : List Range) → After done s → After (done ++ rest) (foldl (inner_push B) s rest)
   fold_inner {done} [] a = rw (append-nil done) a
-  fold_inner {done} (r ∷ rest) a = rw append_assoc at (fold_inner rest (push_inner r a))
+  fold_inner {done} {s} (r ∷ rest) a = rw append_assoc at (fold_inner {done = done ++ r ∷ []} {s = inner_push B s r} rest (push_inner r a))
 
   end_inner : {done : List Range} {s : Inner} → After done s → inner_end B s ≡ inner_of B done
   unfolding inner_end inner_of

@@ -1,7 +1,7 @@
 -- One pass over the ranges gives the two lists, the outer by OuterPass and the inner by InnerPass. Assumes nothing.
 use Rattle.ranges.proofs.OuterPass.{outer_pass_law}
 use Rattle.ranges.proofs.InnerPass.{inner_pass_law}
-use Prim.Native.Nat.{ℕ, ◌-◌, ◌≤◌}
+use Prim.Native.Nat.{ℕ, ◌≤◌}
 use mathlib.Core.Path.{◌≡◌}
 use mathlib.Core.List.{List}
 use Rattle.ranges.specs.Ranges.{Range}

@@ -2,15 +2,36 @@
 // and a failure is said on standard error.
 #![tactic(auto)]
 
-ghost use Rattle.std.specs.Prelude.{◌≡◌};
+ghost use Rattle.std.specs.Prelude.{◌≡◌, ◌≤◌, length};
+ghost use Rattle.std.specs.Io.{ReadsAtMost};
+ghost use Rattle.std.specs.Io.KnownBytes.{ReadConsumes};
 ghost use Rattle.streams.specs.Input.{BytesIn};
 ghost use Rattle.streams.specs.declared.Input.{Input};
 
 use check::same;
-use libc::{EINTR, STDERR_FILENO, STDIN_FILENO, STDOUT_FILENO};
+use std::env::{Env, FillError};
+use std::io;
+use std::io::{ErrorKind, Print, Read, Stderr, Stdin, Stdout, Write};
 
 // A loop must end, and no run is interrupted so often.
 const CALLS: u64 = u64::MAX;
+
+// How many bytes an argument has at most, to be read.
+pub const WORD_BYTES: usize = 4096;
+
+// How many bytes of an error's text are said.
+const REASON_BYTES: usize = 128;
+
+// What std puts between the system's text of an error and its number.
+const BEFORE_NUMBER: &str = " (os error ";
+
+// The streams of a program, which `main` takes from its runtime. They have no bytes.
+#[derive(Clone, Copy)]
+pub struct Streams {
+    pub input: Stdin,
+    pub output: Stdout,
+    pub errors: Stderr,
+}
 
 // How many bytes were read, 0 at the input's end; or a read has failed.
 #[derive(Clone, Copy)]
@@ -20,35 +41,48 @@ pub enum Input {
 }
 
 // One read, to the beginning of `to`.
-pub fn read(to: &mut [u8]) -> Input
+pub fn read(streams: Streams, to: &mut [u8]) -> Input
     ensures { BytesIn to.new result }
 {
-    for _ in 0..CALLS {
-        let got = libc::read(STDIN_FILENO, to);
-        if 0 <= got {
-            return Input::Bytes(io::count(got, to));
-        }
-        if os::errno() != EINTR {
-            return failed();
-        }
+    let mut input = streams.input;
+    match read_from(&mut input, to) {
+        Ok(n) => Input::Bytes(n),
+        Err(e) => failed(streams, &e),
     }
-    failed()
 }
 
-fn failed() -> Input
+// As above, from any reader.
+fn read_from<R: Read>(input: &mut R, to: &mut [u8]) -> io::Result<usize>
+    ensures bound { ReadsAtMost result to.new }
+    ensures bytes { ReadConsumes (R.remaining input.old) (R.remaining input.new) result to.new }
+{
+    for _ in 0..CALLS {
+        match input.read(to) {
+            Ok(n) => return Ok(n),
+            Err(e) => {
+                if e.kind() != ErrorKind::Interrupted {
+                    return Err(e);
+                }
+            },
+        }
+    }
+    Err(io::Error::from(ErrorKind::Interrupted))
+}
+
+fn failed(streams: Streams, e: &io::Error) -> Input
     ensures { result ≡ Input.Failed }
 {
-    os::fail(b"standard input is not read to its end");
+    say(streams, "standard input is not read to its end", e);
     Input::Failed
 }
 
 // Reads to the end of the input, or until `to` is full.
-pub fn read_all(to: &mut [u8]) -> Input
+pub fn read_all(streams: Streams, to: &mut [u8]) -> Input
     ensures { BytesIn to.new result }
 {
     let mut done = 0;
     while done < to.len() {
-        let Input::Bytes(n) = read(&mut to[done..]) else {
+        let Input::Bytes(n) = read(streams, &mut to[done..]) else {
             return Input::Failed;
         };
         if n == 0 {
@@ -60,42 +94,66 @@ pub fn read_all(to: &mut [u8]) -> Input
 }
 
 // Writes all of `bytes`, and answers whether that was done.
-pub fn write(bytes: &[u8]) -> bool {
-    let mut done = 0;
-    for _ in 0..CALLS {
-        if bytes.len() <= done {
-            return true;
-        }
-        let put = libc::write(STDOUT_FILENO, &bytes[done..]);
-        if !goes_on(put) {
-            break;
-        }
-        done += io::count(put, &bytes[done..]);
+pub fn write(streams: Streams, bytes: &[u8]) -> bool {
+    let mut output = streams.output;
+    match Write::write_all(&mut output, bytes) {
+        Ok(()) => true,
+        Err(e) => {
+            say(streams, "standard output is cut short", &e);
+            false
+        },
     }
-    os::fail(b"standard output is cut short");
-    false
 }
 
-// Whether a write took some bytes or was interrupted.
-fn goes_on(put: isize) -> bool {
-    if put < 0 {
-        return os::errno() == EINTR;
+// Says on standard error what has failed, and the system's text of why.
+fn say(streams: Streams, what: &str, e: &io::Error) {
+    let mut text = [0u8; REASON_BYTES];
+    let mut rest = &mut text[..];
+    let _ = write!(rest, "{e}");
+    let reason = reason_in(&text);
+    let _ = Print::println(&streams.errors, format_args!("{what}: {reason}"));
+}
+
+// The text of an error up to its number, which std puts behind it, or up to the first zero.
+fn reason_in(text: &[u8]) -> &str {
+    let Ok(words) = str::from_utf8(text) else {
+        return "";
+    };
+    let (all, _) = words.split_once('\0').unwrap_or((words, ""));
+    let (reason, _) = all.split_once(BEFORE_NUMBER).unwrap_or((all, ""));
+    reason
+}
+
+// The argument at a place, at the beginning of `to`: its length, or 0 where there is none or `to` is too short for it.
+pub fn argument(rt: &impl Env, place: usize, to: &mut [u8]) -> usize
+    ensures { result ≤ length to.new }
+{
+    rt.arg(place, to).unwrap_or(0)
+}
+
+// How many arguments the program was started with, its own name among them.
+pub fn argument_count(rt: &impl Env) -> usize {
+    for n in 0..usize::MAX {
+        if let Err(FillError::NotPresent) = rt.arg(n, &mut []) {
+            return n;
+        }
     }
-    0 < put
+    usize::MAX
 }
 
 // Whether a program that takes no argument was given none. Else its usage is written: on standard output where it is asked for, on standard error
 // otherwise.
-pub fn has_no_argument(usage: &[u8]) -> bool {
-    if os::arg_count() < 2 {
+pub fn has_no_argument(rt: &impl Env, streams: Streams, usage: &[u8]) -> bool {
+    if argument_count(rt) < 2 {
         return true;
     }
-    let mut word = io::buffer();
-    let length = os::arg(1, &mut word);
+    let mut word = [0u8; WORD_BYTES];
+    let length = argument(rt, 1, &mut word);
     if same(&word[..length], b"--help") {
-        write(usage);
+        write(streams, usage);
     } else {
-        io::write_all(STDERR_FILENO, usage);
+        let mut errors = streams.errors;
+        let _ = Write::write_all(&mut errors, usage);
     }
     false
 }

@@ -11,19 +11,14 @@ use Rattle.classify_prepared.specs.Measures.{IsRay}
 use Rattle.classify_prepared.proofs.measured.Goals as goal
 
 -- the first ray, which is given, is a product of two small vectors
-first_most : (c : goal.Start) → AtMost (2 ^ 41) c.args.r
-first_most c = subst (AtMost (2 ^ 41)) (sym c.requires.r_value) (at_most_cross c.requires.small_trixel.p1 c.requires.small_trixel.p2)
-
 pub ray_of-requires : goal.ray_of-requires
-ray_of-requires c = first_most c.before.before.before
+ray_of-requires c = subst (AtMost (2 ^ 41)) (sym c.requires.r_value) (at_most_cross c.requires.small_trixel.p1 c.requires.small_trixel.p2)
 
 pub returns : goal.returns
 returns c =
-    let r = c.before.before.before in
-    let s = r in
     record {
-      r0 = subst (λ v. IsRay v r.ray_of.result) s.requires.r_value r.ray_of.ensures;
+      r0 = subst (λ v. IsRay v c.ray_of.result) c.requires.r_value c.ray_of.ensures;
       r1 = c.cross_ray.ensures;
       r2 = c.cross_ray-2.ensures;
-      oriented = ap (lt_z (pos 0)) ((held c.dot.ensures.upto tt).eq ∙ c.dot.ensures.value ∙ ap (dot s.args.t.p0) s.requires.r_value);
+      oriented = ap (lt_z (pos 0)) ((held c.dot.ensures.upto tt).eq ∙ c.dot.ensures.value ∙ ap (dot c.args.t.p0) c.requires.r_value);
     }

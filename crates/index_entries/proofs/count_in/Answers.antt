@@ -14,7 +14,7 @@ pub returns-then-n-lt0 : goal.returns-then-n-lt0
 returns-then-n-lt0 c = (none_below (get_or c.args.index.now 0 (pos 0)) c.n-1.given c.if-n-lt0.true, omega arith)
 
 pub overflow_cast-count : goal.overflow_cast-count
-overflow_cast-count c = ((read c).sign, (read c).ranges)
+overflow_cast-count c = ((read c).sign, (read c).fits)
 
 pub returns-then-count-gt-INDEX_CAPACITY : goal.returns-then-count-gt-INDEX_CAPACITY
 returns-then-count-gt-INDEX_CAPACITY c = omega (arith, (read c.before).same)

@@ -1,41 +1,40 @@
-use Prim.Native.Nat.{ℕ, ◌+◌, ◌-◌}
+use Prim.Native.Nat.{ℕ, ◌+◌}
 use mathlib.Core.Path.{◌≡◌, sym, ap, ◌∙◌}
-use mathlib.Core.Bool.{Bool, true, false, not}
+use mathlib.Core.Bool.{Bool, true, not}
 use mathlib.Core.List.{List}
 use native.Mathlib.Omega.{arith}
 use borrow.Author.Count.{below_none}
 use lib.IntN.{ℤ}
 use Rattle.index.specs.Exposures.{Key, key}
 use Rattle.index.specs.Entries.{is_keyed}
-use Rattle.index_entries.proofs.find.Invariants.{Others, all_owned, at, ends, few, none, none_owned, one_more, one_owned, two_more, two_owned}
+use Rattle.index_entries.proofs.find.Invariants.{Others, all_owned, at, ends, none, none_owned, one_more, one_owned, two_more, two_owned}
 use Rattle.index_entries.proofs.find.Goals as goal
-
--- ---- of a list l and a key k
+use Rattle.index_entries.proofs.find.Goals.{After-is_keyed, After-is_keyed-2, After-is_keyed-in-loop-i, At-loop-i, Else-is_keyed}
 
 -- ---- the loop
 
 -- the list and the key; the tests: of the entry at hand, of the next one, and of the last one
-abbrev list : goal.At-loop-i → List ℤ
+abbrev list : At-loop-i → List ℤ
 list l = l.args.index.now
 
-abbrev asked : goal.At-loop-i → Key
+abbrev asked : At-loop-i → Key
 asked l = key l.args.owner l.args.number
 
-abbrev Tested : goal.At-loop-i → ℕ → Bool → Type 0
+abbrev Tested : At-loop-i → ℕ → Bool → Type 0
 Tested l i t = at (list l) (asked l) i ≡ t
 
-first : (c : goal.After-is_keyed) → Tested c.before.before.before c.loop-i.i c.is_keyed.result
+first : (c : After-is_keyed) → Tested c.before.before.before c.loop-i.i c.is_keyed.result
 first c = ap (is_keyed (asked c.before.before.before)) (sym c.entry_at-e.ensures) ∙ sym c.is_keyed.ensures
 
-second : (c : goal.After-is_keyed-in-loop-i)
+second : (c : After-is_keyed-in-loop-i)
     → Tested c.before.before.before.before.before.before (c.loop-i.i + 1) c.is_keyed-in-loop-i.result
 second c = ap (is_keyed (asked c.before.before.before.before.before.before)) (sym c.entry_at-f.ensures) ∙ sym c.is_keyed-in-loop-i.ensures
 
-last : (c : goal.After-is_keyed-2) → Tested c.before.before.before.before c.loop-i.i c.is_keyed-2.result
+last : (c : After-is_keyed-2) → Tested c.before.before.before.before c.loop-i.i c.is_keyed-2.result
 last c = ap (is_keyed (asked c.before.before.before.before)) (sym c.entry_at-e-2.ensures) ∙ sym c.is_keyed-2.ensures
 
 -- past the first of the two
-passed : (c : goal.Else-is_keyed) → Others (list c.before.before.before.before) (asked c.before.before.before.before) (c.loop-i.i + 1)
+passed : (c : Else-is_keyed) → Others (list c.before.before.before.before) (asked c.before.before.before.before) (c.loop-i.i + 1)
 passed c = let l = c.before.before.before.before in one_more (list l) (asked l) l.loop-i.i l.loop-i.invariant.1 (first c.before ∙ c.if-is_keyed.false)
 
 pub loop-i-init : goal.loop-i-init

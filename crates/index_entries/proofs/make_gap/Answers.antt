@@ -1,8 +1,8 @@
 use Prim.Native.Nat.{ℕ, suc, ◌+◌, ◌*◌, ◌-◌}
 use mathlib.Core.Path.{◌≡◌, refl, sym, ap, ◌∙◌}
-use mathlib.Core.Bool.{Bool, true, false}
+use mathlib.Core.Bool.{Bool, false}
 use native.Mathlib.Omega.{arith}
-use borrow.Author.Tests.{eqb-true, eqb-false, not-true, not-false}
+use borrow.Author.Tests.{eqb-true, eqb-false}
 use lib.Dec.{eqb}
 use Rattle.algebra.proofs.Tests.{split}
 use Rattle.answer.specs.Lent.{put}
@@ -10,20 +10,18 @@ use Rattle.index.specs.Entries.{precedes, Width, numbers, entry_at}
 use Rattle.index_entries.proofs.ShiftLaws.{raised_start, raised_entry, raised_step}
 use Rattle.index_entries.proofs.SearchLaws.{stay_ends}
 use Rattle.index_entries.proofs.make_gap.Goals as goal
+use Rattle.index_entries.proofs.make_gap.Goals.{After-entry_at-x, After-precedes}
 
 -- the entry at hand has not moved, and is tested
-unmoved : (c : goal.After-entry_at-x) → c.entry_at-x.result ≡ entry_at c.args.index.now (1 + Width * (c.loop-i.i - 1))
+unmoved : (c : After-entry_at-x) → c.entry_at-x.result ≡ entry_at c.args.index.now (1 + Width * (c.loop-i.i - 1))
 unmoved c =
-    let l = c.before.before.before in
-    let s = l in
-    c.entry_at-x.ensures ∙ raised_entry s.args.n l.loop-i.i s.args.index.now l.loop-i.index l.loop-i.invariant.1 (omega arith) (omega arith) (omega arith)
+    c.entry_at-x.ensures ∙ raised_entry c.args.n c.loop-i.i c.args.index.now c.loop-i.index c.loop-i.invariant.1 (omega arith) (omega arith) (omega arith)
 
-abbrev hand : goal.After-precedes → Bool
+abbrev hand : After-precedes → Bool
 hand c =
-    let s = c in
-    precedes s.args.e (entry_at s.args.index.now (1 + Width * (c.loop-i.i - 1)))
+    precedes c.args.e (entry_at c.args.index.now (1 + Width * (c.loop-i.i - 1)))
 
-tested : (c : goal.After-precedes) → hand c ≡ c.precedes.result
+tested : (c : After-precedes) → hand c ≡ c.precedes.result
 tested c = ap (precedes c.args.e) (sym (unmoved c.before)) ∙ sym c.precedes.ensures
 
 pub loop-i-init : goal.loop-i-init
@@ -36,12 +34,12 @@ pub returns-then-not-precedes : goal.returns-then-not-precedes
 returns-then-not-precedes c =
     let l = c in
     let v = l.args in
-    let no : (j : ℕ) → l.loop-i.i ≡ suc j → precedes v.e (entry_at v.index-1.now (1 + Width * j)) ≡ false =
+    let no : (j : ℕ) → l.loop-i.i ≡ suc j → precedes v.e (entry_at v.index.now (1 + Width * j)) ≡ false =
     λ j p.
-    (let e : j ≡ l.loop-i.i - 1 = omega arith in ap (λ k. precedes v.e (entry_at v.index-1.now (1 + Width * k))) e)
-    ∙ tested c.before ∙ not-true c.precedes.result c.if-not-precedes.true in
+    (let e : j ≡ l.loop-i.i - 1 = omega arith in ap (λ k. precedes v.e (entry_at v.index.now (1 + Width * k))) e)
+    ∙ tested c.before ∙ c.if-not-precedes.true in
     record {
-      value = (stay_ends (precedes v.e) v.n v.index-1.now 1 l.loop-i.i (omega arith) l.loop-i.invariant.3 no, omega arith);
+      value = (stay_ends (precedes v.e) v.n v.index.now 1 l.loop-i.i (omega arith) l.loop-i.invariant.3 no, omega arith);
       index_after = l.loop-i.invariant.1;
     }
 
@@ -50,14 +48,14 @@ loop-i-preserved c =
     let l = c in
     let v = l.args in
     let p = c.before.before.before.before in
-    let yes = tested p ∙ not-false p.precedes.result c.if-not-precedes.false in (
+    let yes = tested p ∙ c.if-not-precedes.false in (
       omega arith,
       c.store_entry.ensures
           ∙ ap (λ x. put (1 + Width * l.loop-i.i) (numbers x) l.loop-i.index) (unmoved p.before)
-          ∙ raised_step v.n l.loop-i.i v.index-1.now l.loop-i.index l.loop-i.invariant.1 (omega arith) (omega arith) (omega arith),
-      c.store_entry.auto.0 ∙ l.loop-i.invariant.2,
+          ∙ raised_step v.n l.loop-i.i v.index.now l.loop-i.index l.loop-i.invariant.1 (omega arith) (omega arith) (omega arith),
+      c.store_entry.auto.index ∙ l.loop-i.invariant.2,
       λ j a b. split (eqb j (l.loop-i.i - 1))
-          (λ t. ap (λ k. precedes v.e (entry_at v.index-1.now (1 + Width * k))) (eqb-true j (l.loop-i.i - 1) t) ∙ yes)
+          (λ t. ap (λ k. precedes v.e (entry_at v.index.now (1 + Width * k))) (eqb-true j (l.loop-i.i - 1) t) ∙ yes)
           (λ t. l.loop-i.invariant.3 j (omega (arith, eqb-false j (l.loop-i.i - 1) t)) b),
     )
 
@@ -69,6 +67,6 @@ returns c =
     let l = c in
     let v = l.args in
     record {
-      value = (stay_ends (precedes v.e) v.n v.index-1.now 1 l.loop-i.i (omega arith) l.loop-i.invariant.3 (λ j p. absurd (omega arith)), omega arith);
+      value = (stay_ends (precedes v.e) v.n v.index.now 1 l.loop-i.i (omega arith) l.loop-i.invariant.3 (λ j p. absurd (omega arith)), omega arith);
       index_after = l.loop-i.invariant.1;
     }

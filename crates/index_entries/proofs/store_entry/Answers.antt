@@ -19,7 +19,7 @@ pub store-requires : goal.store-requires
 store-requires c = simp length-set (omega arith)
 
 pub shape_of-index : goal.shape_of-index
-shape_of-index c = c.store.auto.0 ∙ simp length-set
+shape_of-index c = c.store.auto.xs ∙ simp length-set
 
 pub returns : goal.returns
 returns c =
@@ -32,5 +32,5 @@ returns c =
     let number = stored_same e.number p.struct_told-2-1.given.1.0.1 in
     let owner = stored_same e.owner p.struct_told-3-1.given.1.1.0.1 in
     let front = e.id ∷ e.number ∷ e.owner ∷ [] in
-    let first = (λ i. set (set (set v.index-1.now k (id i)) (k + 1) (number i)) (k + 2) (owner i)) ∙ stored_put k front v.index-1.now (omega arith) in
-    put_next k front (three e.pointing) v.index-1.now first c.store.ensures refl (omega arith)
+    let first = (λ i. set (set (set v.index.now k (id i)) (k + 1) (number i)) (k + 2) (owner i)) ∙ stored_put k front v.index.now (omega arith) in
+    put_next k front (three e.pointing) v.index.now first c.store.ensures refl (omega arith)

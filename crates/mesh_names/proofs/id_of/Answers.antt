@@ -8,7 +8,7 @@ value_of-requires c = sym c.is_name.ensures ∙ c.if-is_name.true
 
 pub returns-then-is_name : goal.returns-then-is_name
 unfolding identifier_of
-returns-then-is_name c = simp (c.value_of_lem.ensures, sym c.is_name.ensures ∙ c.if-is_name.true)
+returns-then-is_name c = simp (c.value_of.ensures, sym c.is_name.ensures ∙ c.if-is_name.true)
 
 pub returns-else-is_name : goal.returns-else-is_name
 unfolding identifier_of

@@ -1,7 +1,6 @@
 -- The code makes the definition's tests, the length first. Assumes nothing.
 use native.Mathlib.Omega.{arith}
 use mathlib.Core.Path.{sym, ◌∙◌}
-use borrow.Author.Tests.{not-true, not-false}
 use Rattle.mesh_names.proofs.NameReading.{too_short, too_long, no_letter, letter_then_digits}
 use Rattle.mesh_names.proofs.is_name.Goals as goal
 
@@ -12,9 +11,8 @@ pub returns-then-name-gt-MAX_NAME_BYTES : goal.returns-then-name-gt-MAX_NAME_BYT
 returns-then-name-gt-MAX_NAME_BYTES c = sym (too_long _ (omega arith))
 
 pub returns-then-not-is_letter : goal.returns-then-not-is_letter
-returns-then-not-is_letter c = sym (no_letter _ (sym c.is_letter.ensures ∙ not-true _ c.if-not-is_letter.true))
+returns-then-not-is_letter c = sym (no_letter _ (sym c.is_letter.ensures ∙ c.if-not-is_letter.true))
 
 pub returns : goal.returns
 returns c =
-    let l = c in
-    c.are_digits_law.ensures ∙ sym (letter_then_digits _ (omega arith) (omega arith) (sym l.is_letter.ensures ∙ not-false _ c.if-not-is_letter.false))
+    c.are_digits.ensures ∙ sym (letter_then_digits _ (omega arith) (omega arith) (sym c.is_letter.ensures ∙ c.if-not-is_letter.false))

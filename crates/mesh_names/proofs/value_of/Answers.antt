@@ -7,7 +7,7 @@ pub bounds-name-0 : goal.bounds-name-0
 bounds-name-0 c = name_length _ c.requires
 
 pub loop-i-init : goal.loop-i-init
-loop-i-init c = rw c.letter_value_law.ensures (read_letter _ c.requires)
+loop-i-init c = rw c.letter_value-id.ensures (read_letter _ c.requires)
 
 pub overflow_mul-id : goal.overflow_mul-id
 overflow_mul-id c = omega (arith, next_fits _ _ _ c.loop-i.invariant c.loop-i-test.true)

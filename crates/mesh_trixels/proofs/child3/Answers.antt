@@ -17,6 +17,6 @@ returns c =
     let p1 = c.negated-2.ensures in
     let p2 = c.negated-3.ensures in
     let k = s.args.c in (
-      λ i. record { v0 = k.w0-1; v1 = k.w1-1; v2 = k.w2-1; p0 = p0.value i; p1 = p1.value i; p2 = p2.value i },
+      λ i. record { v0 = k.w0; v1 = k.w1; v2 = k.w2; p0 = p0.value i; p1 = p1.value i; p2 = p2.value i },
       record { v0 = s.requires.w0; v1 = s.requires.w1; v2 = s.requires.w2; p0 = p0.small; p1 = p1.small; p2 = p2.small },
     )

@@ -2,14 +2,13 @@
 use Prim.Native.Nat.{◌≤◌}
 use mathlib.Core.Path.{◌≡◌, sym, ◌∙◌}
 use mathlib.Core.Bool.{true}
-use borrow.Author.Tests.{not-true, not-false}
 use Rattle.vector.specs.Numbers.{is_depth}
 use Rattle.vector.proofs.DepthLaws.{depth_range}
 use Rattle.mesh_trixels.proofs.CornerLaws.{corners_none, corners_given_law, level_range}
 use Rattle.mesh_trixels.proofs.corners_of.Goals as goal
 
 depth : (c : goal.Else-not-is_depth) → is_depth c.depth_of-depth.result ≡ true
-depth c = sym c.is_depth.ensures ∙ not-false _ c.if-not-is_depth.false
+depth c = sym c.is_depth.ensures ∙ c.if-not-is_depth.false
 
 least : (c : goal.Else-not-is_depth) → 1 ≤ c.depth_of-depth.result
 least c = (depth_range c.depth_of-depth.result (depth c)).0
@@ -17,7 +16,7 @@ least c = (depth_range c.depth_of-depth.result (depth c)).0
 pub returns-then-not-is_depth : goal.returns-then-not-is_depth
 returns-then-not-is_depth c =
     let d = c in
-    corners_none d.args.id _ d.depth_of-depth.ensures.value (sym c.is_depth.ensures ∙ not-true _ c.if-not-is_depth.true)
+    corners_none d.args.id _ d.depth_of-depth.ensures.value (sym c.is_depth.ensures ∙ c.if-not-is_depth.true)
 
 pub overflow_sub-depth : goal.overflow_sub-depth
 overflow_sub-depth c = least c

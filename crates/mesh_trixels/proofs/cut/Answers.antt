@@ -11,20 +11,20 @@ normal e f g = e ∙ (λ i. scale (cross (f i) (g i)))
 
 pub midpoint-w0-requires : goal.midpoint-w0-requires
 midpoint-w0-requires c = let p = c.requires in record {
-  small = p.v1-1;
-  small_2 = p.v2-1;
+  small = p.v1;
+  small_2 = p.v2;
 }
 
 pub midpoint-w1-requires : goal.midpoint-w1-requires
 midpoint-w1-requires c = let p = c.requires in record {
-  small = p.v0-1;
-  small_2 = p.v2-1;
+  small = p.v0;
+  small_2 = p.v2;
 }
 
 pub midpoint-w2-requires : goal.midpoint-w2-requires
 midpoint-w2-requires c = let p = c.requires in record {
-  small = p.v0-1;
-  small_2 = p.v1-1;
+  small = p.v0;
+  small_2 = p.v1;
 }
 
 pub normal-requires : goal.normal-requires

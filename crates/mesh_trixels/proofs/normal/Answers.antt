@@ -4,9 +4,9 @@ use Rattle.vector.specs.Vectors.{scale}
 use Rattle.mesh_trixels.proofs.normal.Goals as goal
 
 pub cross-requires : goal.cross-requires
-cross-requires c = let both = c.requires in record {
-  small = both.0;
-  small_2 = both.1;
+cross-requires c = record {
+  small = c.requires.small;
+  small_2 = c.requires.small_2;
 }
 
 pub scale-requires : goal.scale-requires

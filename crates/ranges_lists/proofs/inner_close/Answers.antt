@@ -14,14 +14,13 @@ inner_full-next-requires c = record {
 
 pub returns-then-n-budget : goal.returns-then-n-budget
 returns-then-n-budget c =
-    let a = c.before.before in
-    let s = a in
-    let w = close_full s.args.budget s.args.n s.args.list.now s.args.low s.args.high (omega arith) _ (omega arith) (omega arith) a.inner_full-next.ensures.list_after in
-    let h = close_hint s.args.budget s.args.n s.args.list.now s.args.low s.args.high (omega arith) a.inner_full-next.result (omega arith) a.inner_full-next.ensures.hinted_2 in
-    let both = (w, (omega arith, hinted_stored a.inner_full-next.result (differences 0) _ _ _ _ w h)) in record {
-      writes = both.0;
-      n_le_budget = both.1.0;
-      hinted_2 = both.1.1;
+    let a = c.args in
+    let next = c.inner_full-next in
+    let w = close_full a.budget a.n a.list.now a.low a.high (omega arith) _ (omega arith) (omega arith) next.ensures.list_after in
+    let h = close_hint a.budget a.n a.list.now a.low a.high (omega arith) next.result (omega arith) next.ensures.hinted_2 in record {
+      writes = w;
+      n_le_budget = omega arith;
+      hinted_2 = hinted_stored next.result (differences 0) _ _ _ _ w h;
     }
 
 pub bounds-list-n-2 : goal.bounds-list-n-2
@@ -31,10 +30,8 @@ pub shape_of-list : goal.shape_of-list
 shape_of-list c = simp length-set (omega arith)
 
 pub returns : goal.returns
-returns c =
-    let s = c in
-    let both = (close_appends _ _ _ _ _ (omega arith) (omega arith) s.requires.le_budget.2, (omega arith, hinted_any c.no_hint-none.ensures _)) in record {
-      writes = both.0;
-      n_le_budget = both.1.0;
-      hinted_2 = both.1.1;
-    }
+returns c = record {
+  writes = close_appends _ _ _ _ _ (omega arith) (omega arith) (omega arith);
+  n_le_budget = omega arith;
+  hinted_2 = hinted_any c.no_hint-none.ensures _;
+}

@@ -15,10 +15,10 @@ pub shape_of-list-then-n-eq0 : goal.shape_of-list-then-n-eq0
 shape_of-list-then-n-eq0 c = simp length-set (omega arith)
 
 pub returns-then-n-eq0 : goal.returns-then-n-eq0
-returns-then-n-eq0 c = let both = (push_first _ _ _ _ _ (omega arith) (omega arith), ((omega arith, omega arith), hinted_any c.no_hint.ensures _)) in record {
-  writes = both.0;
-  n_le_n = both.1.0;
-  hinted_2 = both.1.1;
+returns-then-n-eq0 c = record {
+  writes = push_first _ _ _ _ _ (omega arith) (omega arith);
+  n_le_n = (omega arith, omega arith);
+  hinted_2 = hinted_any c.no_hint.ensures _;
 }
 
 pub shape_of-list-then-touches : goal.shape_of-list-then-touches
@@ -26,16 +26,14 @@ shape_of-list-then-touches c = simp length-set (omega arith)
 
 pub returns-then-touches : goal.returns-then-touches
 returns-then-touches c =
-    let a = c.before in
-    let s = a in
-    let t = sym a.touches.ensures ∙ c.if-touches.taken in
-    let w = push_extends s.args.budget s.args.n s.args.list.now s.args.low s.args.high (2 * s.args.n - 1) (omega arith) (omega arith) (omega arith) t in
-    let h = push_keeps s.args.budget s.args.n s.args.list.now s.args.low s.args.high (2 * s.args.n - 1) (omega arith) (omega arith) (omega arith)
-    s.args.hint t s.requires.hinted in
-    let both = (w, ((omega arith, omega arith), hinted_stored s.args.hint gaps _ _ _ _ w h)) in record {
-      writes = both.0;
-      n_le_n = both.1.0;
-      hinted_2 = both.1.1;
+    let a = c.args in
+    let t = sym c.touches.ensures ∙ c.if-touches.true in
+    let w = push_extends a.budget a.n a.list.now a.low a.high (2 * a.n - 1) (omega arith) (omega arith) (omega arith) t in
+    let h = push_keeps a.budget a.n a.list.now a.low a.high (2 * a.n - 1) (omega arith) (omega arith) (omega arith) a.hint t c.requires.hinted in
+    record {
+      writes = w;
+      n_le_n = (omega arith, omega arith);
+      hinted_2 = hinted_stored a.hint gaps _ _ _ _ w h;
     }
 
 pub bounds-list-last-then-n-budget-2 : goal.bounds-list-last-then-n-budget-2
@@ -46,15 +44,12 @@ shape_of-list-then-n-budget c = simp length-set (omega arith)
 
 pub returns-then-n-budget : goal.returns-then-n-budget
 returns-then-n-budget c =
-    let e = c.before.before in
-    let a = e.before in
-    let s = a in
-    let w = push_appends s.args.budget s.args.n s.args.list.now s.args.low s.args.high (2 * s.args.n - 1) (omega arith) (omega arith) (omega arith)
-    (sym a.touches.ensures ∙ e.if-touches.left) (omega arith) s.requires.le_budget.2 in
-    let both = (w, ((omega arith, omega arith), hinted_any c.no_hint-then-n-budget.ensures _)) in record {
-      writes = both.0;
-      n_le_n = both.1.0;
-      hinted_2 = both.1.1;
+    let a = c.args in
+    record {
+      writes = push_appends a.budget a.n a.list.now a.low a.high (2 * a.n - 1) (omega arith) (omega arith) (omega arith)
+          (sym c.touches.ensures ∙ c.if-touches.false) (omega arith) (omega arith);
+      n_le_n = (omega arith, omega arith);
+      hinted_2 = hinted_any c.no_hint-then-n-budget.ensures _;
     }
 
 pub outer_full-next-requires : goal.outer_full-next-requires
@@ -65,17 +60,13 @@ outer_full-next-requires c = record {
 
 pub returns : goal.returns
 returns c =
-    let o = c.before.before in
-    let e = o.before.before in
-    let a = e.before.before in
-    let s = a in
-    let t = sym a.touches.ensures ∙ e.if-touches.left in
-    let w = push_full s.args.budget s.args.n s.args.list.now s.args.low s.args.high (2 * s.args.n - 1) (omega arith) (omega arith) (omega arith)
-    t _ (omega arith) o.outer_full-next.ensures.list_after in
-    let h = push_hint s.args.budget s.args.n s.args.list.now s.args.low s.args.high (2 * s.args.n - 1) (omega arith) (omega arith) (omega arith)
-    t o.outer_full-next.result (omega arith) o.outer_full-next.ensures.hinted_2 in
-    let both = (w, ((omega arith, omega arith), hinted_stored o.outer_full-next.result gaps _ _ _ _ w h)) in record {
-      writes = both.0;
-      n_le_n = both.1.0;
-      hinted_2 = both.1.1;
+    let a = c.args in
+    let next = c.outer_full-next in
+    let t = sym c.touches.ensures ∙ c.if-touches.false in
+    let w = push_full a.budget a.n a.list.now a.low a.high (2 * a.n - 1) (omega arith) (omega arith) (omega arith) t _ (omega arith) next.ensures.list_after in
+    let h = push_hint a.budget a.n a.list.now a.low a.high (2 * a.n - 1) (omega arith) (omega arith) (omega arith) t next.result (omega arith) next.ensures.hinted_2 in
+    record {
+      writes = w;
+      n_le_n = (omega arith, omega arith);
+      hinted_2 = hinted_stored next.result gaps _ _ _ _ w h;
     }

@@ -1,4 +1,3 @@
-use Prim.Native.Nat.{◌-◌}
 use native.Mathlib.Omega.{arith}
 use Rattle.ranges_stored.proofs.HintLaws.{first_here, first_later, first_none}
 use Rattle.ranges_stored.proofs.first_at.Goals as goal

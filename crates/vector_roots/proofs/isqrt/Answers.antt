@@ -59,9 +59,3 @@ returns-then-is_root-3 c =
 
 pub bisected-requires : goal.bisected-requires
 bisected-requires c = c.requires
-
-pub returns : goal.returns
-returns c = let both = c.bisected.ensures in record {
-  value = both.0;
-  upper_bound = both.1;
-}

@@ -3,6 +3,7 @@ use mathlib.Core.Path.{ap, ◌∙◌}
 use native.Mathlib.Nat.{pos_of_ne-zero}
 use borrow.Author.Tests.{eq-eqb, ne_eqb}
 use lib.IntN.{pos, ◌*ℤ◌}
+use mir.Syntax.{w64}
 use mir.Facts.{to_z-of_z}
 use Rattle.algebra.proofs.Sized.{held, upto_held}
 use Rattle.vector.specs.Numbers.{K, quot}
@@ -33,7 +34,7 @@ pub returns : goal.returns
 returns c =
     let n = c.args.n in
     let p = c.requires.at_most in
-    let x = to_z-of_z (record { sfits = c.part.type_inv }) ∙ c.part.ensures ∙ ap (λ v. quot (K *ℤ v) (pos n)) (held p.x tt).eq in
-    let y = to_z-of_z (record { sfits = c.part-2.type_inv }) ∙ c.part-2.ensures ∙ ap (λ v. quot (K *ℤ v) (pos n)) (held p.y tt).eq in
-    let z = to_z-of_z (record { sfits = c.part-3.type_inv }) ∙ c.part-3.ensures ∙ ap (λ v. quot (K *ℤ v) (pos n)) (held p.z tt).eq in
+    let x = to_z-of_z {w = w64} (record { sfits = c.part.type_inv }) ∙ c.part.ensures ∙ ap (λ v. quot (K *ℤ v) (pos n)) (held p.x tt).eq in
+    let y = to_z-of_z {w = w64} (record { sfits = c.part-2.type_inv }) ∙ c.part-2.ensures ∙ ap (λ v. quot (K *ℤ v) (pos n)) (held p.y tt).eq in
+    let z = to_z-of_z {w = w64} (record { sfits = c.part-3.type_inv }) ∙ c.part-3.ensures ∙ ap (λ v. quot (K *ℤ v) (pos n)) (held p.z tt).eq in
     rw (ne_eqb n 0 c.if-n-eq0.false) (λ i. record { x = x i; y = y i; z = z i })

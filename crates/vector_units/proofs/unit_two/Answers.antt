@@ -32,9 +32,3 @@ returns-then-is_root c = let both = unit_by c.args.s (length c.before) c.divided
 
 pub unit-requires : goal.unit-requires
 unit-requires c = c.requires
-
-pub returns : goal.returns
-returns c = let both = c.unit.ensures in record {
-  value = both.0;
-  small = both.1;
-}

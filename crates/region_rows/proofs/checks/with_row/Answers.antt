@@ -1,7 +1,6 @@
 -- The code makes the checks of a row in the rule's order, by the size: the number, the convexes, then the halfspace. Assumes nothing.
 use mathlib.Core.Path.{◌≡◌, sym, ap, ◌∙◌}
 use mathlib.Core.Bool.{Bool}
-use borrow.Author.Tests.{not-true, not-false}
 use mir.Facts.{to_z-of_z}
 use Rattle.answer.specs.Answer.{Answer, then, with_value}
 use Rattle.region.specs.Regions.{Region}
@@ -11,33 +10,30 @@ use Rattle.region_rows.specs.RegionSizes.{region_size, region_size_given, add_ha
 use Rattle.region_rows.specs.Opening.{opens_convex}
 use Rattle.region_rows.proofs.NumberLaws.{belongs_to, no_number, row_added}
 use Rattle.region_rows.proofs.checks.with_row.Goals as goal
+use Rattle.region_rows.proofs.checks.with_row.Goals.{After-belongs, After-opened-o}
 
-number : (c : goal.After-belongs) (t : Bool) → c.belongs.result ≡ t → belongs_to c.args.k.convexes c.args.c ≡ t
+number : (c : After-belongs) (t : Bool) → c.belongs.result ≡ t → belongs_to c.args.k.convexes c.args.c ≡ t
 number c t e = ap (belongs_to c.args.k.convexes) (sym (to_z-of_z c.ranges.c)) ∙ sym c.belongs.ensures ∙ e
 
-opens : (c : goal.After-opened-o) → region_size_given c.opened-o.result ≡ opens_convex c.args.k c.args.c
+opens : (c : After-opened-o) → region_size_given c.opened-o.result ≡ opens_convex c.args.k c.args.c
 opens c = c.opened-o.ensures ∙ ap (opens_convex c.args.k) (to_z-of_z c.ranges.c)
 
 -- what was answered with the row's convex, with the row's halfspace then
-goes_on : (c : goal.After-opened-o) → let a = c.args in
+goes_on : (c : After-opened-o) → let a = c.args in
     (r : Answer RegionSize) → r ≡ then (region_size_given c.opened-o.result) (λ o. add_halfspace o a.h) → (g : Region) → region_size g ≡ a.k → r ≡ with_value region_size (row_in g a.c a.h)
 goes_on c r e g q =
     let a = c.args in
     e
     ∙ ap (λ o. then o (λ k. add_halfspace k a.h)) (opens c)
-    ∙ row_added a.k a.c a.h (number c.before.before _ (not-false _ c.if-not-belongs.false)) c.requires g q
+    ∙ row_added a.k a.c a.h (number c.before.before _ c.if-not-belongs.false) c.requires g q
 
 pub returns-then-not-belongs : goal.returns-then-not-belongs
-returns-then-not-belongs c = let a = c.args in no_number a.k a.c a.h (number c.before _ (not-true _ c.if-not-belongs.true))
+returns-then-not-belongs c = let a = c.args in no_number a.k a.c a.h (number (goal.at.returns-then-not-belongs c).After-belongs _ c.if-not-belongs.true)
 
 pub returns-in-Gives : goal.returns-in-Gives
 returns-in-Gives c =
-    let t = c.before.before in
-    let o = t.before.before in
-    goes_on o _ (c.with_halfspace.ensures ∙ ap (λ r. then (region_size_given r) (λ k. add_halfspace k o.args.h)) (sym t.in-Gives.is))
+    goes_on (goal.at.returns-in-Gives c).After-opened-o _ (c.with_halfspace.ensures ∙ ap (λ r. then (region_size_given r) (λ k. add_halfspace k c.args.h)) (sym c.in-Gives.is))
 
 pub returns-in-Refused : goal.returns-in-Refused
 returns-in-Refused c =
-    let t = c.before in
-    let o = t.before.before in
-    goes_on o _ (ap (λ r. then (region_size_given r) (λ k. add_halfspace k o.args.h)) (sym t.in-Refused.is))
+    goes_on (goal.at.returns-in-Refused c).After-opened-o _ (ap (λ r. then (region_size_given r) (λ k. add_halfspace k c.args.h)) (sym c.in-Refused.is))
