@@ -1,4 +1,4 @@
-# The hosts in C and their tests, over the archive that `rt staticlib htm` proves and writes. All output goes to target/.
+# The hosts in C and their tests, over the archive that `tools/prove htm_c` proves and writes. All output goes to target/.
 #
 #   make host        builds and runs examples/host.c
 #   make test        every C call on the stored cases of query and archive, the lookups of floats beside C's own product, what the header says beside the
@@ -103,19 +103,16 @@ target/c/sqlite: hosts/sqlite/test.c $(LIB) $(INCLUDE)/htm.h
 	@mkdir -p target/c
 	$(COMPILE) -o $@ hosts/sqlite/test.c $(LIB) -lsqlite3 -lm
 
-# From nothing the proofs take minutes; what has not changed since is not proved again. What htm depends on comes first, since
-# rt check proves crates beside each other and rt staticlib one after the other.
-SOURCES := crates.txt $(shell find crates -name '*.rt' -o -name '*.antt')
+# From nothing the proofs take minutes; what has not changed since is not proved again.
+SOURCES := crates.txt $(shell find crates -name out -prune -o \( -name '*.rt' -o -name '*.antt' \) -print)
 
 target/staticlib/libhtm.a: $(SOURCES)
-	rt check $$(sed -n 's/^htm://p' crates.txt)
-	rt staticlib htm
+	tools/prove htm_c
 
 PROGRAMS = cover catalogue query archive
 
 $(PROGRAMS:%=target/bin/%): $(SOURCES)
-	rt check $(@F)
-	touch $@
+	tools/prove $(@F)
 
 # The shared objects. Only the calls that a header declares are visible: CALLS prints their names, a line each. A declaration begins a line.
 MINOR := $(basename $(VERSION))

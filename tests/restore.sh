@@ -1,6 +1,6 @@
 #!/usr/bin/env bash
 # An index of `archive` saved and restored: what `list` prints becomes lines `add`, as docs/PROGRAMS.md says, and an empty archive that is given these
-# lists the same bytes; for both owners together and for each. `rt check archive` builds the program.
+# lists the same bytes; for both owners together and for each. `tools/prove archive` builds the program.
 set -u
 cd "$(dirname "$0")/.."
 work=$(mktemp -d)

@@ -1,7 +1,7 @@
 #!/usr/bin/env bash
 # The programs cover, query, catalogue and archive where standard input or output fails, is closed, is interrupted or moves a few bytes only; and
 # catalogue where its argument is wrong.
-# `rt check cover query catalogue archive` builds them; the case of interrupted calls needs cc, and programs that this machine runs itself.
+# `tools/prove cover query catalogue archive` builds them; the case of interrupted calls needs cc, and programs that this machine runs itself.
 set -u
 cd "$(dirname "$0")/.."
 work=$(mktemp -d)

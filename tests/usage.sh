@@ -1,6 +1,6 @@
 #!/usr/bin/env bash
 # What the programs print of themselves: one line, on standard output for `--help`, on standard error for arguments that they do not take; nothing is read
-# then. `catalogue` takes a DEPTH, and prints its line on standard output for every other call. `rt check cover query catalogue archive` builds them.
+# then. `catalogue` takes a DEPTH, and prints its line on standard output for every other call. `tools/prove cover query catalogue archive` builds them.
 set -u
 cd "$(dirname "$0")/.."
 work=$(mktemp -d)

@@ -61,7 +61,7 @@ make_room() {
 prepare() {
     local share lib
     find_postgres
-    [ -f "$library" ] || { echo "$library is missing: rt staticlib htm writes it" >&2; exit 1; }
+    [ -f "$library" ] || { echo "$library is missing: make target/staticlib/libhtm.a writes it" >&2; exit 1; }
     make_room
     trap cleanup EXIT
     trap 'exit 1' INT TERM
