@@ -5,7 +5,7 @@ use Rattle.region.proofs.FileAnswers.{no_space, file_written}
 use Rattle.region_convert.proofs.as_it_is.Goals as goal
 
 pub returns-then-out-file : goal.returns-then-out-file
-returns-then-out-file c = let a = c.args in let both = no_space (gives a.file.now) a.out-1.now a.file.now refl c.if-out-file.true in record {
+returns-then-out-file c = let a = c.args in let both = no_space (gives a.file.now) a.out.now a.file.now refl c.if-out-file.true in record {
   result_value = both.0;
   out_after = both.1;
 }
@@ -14,15 +14,13 @@ pub copy-requires : goal.copy-requires
 copy-requires c = c.if-out-file.false
 
 pub shape_of-out : goal.shape_of-out
-shape_of-out c = c.copy.auto.1.0
+shape_of-out c = c.copy.auto.out
 
 pub returns : goal.returns
 returns c =
-    let p = c.before.before in
-    let t = p in
-    let a = t.args in
-    let w = file_written (gives a.file.now) a.out-1.now a.file.now refl t.if-out-file.false in
+    let a = c.args in
+    let w = file_written (gives a.file.now) a.out.now a.file.now refl c.if-out-file.false in
     record {
       result_value = w.0;
-      out_after = p.copy.ensures ∙ w.1;
+      out_after = c.copy.ensures ∙ w.1;
     }

@@ -10,16 +10,15 @@ use Rattle.vector.proofs.VectorLaws.{dot_comm}
 use Rattle.region_points.proofs.holds_halfspace.Goals as goal
 
 pub overflow_mul-result : goal.overflow_mul-result
-overflow_mul-result c = let s = c in fits_mul (held s.requires.at_most.1 tt) (lit 1048576 tt) tt
+overflow_mul-result c = fits_mul (held c.requires.at_most.1 tt) (lit 1048576 tt) tt
 
 pub dot-requires : goal.dot-requires
-dot-requires c = let s = c in record {
-  small = s.requires.small;
-  at_most = at_most_mono (lit≤ tt) s.requires.at_most.0;
+dot-requires c = record {
+  small = c.requires.small;
+  at_most = at_most_mono (lit≤ tt) c.requires.at_most.0;
 }
 
 pub returns : goal.returns
 returns c =
-    let s = c in
-    same_le (is_mul (held s.requires.at_most.1 tt) (lit 1048576 tt) tt) (held c.dot.ensures.upto tt)
-    ∙ ap (le_z (s.args.h.d *ℤ K)) (c.dot.ensures.value ∙ dot_comm s.args.p s.args.h.n)
+    same_le (is_mul (held c.requires.at_most.1 tt) (lit 1048576 tt) tt) (held c.dot.ensures.upto tt)
+    ∙ ap (le_z (c.args.h.d *ℤ K)) (c.dot.ensures.value ∙ dot_comm c.args.p c.args.h.n)

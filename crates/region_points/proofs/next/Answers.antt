@@ -15,14 +15,10 @@ same h k e = sym (held h tt).eq ∙ ap (to_z w64) e ∙ (held k tt).eq
 
 pub returns-then-number-k : goal.returns-then-number-k
 returns-then-number-k c =
-    let g = c.before.before in
-    let s = g in
-    let e = c.state.ensures ∙ (λ j. state ((held s.requires.0 tt).eq j) (c.both.ensures j) s.args.s.any) in
-    (e ∙ scanned_same s.args.s s.args.number s.args.here (same s.requires.1 s.requires.0 g.if-number-k.true), subst (λ r. Upto (2 ^ 31) r.number) (sym e) s.requires.0)
+    let e = c.state.ensures ∙ (λ j. state ((held c.requires.0 tt).eq j) (c.both.ensures j) c.args.s.any) in
+    (e ∙ scanned_same c.args.s c.args.number c.args.here (same c.requires.1 c.requires.0 c.if-number-k.true), subst (λ r. Upto (2 ^ 31) r.number) (sym e) c.requires.0)
 
 pub returns : goal.returns
 returns c =
-    let g = c.before.before in
-    let s = g in
-    let e = c.state-2.ensures ∙ (λ j. state ((held s.requires.1 tt).eq j) s.args.here (c.either.ensures j)) in
-    (e ∙ scanned_other s.args.s s.args.number s.args.here (λ q. g.if-number-k.false (ap (of_z w64) q)), subst (λ r. Upto (2 ^ 31) r.number) (sym e) s.requires.1)
+    let e = c.state-2.ensures ∙ (λ j. state ((held c.requires.1 tt).eq j) c.args.here (c.either.ensures j)) in
+    (e ∙ scanned_other c.args.s c.args.number c.args.here (λ q. c.if-number-k.false (ap (of_z w64) q)), subst (λ r. Upto (2 ^ 31) r.number) (sym e) c.requires.1)

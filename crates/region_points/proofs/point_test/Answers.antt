@@ -8,37 +8,31 @@ use Rattle.region.specs.Answers.{header_of, header_given}
 use Rattle.region_reader.proofs.ReadAnswers.{count_most}
 use Rattle.region_points.proofs.PointAnswers.{file_refused, no_vector_law, held}
 use Rattle.region_points.proofs.point_test.Goals as goal
+use Rattle.region_points.proofs.point_test.Goals.{In-Gives}
 
 -- the file is accepted, with this header
-says : (c : goal.In-Gives) → gives c.in-Gives.h ≡ with_value header_of (reader.read c.args.file.now)
+says : (c : In-Gives) → gives c.in-Gives.h ≡ with_value header_of (reader.read c.args.file.now)
 says c = sym (ap header_given c.in-Gives.is) ∙ c.decode-said.ensures.result_value
 
 pub array_holds-requires : goal.array_holds-requires
 array_holds-requires c =
-    let v = c.before.before in
-    let t = v.before.before in
-    let a = t.args in
+    let a = c.args in
     record {
-      count_bound = count_most a.file.now [] t.in-Gives.h (says t);
-      small = vector_small a.p (sym v.is_vector.ensures ∙ v.if-is_vector.true);
+      count_bound = count_most a.file.now [] c.in-Gives.h (says (goal.at.array_holds-requires c).In-Gives);
+      small = vector_small a.p (sym c.is_vector.ensures ∙ c.if-is_vector.true);
     }
 
 pub returns-then-is_vector : goal.returns-then-is_vector
 returns-then-is_vector c =
-    let v = c.before.before.before in
-    let t = v.before.before in
-    let d = t in
-    let a = d.args in
-    held a.file.now a.p t.in-Gives.h (says t) (sym v.is_vector.ensures ∙ v.if-is_vector.true) _ _ d.decode-said.ensures.rows_after _ c.array_holds.ensures
+    let a = c.args in
+    held a.file.now a.p c.in-Gives.h (says (goal.at.returns-then-is_vector c).In-Gives) (sym c.is_vector.ensures ∙ c.if-is_vector.true) _ _ c.decode-said.ensures.rows_after _ c.array_holds.ensures
 
 pub returns-else-is_vector : goal.returns-else-is_vector
 returns-else-is_vector c =
-    let t = c.before.before in
-    let a = t.args in
-    no_vector_law a.file.now a.p t.in-Gives.h (says t) (sym c.is_vector.ensures ∙ c.if-is_vector.false)
+    let a = c.args in
+    no_vector_law a.file.now a.p c.in-Gives.h (says (goal.at.returns-else-is_vector c).In-Gives) (sym c.is_vector.ensures ∙ c.if-is_vector.false)
 
 pub returns-in-Refused : goal.returns-in-Refused
 returns-in-Refused c =
-    let d = c in
-    let a = d.args in
-    file_refused a.file.now a.p c.in-Refused.n (sym (ap header_given c.in-Refused.is) ∙ d.decode-said.ensures.result_value)
+    let a = c.args in
+    file_refused a.file.now a.p c.in-Refused.n (sym (ap header_given c.in-Refused.is) ∙ c.decode-said.ensures.result_value)

@@ -1,4 +1,4 @@
-use Prim.Native.Nat.{◌-◌, ◌^◌}
+use Prim.Native.Nat.{◌^◌}
 use native.Mathlib.Omega.{arith}
 use mathlib.Core.Path.{sym, subst, ◌∙◌}
 use lib.Dec.{lit≤}
@@ -23,17 +23,13 @@ next-s-requires c = (c.loop-i.invariant.1, upto_held c.number_at.ensures.1 tt)
 
 pub loop-i-preserved : goal.loop-i-preserved
 loop-i-preserved c =
-    let r = c.before in
-    let n = r.before in
-    let l = n in
-    let a = l.args in (
+    let a = c.args in (
       subst (Scanning a.p a.count a.rows.now _) (sym c.next-s.ensures.0)
-          (scan_next a.p a.count a.rows.now _ _ l.loop-i.invariant.0 (omega arith) ((held n.number_at.ensures.1 tt).eq ∙ n.number_at.ensures.0) r.row_holds.ensures),
+          (scan_next a.p a.count a.rows.now _ _ c.loop-i.invariant.0 (omega arith) ((held c.number_at.ensures.1 tt).eq ∙ c.number_at.ensures.0) c.row_holds.ensures),
       c.next-s.ensures.1,
     )
 
 pub returns : goal.returns
 returns c =
-    let l = c in
-    let a = l.args in
-    c.either.ensures ∙ scan_end a.p a.count a.rows.now _ _ l.loop-i.invariant.0 (omega arith)
+    let a = c.args in
+    c.either.ensures ∙ scan_end a.p a.count a.rows.now _ _ c.loop-i.invariant.0 (omega arith)
