@@ -2,7 +2,7 @@
 -- negative, since quotients are rounded toward zero. In S0's octant this holds of x, y and −z. Assumes nothing.
 --   Truncated   z = n q + rest, z, q and the rest not negative, the rest at most n − 1
 --   three       a vector of document 01 as one of the algebra
-use Prim.Native.Nat.{ℕ, ◌+◌, ◌*◌, ◌/◌, ◌%◌, ◌<◌, ◌≤◌}
+use Prim.Native.Nat.{ℕ, ◌+◌, ◌*◌, ◌/◌, ◌%◌, ◌<◌}
 use native.Mathlib.Nat.{div-add-mod', mod-lt, mul_comm}
 use native.Mathlib.Omega.{arith}
 use mathlib.Core.Path.{◌≡◌, refl, sym, ap, subst, ◌∙◌}

@@ -8,7 +8,7 @@ use native.Mathlib.Omega.{arith}
 use mathlib.Core.Path.{◌≡◌, refl, sym, ap, ◌∙◌}
 use mathlib.Core.Bool.{Bool, true, false, cond}
 use lib.Dec.{eqb}
-use lib.IntN.{ℤ, pos, neg_ℤ, nat_abs, neg_ℤ-+ℤ, ◌+ℤ◌, ◌-ℤ◌, ◌*ℤ◌}
+use lib.IntN.{pos, neg_ℤ, nat_abs, neg_ℤ-+ℤ, ◌+ℤ◌, ◌-ℤ◌, ◌*ℤ◌}
 use Rattle.algebra.proofs.Ring.{◌:+◌, ◌:-◌, ◌:*◌, :neg}
 use Rattle.algebra.proofs.Claim.{◌:≡◌, ring}
 use Rattle.vector.specs.declared.Vec3.{Vec3}

@@ -12,7 +12,7 @@ use Rattle.algebra.proofs.Inequalities.{`0}
 use Rattle.algebra.proofs.Order.{≤ℤ-trans}
 use Rattle.algebra.proofs.Sizes.{Upto}
 use Rattle.algebra.proofs.Tests.{and_left, and_right, le_yes}
-use Rattle.algebra.proofs.Vec.{V3, dot}
+use Rattle.algebra.proofs.Vec.{V3}
 use Rattle.jump.proofs.Jump.{Size, det}
 use Rattle.jump.proofs.JumpInvariant.{pushed}
 use Rattle.jump.proofs.JumpShape.{Corner}

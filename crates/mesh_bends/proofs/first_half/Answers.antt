@@ -1,5 +1,4 @@
 -- `mesh_bends::first_half` is the rule's bend of half an edge, after the first cut. Assumes nothing.
-use Prim.Native.Nat.{◌<◌}
 use mathlib.Core.Path.{ap, subst, sym, ◌∙◌}
 use lib.Dec.{lit<}
 use lib.IntN.{pos, ◌+ℤ◌}

@@ -1,5 +1,4 @@
 -- `mesh_bends::later_cut` is the rule's bend of the edge that a later cut makes. Assumes nothing.
-use Prim.Native.Nat.{◌<◌}
 use mathlib.Core.Path.{ap, subst, sym, ◌∙◌}
 use lib.Dec.{lit<}
 use lib.IntN.{pos, ◌+ℤ◌}

@@ -1,5 +1,4 @@
 -- `mesh_bends::later_half` is the rule's bend of half an edge, after a later cut. Assumes nothing.
-use Prim.Native.Nat.{◌<◌}
 use mathlib.Core.Path.{ap, subst, sym, ◌∙◌}
 use lib.Dec.{lit<}
 use lib.IntN.{pos}

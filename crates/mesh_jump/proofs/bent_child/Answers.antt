@@ -1,6 +1,6 @@
 -- `mesh_jump::bent_child` gives the numbers of the child by its digit. Assumes nothing.
 use native.Mathlib.Omega.{arith}
-use mathlib.Core.Path.{◌≡◌, refl, ap, ◌∙◌}
+use mathlib.Core.Path.{refl, ap, ◌∙◌}
 use Rattle.algebra.proofs.Sized.{upto_held}
 use Rattle.mesh_jump.specs.Jumps.{turned_of}
 use Rattle.mesh_jump.proofs.GivenLaws.{cornered, sure_0, sure_1, sure_2, sure_3, in_the_middle}

@@ -1,6 +1,6 @@
 -- `mesh_jump::flat_child` gives the numbers of the child by its digit. Assumes nothing.
 use native.Mathlib.Omega.{arith}
-use mathlib.Core.Path.{◌≡◌, ap, ◌∙◌}
+use mathlib.Core.Path.{ap, ◌∙◌}
 use lib.IntN.{pos}
 use Rattle.mesh_jump.specs.Jumps.{turned_of, at_corner, unbent}
 use Rattle.mesh_jump.proofs.GivenLaws.{sure_0, sure_1, sure_2, sure_3}

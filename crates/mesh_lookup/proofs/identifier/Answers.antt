@@ -14,7 +14,7 @@ pub overflow_add-result : goal.overflow_add-result
 overflow_add-result c = omega (arith, c.root_number-root.ensures.1)
 
 pub returns-then-depth-eq1 : goal.returns-then-depth-eq1
-returns-then-depth-eq1 c = let g = c in at_root g.args.p g.args.depth _ g.root_number-root.ensures.0 c.if-depth-eq1.true
+returns-then-depth-eq1 c = at_root c.args.p c.args.depth _ c.root_number-root.ensures.0 c.if-depth-eq1.true
 
 pub root_corners-requires : goal.root_corners-requires
 root_corners-requires c = c.root_number-root.ensures.1
@@ -23,54 +23,42 @@ pub overflow_add-root : goal.overflow_add-root
 overflow_add-root c = omega (arith, c.root_number-root.ensures.1)
 
 pub descend-end-requires : goal.descend-end-requires
-descend-end-requires c =
-    let g = c in
-    let both = (g.requires.small, (c.root_corners.ensures.1, (omega (arith, g.root_number-root.ensures.1), omega arith))) in record {
-      small = both.0;
-      small_corners = both.1.0;
-      id_bound = both.1.1;
-    }
+descend-end-requires c = record {
+  small = c.requires.small;
+  small_corners = c.root_corners.ensures.1;
+  id_bound = (omega (arith, c.root_number-root.ensures.1), omega arith);
+}
 
 pub returns-then-depth-eq2 : goal.returns-then-depth-eq2
 returns-then-depth-eq2 c =
-    let t = c.before.before in
-    let g = t.before.before in
-    let s = g in
-    let z : 1 ≡ s.args.depth - 1 = omega (arith, t.if-depth-eq2.true) in
+    let r = c.root_number-root in
+    let z : 1 ≡ c.args.depth - 1 = omega (arith, c.if-depth-eq2.true) in
     c.descend-end.ensures.is
-    ∙ ap (λ m. rule.descend-end s.args.p m (bare c.root_corners.result) (8 + g.root_number-root.result)) z
-    ∙ from_root s.args.p s.args.depth _ g.root_number-root.ensures.0 _ c.root_corners.ensures.0
+    ∙ ap (λ m. rule.descend c.args.p m (bare c.root_corners.result) (8 + r.result)) z
+    ∙ from_root c.args.p c.args.depth _ r.ensures.0 _ c.root_corners.ensures.0
 
 pub from_table-start-requires : goal.from_table-start-requires
-from_table-start-requires c = let g = c in record {
-  small = g.requires.small;
-  root_bound = g.root_number-root.ensures.1;
+from_table-start-requires c = record {
+  small = c.requires.small;
+  root_bound = c.root_number-root.ensures.1;
 }
 
 pub returns-then-depth-eq3 : goal.returns-then-depth-eq3
-returns-then-depth-eq3 c =
-    let t = c.before in
-    let g = t in
-    at_three g.args.p g.args.depth _ g.root_number-root.ensures.0 t.from_table-start.result c.if-depth-eq3.true t.from_table-start.ensures
+returns-then-depth-eq3 c = at_three c.args.p c.args.depth _ c.root_number-root.ensures.0 c.from_table-start.result c.if-depth-eq3.true c.from_table-start.ensures
 
 pub overflow_sub-depth : goal.overflow_sub-depth
-overflow_sub-depth c = let t = c in omega (arith, t.if-depth-eq1.false, t.if-depth-eq2.false, t.requires.le_depth)
+overflow_sub-depth c = omega (arith, c.if-depth-eq1.false, c.if-depth-eq2.false, c.requires.le_depth)
 
 pub identifier_below-requires : goal.identifier_below-requires
-identifier_below-requires c =
-    let t = c.before in
-    let g = t in
-    let both = (g.requires.small, (g.root_number-root.ensures.1, (t.from_table-start.ensures, omega (arith, g.requires.le_depth)))) in record {
-      small = both.0;
-      root_bound = both.1.0;
-      table_start = both.1.1.0;
-      n_bound = both.1.1.1;
-    }
+identifier_below-requires c = record {
+  small = c.requires.small;
+  root_bound = c.root_number-root.ensures.1;
+  table_start = c.from_table-start.ensures;
+  n_bound = omega (arith, c.requires.le_depth);
+}
 
 pub returns : goal.returns
 returns c =
-    let t = c.before.before in
-    let g = t in
     c.identifier_below.ensures
-    ∙ from_table_start g.args.p g.args.depth _ g.root_number-root.ensures.0 t.from_table-start.result
-    (omega (arith, t.if-depth-eq1.false, t.if-depth-eq2.false, g.requires.le_depth)) t.from_table-start.ensures
+    ∙ from_table_start c.args.p c.args.depth _ c.root_number-root.ensures.0 c.from_table-start.result
+    (omega (arith, c.if-depth-eq1.false, c.if-depth-eq2.false, c.requires.le_depth)) c.from_table-start.ensures

@@ -65,9 +65,9 @@ returns-then-m-s c =
     ∙ side x
 
 pub exactly_on_side-requires : goal.exactly_on_side-requires
-exactly_on_side-requires c = let both = c.requires in record {
-  small = both.0;
-  small_2 = both.1;
+exactly_on_side-requires c = record {
+  small = c.requires.small;
+  small_2 = c.requires.small_2;
 }
 
 pub returns-then-s-ge0 : goal.returns-then-s-ge0
@@ -87,9 +87,9 @@ returns-then-s-m c =
     ∙ side x
 
 pub exactly_on_side-requires-2 : goal.exactly_on_side-requires-2
-exactly_on_side-requires-2 c = let both = c.requires in record {
-  small = both.0;
-  small_2 = both.1;
+exactly_on_side-requires-2 c = record {
+  small = c.requires.small;
+  small_2 = c.requires.small_2;
 }
 
 pub returns : goal.returns

@@ -14,14 +14,14 @@ done p c {d} e h s = subst (ChildStep p c) (sym (e ∙ ap (child_at d) h)) s
 
 pub midpoint-w1-requires : goal.midpoint-w1-requires
 midpoint-w1-requires c = let p = c.requires.small_corners in record {
-  small = p.v0-1;
-  small_2 = p.v2-1;
+  small = p.v0;
+  small_2 = p.v2;
 }
 
 pub midpoint-w2-requires : goal.midpoint-w2-requires
 midpoint-w2-requires c = let p = c.requires.small_corners in record {
-  small = p.v0-1;
-  small_2 = p.v1-1;
+  small = p.v0;
+  small_2 = p.v1;
 }
 
 pub on_side-requires : goal.on_side-requires
@@ -32,18 +32,14 @@ on_side-requires c = record {
 
 pub returns-then-on_side : goal.returns-then-on_side
 returns-then-on_side c =
-    let g = c.before.before in
-    let a = g.before in
-    let m = a.before in
-    let s = m in
-    done s.args.p s.args.c c.chosen.ensures c.triple.ensures
-    (child_step_0 s.args.p s.args.c s.requires.small_corners m.midpoint-w1.ensures.0 m.midpoint-w2.ensures.0 m.midpoint-w1.ensures.1 m.midpoint-w2.ensures.1
-    (sym a.on_side.ensures ∙ g.if-on_side.true))
+    done c.args.p c.args.c c.chosen.ensures c.triple.ensures
+    (child_step_0 c.args.p c.args.c c.requires.small_corners c.midpoint-w1.ensures.0 c.midpoint-w2.ensures.0 c.midpoint-w1.ensures.1 c.midpoint-w2.ensures.1
+    (sym c.on_side.ensures ∙ c.if-on_side.true))
 
 pub midpoint-w0-requires : goal.midpoint-w0-requires
 midpoint-w0-requires c = let p = c.requires.small_corners in record {
-  small = p.v1-1;
-  small_2 = p.v2-1;
+  small = p.v1;
+  small_2 = p.v2;
 }
 
 pub on_side-requires-2 : goal.on_side-requires-2
@@ -54,16 +50,10 @@ on_side-requires-2 c = record {
 
 pub returns-then-on_side-2 : goal.returns-then-on_side-2
 returns-then-on_side-2 c =
-    let g = c.before.before in
-    let b = g.before in
-    let e = b.before.before in
-    let a = e.before in
-    let m = a.before in
-    let s = m in
-    let w = b.midpoint-w0.ensures in
-    done s.args.p s.args.c c.chosen-then-on_side-2.ensures c.triple-then-on_side-2.ensures
-    (child_step_1 s.args.p s.args.c s.requires.small_corners m.midpoint-w1.ensures.0 m.midpoint-w2.ensures.0 m.midpoint-w1.ensures.1 m.midpoint-w2.ensures.1
-    (sym a.on_side.ensures ∙ e.if-on_side.false) w.0 w.1 (sym b.on_side-2.ensures ∙ g.if-on_side-2.true))
+    let w = c.midpoint-w0.ensures in
+    done c.args.p c.args.c c.chosen-then-on_side-2.ensures c.triple-then-on_side-2.ensures
+    (child_step_1 c.args.p c.args.c c.requires.small_corners c.midpoint-w1.ensures.0 c.midpoint-w2.ensures.0 c.midpoint-w1.ensures.1 c.midpoint-w2.ensures.1
+    (sym c.on_side.ensures ∙ c.if-on_side.false) w.0 w.1 (sym c.on_side-2.ensures ∙ c.if-on_side-2.true))
 
 pub on_side-requires-3 : goal.on_side-requires-3
 on_side-requires-3 c = record {
@@ -73,30 +63,14 @@ on_side-requires-3 c = record {
 
 pub returns-then-on_side-3 : goal.returns-then-on_side-3
 returns-then-on_side-3 c =
-    let g = c.before.before in
-    let d = g.before in
-    let f = d.before in
-    let b = f.before in
-    let e = b.before.before in
-    let a = e.before in
-    let m = a.before in
-    let s = m in
-    let w = b.midpoint-w0.ensures in
-    done s.args.p s.args.c c.chosen-then-on_side-3.ensures c.triple-then-on_side-3.ensures
-    (child_step_2 s.args.p s.args.c s.requires.small_corners m.midpoint-w1.ensures.0 m.midpoint-w2.ensures.0 m.midpoint-w1.ensures.1 m.midpoint-w2.ensures.1
-    (sym a.on_side.ensures ∙ e.if-on_side.false) w.0 w.1 (sym b.on_side-2.ensures ∙ f.if-on_side-2.false) (sym d.on_side-3.ensures ∙ g.if-on_side-3.true))
+    let w = c.midpoint-w0.ensures in
+    done c.args.p c.args.c c.chosen-then-on_side-3.ensures c.triple-then-on_side-3.ensures
+    (child_step_2 c.args.p c.args.c c.requires.small_corners c.midpoint-w1.ensures.0 c.midpoint-w2.ensures.0 c.midpoint-w1.ensures.1 c.midpoint-w2.ensures.1
+    (sym c.on_side.ensures ∙ c.if-on_side.false) w.0 w.1 (sym c.on_side-2.ensures ∙ c.if-on_side-2.false) (sym c.on_side-3.ensures ∙ c.if-on_side-3.true))
 
 pub returns : goal.returns
 returns c =
-    let g = c.before.before in
-    let d = g.before in
-    let f = d.before in
-    let b = f.before in
-    let e = b.before.before in
-    let a = e.before in
-    let m = a.before in
-    let s = m in
-    let w = b.midpoint-w0.ensures in
-    done s.args.p s.args.c c.chosen-2.ensures c.triple-2.ensures
-    (child_step_3 s.args.p s.args.c s.requires.small_corners m.midpoint-w1.ensures.0 m.midpoint-w2.ensures.0 m.midpoint-w1.ensures.1 m.midpoint-w2.ensures.1
-    (sym a.on_side.ensures ∙ e.if-on_side.false) w.0 w.1 (sym b.on_side-2.ensures ∙ f.if-on_side-2.false) (sym d.on_side-3.ensures ∙ g.if-on_side-3.false))
+    let w = c.midpoint-w0.ensures in
+    done c.args.p c.args.c c.chosen-2.ensures c.triple-2.ensures
+    (child_step_3 c.args.p c.args.c c.requires.small_corners c.midpoint-w1.ensures.0 c.midpoint-w2.ensures.0 c.midpoint-w1.ensures.1 c.midpoint-w2.ensures.1
+    (sym c.on_side.ensures ∙ c.if-on_side.false) w.0 w.1 (sym c.on_side-2.ensures ∙ c.if-on_side-2.false) (sym c.on_side-3.ensures ∙ c.if-on_side-3.false))

@@ -1,4 +1,3 @@
-use Prim.Native.Nat.{◌-◌}
 use native.Mathlib.Omega.{arith}
 use Rattle.mesh_names.proofs.NameReading.{name_length, read_letter, next_digit, next_fits, read_digit, read_all}
 use Rattle.mesh_names.proofs.value_of.Goals as goal
