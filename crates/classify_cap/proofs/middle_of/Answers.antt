@@ -8,31 +8,18 @@ use Rattle.vector.proofs.SizeLaws.{at_most_plus}
 use Rattle.classify.specs.Shape.{b_of}
 use Rattle.classify_cap.proofs.middle_of.Goals as goal
 
-pub sum-requires : goal.sum-requires
-unfolding b_of
-sum-requires c = record {
-  at_most = search rules;
+pub sum-requires-2 : goal.sum-requires-2
+sum-requires-2 c = record {
+  at_most = subst (AtMost (2 ^ 21)) (sym c.sum.ensures.value) (at_most_plus c.requires.v0 c.requires.v1);
   at_most_2 = search rules;
 }
 
-pub sum-requires-2 : goal.sum-requires-2
-unfolding b_of
-sum-requires-2 c =
-    let p = c.requires in
-    record {
-      at_most = subst (AtMost (2 ^ 21)) (sym c.sum.ensures.value) (at_most_plus p.v0-1 p.v1-1);
-      at_most_2 = search rules;
-    }
-
 pub unit-requires : goal.unit-requires
-unfolding b_of
 unit-requires c = c.sum-2.ensures.at_most_3
 
 pub returns : goal.returns
 unfolding b_of
-returns c =
-    let t = c.args.t in
-    record {
-      value = c.unit.ensures.value ∙ ap unit (c.sum-2.ensures.value ∙ ap (λ v. plus v t.v2-1) c.sum.ensures.value);
-      small = c.unit.ensures.small;
-    }
+returns c = record {
+  value = c.unit.ensures.value ∙ ap unit (c.sum-2.ensures.value ∙ ap (λ v. plus v c.args.t.v2) c.sum.ensures.value);
+  small = c.unit.ensures.small;
+}

@@ -1,4 +1,4 @@
-use Prim.Native.Nat.{ℕ, zero, suc, ◌*◌, ◌-◌, ◌^◌, ◌≤◌, ◌<◌}
+use Prim.Native.Nat.{ℕ, zero, suc, ◌*◌, ◌^◌, ◌≤◌, ◌<◌}
 use native.Mathlib.Nat.{mul-le-mul, le_of_lt, lt_of_le_of_lt}
 use native.Mathlib.Omega.{arith}
 use mathlib.Core.Path.{◌≡◌, refl}
@@ -6,7 +6,7 @@ use borrow.Author.Tests.{lt-ltb, le-ltb}
 use lib.Dec.{lit<}
 use Rattle.classify_cap.specs.Middle.{first_above, root_above}
 use Rattle.classify_cap.proofs.ClearanceLaws.{doubled_least}
-use Rattle.classify_cap.proofs.root_above.Invariants.{Rising, first, last, some}
+use Rattle.classify_cap.proofs.root_above.Invariants.{Rising}
 use Rattle.classify_cap.proofs.root_above.Goals as goal
 
 start : (s : ℕ) → Rising s 13 256

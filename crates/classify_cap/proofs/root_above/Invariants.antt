@@ -7,10 +7,10 @@ use Rattle.classify_cap.proofs.ClearanceLaws.{doubled}
 use Rattle.classify_cap.proofs.root_above.Given as goal
 
 -- at r, with n steps left
-record Rising (s n r : ℕ) : Type 0 where
-  some : 0 < r
-  last : doubled n r ≡ 2 ^ 21
-  first : first_above n r s ≡ root_above s
+pub record Rising (s n r : ℕ) : Type 0 where
+  pub some : 0 < r
+  pub last : doubled n r ≡ 2 ^ 21
+  pub first : first_above n r s ≡ root_above s
 
 abbrev pub invariant-loop-r : goal.invariant-loop-r
 invariant-loop-r l = (n : ℕ) × Rising l.s n l.r

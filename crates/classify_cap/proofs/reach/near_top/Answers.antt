@@ -1,7 +1,5 @@
-use Prim.Native.Nat.{◌-◌}
 use native.Mathlib.Omega.{arith}
 use mathlib.Core.Path.{sym, ◌∙◌}
-use mathlib.Core.Bool.{false}
 use Rattle.classify_cap.proofs.ReachLaws.{reach_zero, none_from}
 use Rattle.classify_cap.proofs.reach.near_top.Goals as goal
 
