@@ -1,13 +1,14 @@
 -- `covering_walk::accept_or_cut` goes by the class of the trixel. Assumes nothing.
 use native.Mathlib.Omega.{arith}
 use mathlib.Core.Path.{refl}
+use borrow.Author.Rules.{rules}
 use Rattle.covering_walk.proofs.VisitLaws.{range_fits, small_range, countable, done_outside, done_full, done_last, to_be_cut}
 use Rattle.covering_walk.proofs.accept_or_cut.Goals as goal
 
 pub seen_more-requires : goal.seen_more-requires
-seen_more-requires c = let s = c in record {
-  s_len = c.seen_more-arg-1.given.0.1;
-  countable = countable s.requires.level_fits s.requires.tally_invariant;
+seen_more-requires c = record {
+  s_len = search rules;
+  countable = countable c.requires.level_fits c.requires.tally_invariant;
 }
 
 pub overflow_mul-id : goal.overflow_mul-id
@@ -23,37 +24,37 @@ pub overflow_add-id : goal.overflow_add-id
 overflow_add-id c = omega (arith, (range_fits c.requires.level_fits).0)
 
 pub take_full-requires : goal.take_full-requires
-take_full-requires c = let s = c in let both = (c.take_full-arg-in-Full-1.given.0.1, (s.requires.tally_invariant, (countable s.requires.level_fits s.requires.tally_invariant, small_range s.requires.level_fits))) in record {
-  s_len = both.0;
-  tally_invariant = both.1.0;
-  countable = both.1.1.0;
-  small_range = both.1.1.1;
+take_full-requires c = record {
+  s_len = search rules;
+  tally_invariant = c.requires.tally_invariant;
+  countable = countable c.requires.level_fits c.requires.tally_invariant;
+  small_range = small_range c.requires.level_fits;
 }
 
 pub take_partial-requires : goal.take_partial-requires
-take_partial-requires c = let s = c in let both = (c.take_partial-arg-then-level-eq0-1.given.0.1, (s.requires.tally_invariant, countable s.requires.level_fits s.requires.tally_invariant)) in record {
-  s_len = both.0;
-  tally_invariant = both.1.0;
-  countable = both.1.1;
+take_partial-requires c = record {
+  s_len = search rules;
+  tally_invariant = c.requires.tally_invariant;
+  countable = countable c.requires.level_fits c.requires.tally_invariant;
 }
 
 pub shape_of-out-then-level-eq0 : goal.shape_of-out-then-level-eq0
-shape_of-out-then-level-eq0 c = c.take_partial.auto.0
+shape_of-out-then-level-eq0 c = c.take_partial.auto.out
 
 pub returns-then-level-eq0 : goal.returns-then-level-eq0
 returns-then-level-eq0 c = done_last c.in-Partial.is c.if-level-eq0.true c.take_partial.ensures
 
 pub seen_more-requires-in-Partial : goal.seen_more-requires-in-Partial
-seen_more-requires-in-Partial c = let s = c in record {
-  s_len = c.seen_more-arg-in-Partial-1.given.0.1;
-  countable = countable s.requires.level_fits s.requires.tally_invariant;
+seen_more-requires-in-Partial c = record {
+  s_len = search rules;
+  countable = countable c.requires.level_fits c.requires.tally_invariant;
 }
 
 pub returns-in-Outside : goal.returns-in-Outside
 returns-in-Outside c = done_outside c.in-Outside.is c.requires.tally_invariant c.seen_more.ensures refl
 
 pub shape_of-out : goal.shape_of-out
-shape_of-out c = c.take_full.auto.0
+shape_of-out c = c.take_full.auto.out
 
 pub returns-in-Full : goal.returns-in-Full
 returns-in-Full c = done_full c.in-Full.is c.requires.level_fits c.take_full.ensures

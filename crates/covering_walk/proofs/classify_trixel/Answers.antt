@@ -12,12 +12,10 @@ measured-s-requires c = let e = c.trixel_in-t.ensures in let k = c.requires.stor
 
 pub class_beside-class-requires : goal.class_beside-class-requires
 class_beside-class-requires c =
-    let e = c.before.before.before in
-    let s = e in
-    let both = ((c.measured-s.ensures, stored_normals e.trixel_in-t.ensures s.requires.stored_trixel (search rules)), (s.requires.ready.0, s.requires.ready.1)) in record {
-      rays_of = both.0;
-      ready = both.1.0;
-      active_lists_in = both.1.1;
+    record {
+      rays_of = (c.measured-s.ensures, stored_normals c.trixel_in-t.ensures c.requires.stored_trixel (search rules));
+      ready = c.requires.ready;
+      active_lists_in = c.requires.active_lists_in;
     }
 
 pub returns : goal.returns

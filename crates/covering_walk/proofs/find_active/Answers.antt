@@ -9,7 +9,7 @@ measured-s-requires c = let e = c.trixel_in-t.ensures in let k = c.requires.stor
 }
 
 pub find_active-requires : goal.find_active-requires
-find_active-requires c = let s = c in record {
-  small_trixel = (stored_small c.trixel_in-t.ensures s.requires.stored_trixel, c.measured-s.ensures);
-  ready = s.requires.ready;
+find_active-requires c = record {
+  small_trixel = (stored_small c.trixel_in-t.ensures c.requires.stored_trixel, c.measured-s.ensures);
+  ready = c.requires.ready;
 }

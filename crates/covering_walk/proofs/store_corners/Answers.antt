@@ -7,4 +7,4 @@ use Rattle.covering_walk.proofs.store_corners.Goals as goal
 pub returns : goal.returns
 returns c =
     let t = c.args.t in
-    c.store-3.ensures ∙ ap (λ xs. put 6 (three t.v2-1) xs) (c.store-2.ensures ∙ ap (λ xs. put 3 (three t.v1-1) xs) c.store.ensures)
+    c.store-3.ensures ∙ ap (λ xs. put 6 (three t.v2) xs) (c.store-2.ensures ∙ ap (λ xs. put 3 (three t.v1) xs) c.store.ensures)

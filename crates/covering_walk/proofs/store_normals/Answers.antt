@@ -7,4 +7,4 @@ use Rattle.covering_walk.proofs.store_normals.Goals as goal
 pub returns : goal.returns
 returns c =
     let t = c.args.t in
-    c.store-3.ensures ∙ ap (λ xs. put 15 (three t.p2-1) xs) (c.store-2.ensures ∙ ap (λ xs. put 12 (three t.p1-1) xs) c.store.ensures)
+    c.store-3.ensures ∙ ap (λ xs. put 15 (three t.p2) xs) (c.store-2.ensures ∙ ap (λ xs. put 12 (three t.p1) xs) c.store.ensures)

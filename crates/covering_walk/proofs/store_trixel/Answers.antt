@@ -24,9 +24,8 @@ holds t r xs long = all_cells 21 (λ xs. Holds t r (filled t r xs)) (λ a b c d 
 
 pub returns : goal.returns
 returns c =
-    let s = c in
-    let t = s.args.t in
-    let r = s.args.r in
-    let l : c.store_normals.new.0 ≡ filled t r s.args.xs.now =
+    let t = c.args.t in
+    let r = c.args.r in
+    let l : c.store_normals.new.xs ≡ filled t r c.args.xs.now =
     c.store_normals.ensures ∙ ap (with_normals t) (c.store_corners.ensures ∙ ap (with_corners t) c.store.ensures) in
-    subst (Holds t r) (sym l) (holds t r s.args.xs.now (search rules))
+    subst (Holds t r) (sym l) (holds t r c.args.xs.now (search rules))
