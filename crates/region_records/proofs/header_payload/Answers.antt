@@ -5,21 +5,15 @@ use Rattle.region_records.proofs.header_payload.Goals as goal
 
 pub returns-then-not-is_depth : goal.returns-then-not-is_depth
 returns-then-not-is_depth c =
-    let b = c.before.before in
-    let d = b in
-    payload_depth d.args.s.now d.word-depth.result b.word-budget.result d.word-depth.ensures.value b.word-budget.ensures.value
+    payload_depth c.args.s.now c.word-depth.result c.word-budget.result c.word-depth.ensures.value c.word-budget.ensures.value
     (sym c.is_depth.ensures ∙ c.if-not-is_depth.true)
 
 pub returns-then-not-is_budget : goal.returns-then-not-is_budget
 returns-then-not-is_budget c =
-    let b = c.before in
-    let d = b in
-    payload_budget d.args.s.now d.word-depth.result b.word-budget.result d.word-depth.ensures.value b.word-budget.ensures.value
+    payload_budget c.args.s.now c.word-depth.result c.word-budget.result c.word-depth.ensures.value c.word-budget.ensures.value
     (sym c.is_depth.ensures ∙ c.if-not-is_depth.false) (sym c.is_budget.ensures ∙ c.if-not-is_budget.true)
 
 pub returns : goal.returns
 returns c =
-    let b = c.before in
-    let d = b in
-    payload_header d.args.s.now d.word-depth.result b.word-budget.result d.word-depth.ensures.value b.word-budget.ensures.value
+    payload_header c.args.s.now c.word-depth.result c.word-budget.result c.word-depth.ensures.value c.word-budget.ensures.value
     (sym c.is_depth.ensures ∙ c.if-not-is_depth.false) (sym c.is_budget.ensures ∙ c.if-not-is_budget.false)

@@ -18,13 +18,11 @@ same rs k j p = (held p.1 tt).eq ∙ p.0 ∙ sym (get_or-drop k rs j (pos 0))
 
 pub returns : goal.returns
 returns c =
-    let ny = c.before in
-    let nx = ny in
-    let a = nx.args in
-    let x = same a.rows.now a.k 1 nx.number_at-x.ensures in
-    let y = same a.rows.now a.k 2 ny.number_at-y.ensures in
+    let a = c.args in
+    let x = same a.rows.now a.k 1 c.number_at-x.ensures in
+    let y = same a.rows.now a.k 2 c.number_at-y.ensures in
     let z = same a.rows.now a.k 3 c.number_at-z.ensures in
     let d = same a.rows.now a.k 4 c.number_at-d.ensures in record {
       value = (λ i. record { n = vec (x i) (y i) (z i); d = d i });
-      at_most = (record { x = upto_held nx.number_at-x.ensures.1 tt; y = upto_held ny.number_at-y.ensures.1 tt; z = upto_held c.number_at-z.ensures.1 tt }, upto_held c.number_at-d.ensures.1 tt);
+      at_most = (record { x = upto_held c.number_at-x.ensures.1 tt; y = upto_held c.number_at-y.ensures.1 tt; z = upto_held c.number_at-z.ensures.1 tt }, upto_held c.number_at-d.ensures.1 tt);
     }

@@ -6,13 +6,14 @@ use native.Mathlib.Nat.{div-le_of_le-mul}
 use native.Mathlib.Omega.{arith}
 use Rattle.vector.proofs.RootLaws.{root_tested, root_below}
 use Rattle.vector_roots.proofs.isqrt.Goals as goal
+use Rattle.vector_roots.proofs.isqrt.Goals.{After-newton-m}
 
 -- how far a step leads: n is at least 2¹⁸
 step : {s n : ℕ} → s < 2 ^ 46 → 2 ^ 18 ≤ n → s / n ≤ 2 ^ 28
 step {s} {n} h l = div-le_of_le-mul n (omega arith)
 
 -- the first step, from a guess of at least 2¹⁹
-first : (c : goal.After-newton-m) → let m = c.newton-m.result in (2 ^ 18 ≤ m) × (m ≤ 2 ^ 28)
+first : (c : After-newton-m) → let m = c.newton-m.result in (2 ^ 18 ≤ m) × (m ≤ 2 ^ 28)
 first c =
     let g = c.guess-n.ensures in
     let e = c.newton-m.ensures in
@@ -33,28 +34,26 @@ is_root-requires-2 c = (first c).1
 
 pub returns-then-is_root-2 : goal.returns-then-is_root-2
 returns-then-is_root-2 c =
-    let start = c in
-    let e = root_tested start.args.s c.newton-m.result (sym c.is_root-2.ensures ∙ c.if-is_root-2.true) in
+    let e = root_tested c.args.s c.newton-m.result (sym c.is_root-2.ensures ∙ c.if-is_root-2.true) in
     record {
       value = e;
-      upper_bound = root_below e start.requires;
+      upper_bound = root_below e c.requires;
     }
 
 pub newton-k-requires : goal.newton-k-requires
-newton-k-requires c = let b = first c.before.before in (c.requires, omega (arith, b), omega (arith, b))
+newton-k-requires c = let b = first (goal.at.newton-k-requires c).After-newton-m in (c.requires, omega (arith, b), omega (arith, b))
 
 pub is_root-requires-3 : goal.is_root-requires-3
 is_root-requires-3 c =
-    let b = first c.before.before.before in
+    let b = first (goal.at.is_root-requires-3 c).After-newton-m in
     omega (arith, b, c.newton-k.ensures, step {n = c.newton-m.result} c.requires b.0)
 
 pub returns-then-is_root-3 : goal.returns-then-is_root-3
 returns-then-is_root-3 c =
-    let start = c in
-    let e = root_tested start.args.s c.newton-k.result (sym c.is_root-3.ensures ∙ c.if-is_root-3.true) in
+    let e = root_tested c.args.s c.newton-k.result (sym c.is_root-3.ensures ∙ c.if-is_root-3.true) in
     record {
       value = e;
-      upper_bound = root_below e start.requires;
+      upper_bound = root_below e c.requires;
     }
 
 pub bisected-requires : goal.bisected-requires

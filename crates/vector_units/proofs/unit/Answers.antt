@@ -7,8 +7,9 @@ use Rattle.vector.specs.Numbers.{root}
 use Rattle.vector.specs.Vectors.{dot}
 use Rattle.vector.proofs.SizeLaws.{at_most_mono, unit_by}
 use Rattle.vector_units.proofs.unit.Goals as goal
+use Rattle.vector_units.proofs.unit.Goals.{After-isqrt}
 
-length : (c : goal.After-isqrt) → c.isqrt.result ≡ root (nat_abs (dot c.args.s c.args.s))
+length : (c : After-isqrt) → c.isqrt.result ≡ root (nat_abs (dot c.args.s c.args.s))
 length c = c.isqrt.ensures.value ∙ ap root c.square_length.ensures.value
 
 pub square_length-requires : goal.square_length-requires
@@ -24,7 +25,7 @@ divided-requires c = record {
 }
 
 pub returns : goal.returns
-returns c = let both = unit_by c.args.s (length c.before) c.divided.ensures in record {
+returns c = let both = unit_by c.args.s (length (goal.at.returns c).After-isqrt) c.divided.ensures in record {
   value = both.0;
   small = both.1;
 }

@@ -8,9 +8,10 @@ use Rattle.vector.specs.Vectors.{dot}
 use Rattle.vector.proofs.RootLaws.{root_tested}
 use Rattle.vector.proofs.SizeLaws.{at_most_mono, unit_by}
 use Rattle.vector_units.proofs.unit_two.Goals as goal
+use Rattle.vector_units.proofs.unit_two.Goals.{Then-is_root}
 
 -- the guess is the root, by its tests
-length : (c : goal.Then-is_root) → c.near_two-n.result ≡ root (nat_abs (dot c.args.s c.args.s))
+length : (c : Then-is_root) → c.near_two-n.result ≡ root (nat_abs (dot c.args.s c.args.s))
 length c =
     root_tested c.square_length-q.result c.near_two-n.result (sym c.is_root.ensures ∙ c.if-is_root.true)
     ∙ ap root c.square_length-q.ensures.value
@@ -19,13 +20,13 @@ pub square_length-q-requires : goal.square_length-q-requires
 square_length-q-requires c = c.requires
 
 pub divided-requires : goal.divided-requires
-divided-requires c = let n = c in record {
-  at_most = at_most_mono (lit≤ tt) n.requires;
-  n_bound = omega (arith, n.near_two-n.ensures.1);
+divided-requires c = record {
+  at_most = at_most_mono (lit≤ tt) c.requires;
+  n_bound = omega (arith, c.near_two-n.ensures.1);
 }
 
 pub returns-then-is_root : goal.returns-then-is_root
-returns-then-is_root c = let both = unit_by c.args.s (length c.before) c.divided.ensures in record {
+returns-then-is_root c = let both = unit_by c.args.s (length (goal.at.returns-then-is_root c).Then-is_root) c.divided.ensures in record {
   value = both.0;
   small = both.1;
 }

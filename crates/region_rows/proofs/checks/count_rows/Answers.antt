@@ -13,11 +13,10 @@ use Rattle.region_rows.proofs.checks.count_rows.Goals as goal
 use Rattle.region_rows.proofs.checks.count_rows.Goals.{After-with_row-r}
 
 -- what the row from element i on answered
-row : (c : After-with_row-r) → let l = c in let rs = l.args.rows.now in
-    (g : Region) → region_size g ≡ l.loop-i.at → region_size_given c.with_row-r.result ≡ with_value region_size (row_in g (get_or rs l.loop-i.i (pos 0)) (halfspace_at (drop l.loop-i.i rs)))
+row : (c : After-with_row-r) → let rs = c.args.rows.now in
+    (g : Region) → region_size g ≡ c.loop-i.at → region_size_given c.with_row-r.result ≡ with_value region_size (row_in g (get_or rs c.loop-i.i (pos 0)) (halfspace_at (drop c.loop-i.i rs)))
 row c g e =
-    let l = c.before.before.before.before in
-    let number = to_z-of_z {w = w32} {z = get_or l.args.rows.now l.loop-i.i (pos 0)} (record { sfits = omega arith }) in
+    let number = to_z-of_z {w = w32} {z = get_or c.args.rows.now c.loop-i.i (pos 0)} (record { sfits = omega arith }) in
     c.with_row-r.ensures g e ∙ (λ j. with_value region_size (row_in g (number j) (c.halfspace_at.ensures.value j)))
 
 pub loop-i-init : goal.loop-i-init
@@ -31,19 +30,15 @@ with_row-r-requires c = few_counted c.loop-i.invariant
 
 pub returns-in_default : goal.returns-in_default
 returns-in_default c =
-    let r = c.before.before in
-    let l = r in
     let e = ap region_size_given c.in_default.is in
-    e ∙ row_refused l.loop-i.invariant l.loop-i-test.true _ (λ g q. sym e ∙ row (goal.at.returns-in_default c).After-with_row-r g q)
+    e ∙ row_refused c.loop-i.invariant c.loop-i-test.true _ (λ g q. sym e ∙ row (goal.at.returns-in_default c).After-with_row-r g q)
 
 pub overflow_add-i : goal.overflow_add-i
 overflow_add-i c = omega (arith, whole_row c.loop-i.invariant c.loop-i-test.true)
 
 pub loop-i-preserved : goal.loop-i-preserved
 loop-i-preserved c =
-    let r = c.before.before.before in
-    let l = r in
-    row_passed l.loop-i.invariant l.loop-i-test.true _ (λ g q. sym (ap region_size_given c.in-Gives.is) ∙ row (goal.at.loop-i-preserved c).After-with_row-r g q)
+    row_passed c.loop-i.invariant c.loop-i-test.true _ (λ g q. sym (ap region_size_given c.in-Gives.is) ∙ row (goal.at.loop-i-preserved c).After-with_row-r g q)
 
 pub returns : goal.returns
 returns c = done c.loop-i.invariant c.loop-i-test.false
