@@ -5,24 +5,23 @@ use Rattle.covering_walk.proofs.RowsLaws.{rows_fits, rows_ready}
 use Rattle.covering_calls.proofs.cover.Goals as goal
 
 pub prepare-requires : goal.prepare-requires
-prepare-requires c = let r = c.requires.some_rows.0 in record {
+prepare-requires c = let r = c.requires.some_rows in record {
   n_bound = r.1.most;
   fit_rows = rows_fits r.0 _ _ r.1;
 }
 
 pub cover_prepared-requires : goal.cover_prepared-requires
 cover_prepared-requires c =
-    let s = c in
-    let r = s.requires.some_rows.0 in
+    let r = c.requires.some_rows in
     let p = c.prepare.ensures in
-    let both = (s.requires.le_depth, ((r.0, rows_ready r.0 _ _ r.1 _ (replicate 65 0) (le_refl _) (le_refl _) p.prepared_after p.ends_after), s.requires.some_rows.1)) in record {
-      le_depth = both.0;
-      ready = both.1.0;
-      le_budget = both.1.1;
+    record {
+      le_depth = c.requires.le_depth;
+      ready = (r.0, rows_ready r.0 _ _ r.1 _ (replicate 65 0) (le_refl _) (le_refl _) p.prepared_after p.ends_after);
+      le_budget = c.requires.le_budget;
     }
 
 pub shape_of-out : goal.shape_of-out
-shape_of-out c = c.cover_prepared.auto.1.1.1.1.0
+shape_of-out c = c.cover_prepared.auto.out
 
 pub returns : goal.returns
 returns c g r =

@@ -4,15 +4,14 @@ use Rattle.covering_walk.proofs.VisitLaws.{cover_start, cover_contained, cover_e
 use Rattle.covering_calls.proofs.cover_prepared.Goals as goal
 
 pub visit_roots-requires : goal.visit_roots-requires
-visit_roots-requires c = let s = c in cover_start s.requires.le_depth s.requires.ready.0 s.requires.ready.1 c.no_tally-s.ensures
+visit_roots-requires c = cover_start c.requires.le_depth c.requires.ready c.requires.le_budget c.no_tally-s.ensures
 
 pub finish-requires : goal.finish-requires
 finish-requires c =
     let v = c.visit_roots.ensures in
-    let s = c in
     record {
       tally_invariant = v.invariant;
-      counts_contained = cover_contained v s.requires.ready.0 s.requires.le_depth.1;
+      counts_contained = cover_contained v c.requires.ready c.requires.le_depth.1;
     }
 
 pub returns : goal.returns

@@ -40,15 +40,14 @@ inner_end-requires c =
 
 pub returns : goal.returns
 returns c =
-    let s = c in
     let u = c.budget_of-budget.ensures in
     let b = c.budget_of-budget.result in
-    let out = s.args.out.now in
-    let h : 2 * b ≤ length out = omega (arith, s.requires.list, u) in
+    let out = c.args.out.now in
+    let h : 2 * b ≤ length out = omega (arith, c.requires.list, u) in
     let e = c.inner_end in
-    subst (λ z. InnerEnded z out (put_mid (2 * b) (length out - 2 * b) out e.last.0) (inner_end z (state_of (tally_in s.args.s.now).inner (drop (2 * z) out))) e.result) u
+    subst (λ z. InnerEnded z out (put_mid (2 * b) (length out - 2 * b) out e.new.list) (inner_end z (state_of (tally_in c.args.s.now).inner (drop (2 * z) out))) e.result) u
     (record {
-      rest = e.last.0;
+      rest = e.new.list;
       list = tail_back (2 * b) out h _;
-      writes = subst₂ (λ l p. Writes (inner_end b (state_of p l)) l e.last.0 e.result) (tail_lent (2 * b) out h) c.pending.ensures e.ensures.0;
+      writes = subst₂ (λ l p. Writes (inner_end b (state_of p l)) l e.new.list e.result) (tail_lent (2 * b) out h) c.pending.ensures e.ensures.writes;
     })

@@ -19,26 +19,19 @@ loop-i-init c = (omega arith, refl)
 
 pub overflow_add-sum : goal.overflow_add-sum
 overflow_add-sum c =
-    let l = c.before.before.before.before in
-    let s = l in
-    omega (arith, c.above.ensures, more_few s.args.list.now s.args.n l.loop-i.i (omega arith) s.requires.1)
+    omega (arith, c.above.ensures, more_few c.args.list.now c.args.n c.loop-i.i (omega arith) c.requires.1)
 
 pub overflow_add-sum-in-loop-i : goal.overflow_add-sum-in-loop-i
 overflow_add-sum-in-loop-i c =
-    let l = c.before.before.before.before in
-    let s = l in
-    omega (arith, c.above.ensures, l.loop-i.invariant.1, more_few s.args.list.now s.args.n l.loop-i.i (omega arith) s.requires.1)
+    omega (arith, c.above.ensures, c.loop-i.invariant.1, more_few c.args.list.now c.args.n c.loop-i.i (omega arith) c.requires.1)
 
 pub loop-i-preserved : goal.loop-i-preserved
 loop-i-preserved c =
-    let l = c.before.before.before.before in
-    let s = l in
-    let xs = s.args.list.now in
-    (omega arith, omega (arith, c.above.ensures, l.loop-i.invariant.1, identifiers_next l.loop-i.i xs, ap (λ k. identifiers (ranges_in k xs)) (add-one l.loop-i.i)))
+    let xs = c.args.list.now in
+    let i = c.loop-i.i in
+    (omega arith, omega (arith, c.above.ensures, c.loop-i.invariant.1, identifiers_next i xs, ap (λ k. identifiers (ranges_in k xs)) (add-one i)))
 
 pub returns : goal.returns
 returns c =
-    let l = c.before in
-    let s = l in
-    let e : l.loop-i.i ≡ s.args.n = omega arith in
-    l.loop-i.invariant.1 ∙ ap (λ k. identifiers (ranges_in k s.args.list.now)) e
+    let e : c.loop-i.i ≡ c.args.n = omega arith in
+    c.loop-i.invariant.1 ∙ ap (λ k. identifiers (ranges_in k c.args.list.now)) e

@@ -11,26 +11,21 @@ pub power-span-requires : goal.power-span-requires
 power-span-requires c = omega (arith, c.requires.root_needs.high)
 
 pub loop-k-init : goal.loop-k-init
-loop-k-init c = (refl, rooting_start c.requires.root_needs c.requires.active_lists_in refl c.power-span.ensures)
+loop-k-init c = rooting_start c.requires.root_needs c.requires.active_lists_in refl c.power-span.ensures
 
 pub store_root-requires : goal.store_root-requires
-store_root-requires c = omega (arith, c.loop-k-test.true)
+store_root-requires c = omega arith
 
 pub visit-requires : goal.visit-requires
-visit-requires c = let d = c.loop-k.invariant.1 in record {
-  needs = root_needs d (omega (arith, c.loop-k-test.taken)) c.store_root.ensures.0;
+visit-requires c = let d = c.loop-k.invariant in record {
+  needs = root_needs d (omega arith) c.store_root.ensures.0;
   active_lists_in = d.active;
 }
 
 pub loop-k-preserved : goal.loop-k-preserved
 loop-k-preserved c =
-    let v = c.visit in
-    let l = c.loop-k in
     let k = c.store_root.ensures in
-    (v.auto.1.1.1.1.1.1.0 ∙ l.inv.0, rooting_more l.inv.1 (omega (arith, c.loop-k-test.taken)) k.0 k.1 v.ensures)
-
-pub shape_of-out : goal.shape_of-out
-shape_of-out c = c.loop-k.invariant.0
+    rooting_more c.loop-k.invariant (omega arith) k.0 k.1 c.visit.ensures
 
 pub returns : goal.returns
-returns c = rooted c.loop-k.invariant.1 (omega arith)
+returns c = rooted c.loop-k.invariant (omega arith)
