@@ -22,7 +22,7 @@ use Rattle.covering_walk.specs.Walk.{RowsOf}
 use Rattle.index.specs.declared.Entry.{Entry}
 use Rattle.index.specs.Exposures.{OwnerCapacity, only}
 use Rattle.index.specs.Entries.{is_owned, entries_in}
-use Rattle.frames.specs.Walk.{entries_of, walk, delivered_by}
+use Rattle.frames.specs.Walk.{shortened, entries_of, ahead, walk, delivered_by}
 use Rattle.frames_walk.specs.declared.Lists.{Lists}
 use Rattle.frames_walk.specs.declared.DispositionCounts.{DispositionCounts}
 use Rattle.frames_walk.specs.Steps.{counts_by, Lent, Walks}
@@ -37,7 +37,7 @@ counting t = t.unchecked + t.held + t.discarded
 walk_length : (d : ℕ) (held : _) (os ns : List Range) (es : List Entry) → length (walk d held os ns es) ≡ length es
 unfolding walk
 walk_length d held os ns [] = refl
-walk_length d held os ns (e ∷ es) = ap suc (walk_length d held _ _ es)
+walk_length d held os ns (e ∷ es) = ap suc (walk_length d held (ahead (shortened d e) os) (ahead (shortened d e) ns) es)
 
 few_visited : (d : ℕ) (held : Vec3 → _) (os ns : List Range) (o : ℕ) (l : List ℤ) → counting (counts_by (walk d held os ns (entries_of o l))) ≤ OwnerCapacity
 few_visited d held os ns o l =

@@ -12,27 +12,20 @@ some_span n {p} e = subst (λ k. 1 ≤ k) (sym e) (one-le-pow n 4 (lit< tt))
 
 pub walk-dispositions-requires : goal.walk-dispositions-requires
 walk-dispositions-requires c =
-    let w = c.before.before in
-    let v = w.before.before.before in
-    let s = v in
-    let a = s.args in
-    let g = s.requires.le_depth.2.0 in
-    let k = s.requires.le_depth.2.1 in
-    let r = v.cover-counts.ensures g k in record {
+    let a = c.args in
+    let g = c.requires.le_depth.2.0 in
+    let k = c.requires.le_depth.2.1 in
+    let r = c.cover-counts.ensures g k in record {
       in_bounds = (
-        s.requires.le_budget.1.0,
-        lent a.depth a.budget g s.requires.le_budget.0.0 a.ranges.now v.cover-counts.last.1.1.1.1.0 s.requires.le_budget.0.1 v.cover-counts.result r.0 r.1 w.power.result (some_span (12 - a.depth) w.power.ensures) v.cover-counts.kept.1.1.1.1.0,
-        s.requires.le_budget.1.1,
+        c.requires.in_bounds.0,
+        lent a.depth a.budget g c.requires.le_budget.0 a.ranges.now c.cover-counts.new.out c.requires.le_budget.1 c.cover-counts.result r.0 r.1 c.power.result (some_span (12 - a.depth) c.power.ensures) c.cover-counts.auto.out,
+        c.requires.in_bounds.1,
       );
       count_bound = omega (arith, k.most);
     }
 
 pub returns : goal.returns
 returns c g k =
-    let u = c.before.before in
-    let w = u.before.before.before in
-    let v = w.before.before.before in
-    let s = v in
-    let a = s.args in
-    let r = v.cover-counts.ensures g k in
-    searched a.depth a.budget g s.requires.le_budget.0.0 a.ranges.now v.cover-counts.last.1.1.1.1.0 s.requires.le_budget.0.1 v.cover-counts.result r.0 r.1 a.owner a.index.now a.count a.rows.now k w.power.result w.power.ensures a.numbers-1.now _ u.walk-dispositions.result u.walk-dispositions.ensures
+    let a = c.args in
+    let r = c.cover-counts.ensures g k in
+    searched a.depth a.budget g c.requires.le_budget.0 a.ranges.now c.cover-counts.new.out c.requires.le_budget.1 c.cover-counts.result r.0 r.1 a.owner a.index.now a.count a.rows.now k c.power.result c.power.ensures a.numbers.now _ c.walk-dispositions.result c.walk-dispositions.ensures
