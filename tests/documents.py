@@ -1,5 +1,5 @@
 #!/usr/bin/env python3
-"""The commands in the documents, run from the repository's top and compared with what the documents show, on what `rt ci` and `make` leave in target/.
+"""The commands in the documents, run from the repository's top and compared with what the documents show, on what the gate and `make` put into target/.
 tests/documents.py [DOCUMENT ..]; without a name all: README.md and its like, docs/*.md, hosts/*/README.md.
 
 The word behind its fence says what a block is; CONTRIBUTING.md, 'Documents', has the table:
