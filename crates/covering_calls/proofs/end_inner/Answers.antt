@@ -27,15 +27,14 @@ slice_bounds-inner_end-end c = omega (arith, c.requires.list, c.budget_of-budget
 
 pub inner_end-requires : goal.inner_end-requires
 inner_end-requires c =
-    let s = c in
     let u = c.budget_of-budget.ensures in
     let b = c.budget_of-budget.result in
-    let out = s.args.out.now in
-    let r = s.requires in
+    let out = c.args.out.now in
+    let r = c.requires in
     let q = c.pending.ensures in
     let e = tail_lent (2 * b) out (omega (arith, r.list, u)) in record {
       le_budget = (omega (arith, r.budget, u), subst₂ (λ p b. p.n ≤ b) (sym q) (sym u) r.inner, omega (arith, u, r.list, ap length e, length-drop (2 * b) out));
-      hinted = subst₂ (λ p l. Hinted p.hint (differences_in 0 0 p.n l)) (sym q) (sym e) (subst (λ b. Hinted (tally_in s.args.s.now).inner.hint (differences_in (2 * b) 0 (tally_in s.args.s.now).inner.n out)) (sym u) r.inner_hinted);
+      hinted = subst₂ (λ p l. Hinted p.hint (differences_in 0 0 p.n l)) (sym q) (sym e) (subst (λ b. Hinted (tally_in c.args.s.now).inner.hint (differences_in (2 * b) 0 (tally_in c.args.s.now).inner.n out)) (sym u) r.inner_hinted);
     }
 
 pub returns : goal.returns

@@ -4,5 +4,4 @@ use Rattle.covering_tally.proofs.add_inner.Goals as goal
 
 pub returns : goal.returns
 returns c =
-    let p = c in
-    inner_added p.push_inner.ensures p.budget_of.ensures p.pending.ensures c.note_inner.ensures
+    inner_added c.push_inner.ensures c.budget_of.ensures c.pending.ensures c.note_inner.ensures

@@ -3,4 +3,4 @@ use Rattle.covering_tally.proofs.TallyLaws.{noted_full}
 use Rattle.covering_tally.proofs.full_more.Goals as goal
 
 pub returns : goal.returns
-returns c = let s = c in noted_full s.args.s.now s.requires.s_len _
+returns c = noted_full c.args.s.now c.requires.s_len _

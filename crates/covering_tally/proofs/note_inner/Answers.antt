@@ -11,4 +11,4 @@ pub bounds-s-8 : goal.bounds-s-8
 bounds-s-8 c = simp length-set (omega arith)
 
 pub returns : goal.returns
-returns c = let s = c in noted_inner s.args.s.now s.requires s.args.p c.flag.result c.flag.ensures
+returns c = noted_inner c.args.s.now c.requires c.args.p c.flag.result c.flag.ensures

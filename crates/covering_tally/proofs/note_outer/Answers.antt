@@ -3,4 +3,4 @@ use Rattle.covering_tally.proofs.TallyLaws.{noted_outer}
 use Rattle.covering_tally.proofs.note_outer.Goals as goal
 
 pub returns : goal.returns
-returns c = let s = c in noted_outer s.args.s.now s.requires s.args.m
+returns c = noted_outer c.args.s.now c.requires c.args.m

@@ -4,10 +4,10 @@ use Rattle.covering_tally.proofs.TallyLaws.{noted_partial}
 use Rattle.covering_tally.proofs.partial_more.Goals as goal
 
 pub overflow_add-seen : goal.overflow_add-seen
-overflow_add-seen c = let s = c in omega (arith, s.requires.countable.few)
+overflow_add-seen c = omega (arith, c.requires.countable.few)
 
 pub overflow_add-partial : goal.overflow_add-partial
-overflow_add-partial c = let s = c in omega (arith, s.requires.countable.few, s.requires.countable.partial)
+overflow_add-partial c = omega (arith, c.requires.countable.few, c.requires.countable.partial)
 
 pub returns : goal.returns
-returns c = let s = c in noted_partial s.args.s.now s.requires.s_len
+returns c = noted_partial c.args.s.now c.requires.s_len

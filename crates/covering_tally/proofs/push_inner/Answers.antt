@@ -11,13 +11,12 @@ use Rattle.covering_tally.proofs.push_inner.Goals as goal
 
 pub inner_push-requires : goal.inner_push-requires
 inner_push-requires c =
-    let s = c in
-    let b = s.args.budget in
-    let out = s.args.out.now in
-    let e = tail_lent (2 * b) out (omega (arith, s.requires.list)) in
+    let b = c.args.budget in
+    let out = c.args.out.now in
+    let e = tail_lent (2 * b) out (omega (arith, c.requires.list)) in
     record {
-      le_budget = (s.requires.budget, s.requires.few, omega (arith, s.requires.list, ap length e, length-drop (2 * b) out));
-      hinted = subst (λ l. Hinted s.args.p.hint (differences_in 0 0 s.args.p.n l)) (sym e) s.requires.hinted;
+      le_budget = (c.requires.budget, c.requires.few, omega (arith, c.requires.list, ap length e, length-drop (2 * b) out));
+      hinted = subst (λ l. Hinted c.args.p.hint (differences_in 0 0 c.args.p.n l)) (sym e) c.requires.hinted;
     }
 
 pub returns : goal.returns

@@ -3,4 +3,4 @@ use Rattle.covering_tally.proofs.TallyLaws.{noted_seen}
 use Rattle.covering_tally.proofs.seen_more.Goals as goal
 
 pub returns : goal.returns
-returns c = let s = c in noted_seen s.args.s.now s.requires.s_len
+returns c = noted_seen c.args.s.now c.requires.s_len

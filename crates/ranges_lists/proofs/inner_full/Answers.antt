@@ -15,10 +15,8 @@ at_smallest-next-requires c = record {
 -- the new range is the shortest
 pub returns-then-size_less_one-floor : goal.returns-then-size_less_one-floor
 returns-then-size_less_one-floor c =
-    let a = c.before in
-    let s = a in
-    let both = full_stays s.args.n s.args.list.now s.args.low s.args.high a.difference-size_less_one.result (omega arith) a.difference-size_less_one.ensures
-    a.at_smallest-next.result a.at_smallest-next.ensures (omega arith) in record {
+    let both = full_stays c.args.n c.args.list.now c.args.low c.args.high c.difference-size_less_one.result (omega arith) c.difference-size_less_one.ensures
+    c.at_smallest-next.result c.at_smallest-next.ensures (omega arith) in record {
       list_after = both.0;
       hinted_2 = both.1;
     }
@@ -41,11 +39,8 @@ shape_of-list c = simp length-set (omega arith)
 -- another one is
 pub returns : goal.returns
 returns c =
-    let b = c.before.before in
-    let a = b.before.before.before in
-    let s = a in
-    let both = full_shifts s.args.n s.args.list.now s.args.low s.args.high a.difference-size_less_one.result (omega arith) a.difference-size_less_one.ensures
-    a.at_smallest-next.result a.at_smallest-next.ensures (omega arith) _ (2 * s.args.n - 2) (omega arith) b.shift_down.ensures in record {
+    let both = full_shifts c.args.n c.args.list.now c.args.low c.args.high c.difference-size_less_one.result (omega arith) c.difference-size_less_one.ensures
+    c.at_smallest-next.result c.at_smallest-next.ensures (omega arith) _ (2 * c.args.n - 2) (omega arith) c.shift_down.ensures in record {
       list_after = both.0;
       hinted_2 = both.1;
     }

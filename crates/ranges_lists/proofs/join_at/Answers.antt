@@ -13,6 +13,4 @@ shape_of-list c = simp length-set (omega arith)
 
 pub returns : goal.returns
 returns c =
-    let b = c.before.before in
-    let s = b in
-    joins s.args.n s.args.i (2 * s.args.n - 1) s.args.list.now s.args.low s.args.high (omega arith) (omega arith) (omega arith) _ b.shift_down.ensures
+    joins c.args.n c.args.i (2 * c.args.n - 1) c.args.list.now c.args.low c.args.high (omega arith) (omega arith) (omega arith) _ c.shift_down.ensures

@@ -15,22 +15,19 @@ shape_of-list-then-n-eq1 c = simp length-set (omega arith)
 -- there are no gaps
 pub returns-then-n-eq1 : goal.returns-then-n-eq1
 returns-then-n-eq1 c =
-    let s = c in
-    let n = s.args.n in
-    let l = s.args.list.now in
-    let both = full_extends n l s.args.low s.args.high (s.args.low - get_or l 1 0 - 1) 1 (omega arith) (omega arith) refl s.args.hint s.requires.hinted
+    let n = c.args.n in
+    let l = c.args.list.now in
+    let both = full_extends n l c.args.low c.args.high (c.args.low - get_or l 1 0 - 1) 1 (omega arith) (omega arith) refl c.args.hint c.requires.hinted
     (λ i k. absurd (omega (arith, ap length (gaps_stored n l (omega arith) (omega arith)), length_differences 1 1 (n - 1) l))) in record {
       list_after = both.0;
       hinted_2 = both.1;
     }
 
 pub at_smallest-next-requires : goal.at_smallest-next-requires
-at_smallest-next-requires c =
-    let s = c in
-    record {
-      le_count = (omega arith, omega arith);
-      hinted = subst (Hinted s.args.hint) (gaps_stored s.args.n s.args.list.now (omega arith) (omega arith)) s.requires.hinted;
-    }
+at_smallest-next-requires c = record {
+  le_count = (omega arith, omega arith);
+  hinted = subst (Hinted c.args.hint) (gaps_stored c.args.n c.args.list.now (omega arith) (omega arith)) c.requires.hinted;
+}
 
 pub shape_of-list-then-gap-floor : goal.shape_of-list-then-gap-floor
 shape_of-list-then-gap-floor c = simp length-set (omega arith)
@@ -38,30 +35,23 @@ shape_of-list-then-gap-floor c = simp length-set (omega arith)
 -- the new gap is the smallest
 pub returns-then-gap-floor : goal.returns-then-gap-floor
 returns-then-gap-floor c =
-    let a = c.before in
-    let s = a in
-    let p = subst (PointsAt a.at_smallest-next.result) (sym (gaps_stored s.args.n s.args.list.now (omega arith) (omega arith))) a.at_smallest-next.ensures in
-    let both = full_extends s.args.n s.args.list.now s.args.low s.args.high a.difference-gap.result (2 * s.args.n - 1) (omega arith) (omega arith)
-    a.difference-gap.ensures a.at_smallest-next.result p.hinted (λ i k. omega (arith, p.hinted.at_least i k)) in record {
+    let p = subst (PointsAt c.at_smallest-next.result) (sym (gaps_stored c.args.n c.args.list.now (omega arith) (omega arith))) c.at_smallest-next.ensures in
+    let both = full_extends c.args.n c.args.list.now c.args.low c.args.high c.difference-gap.result (2 * c.args.n - 1) (omega arith) (omega arith)
+    c.difference-gap.ensures c.at_smallest-next.result p.hinted (λ i k. omega (arith, p.hinted.at_least i k)) in record {
       list_after = both.0;
       hinted_2 = both.1;
     }
 
 pub join_at-requires : goal.join_at-requires
 join_at-requires c =
-    let a = c.before.before in
-    let s = a in
-    (omega (arith, points_inside 1 1 (s.args.n - 1) s.args.list.now a.at_smallest-next.ensures), omega arith)
+    (omega (arith, points_inside 1 1 (c.args.n - 1) c.args.list.now c.at_smallest-next.ensures), omega arith)
 
 -- another one is
 pub returns : goal.returns
 returns c =
-    let j = c.before.before in
-    let a = j.before.before.before in
-    let s = a in
-    let p = subst (PointsAt a.at_smallest-next.result) (sym (gaps_stored s.args.n s.args.list.now (omega arith) (omega arith))) a.at_smallest-next.ensures in
-    let both = full_joins s.args.n s.args.list.now s.args.low s.args.high a.difference-gap.result (2 * s.args.n - 1) (omega arith) (omega arith)
-    a.difference-gap.ensures a.at_smallest-next.result p (omega arith) _ j.join_at.ensures in record {
+    let p = subst (PointsAt c.at_smallest-next.result) (sym (gaps_stored c.args.n c.args.list.now (omega arith) (omega arith))) c.at_smallest-next.ensures in
+    let both = full_joins c.args.n c.args.list.now c.args.low c.args.high c.difference-gap.result (2 * c.args.n - 1) (omega arith) (omega arith)
+    c.difference-gap.ensures c.at_smallest-next.result p (omega arith) _ c.join_at.ensures in record {
       list_after = both.0;
       hinted_2 = both.1;
     }

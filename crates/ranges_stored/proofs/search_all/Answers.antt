@@ -8,11 +8,8 @@ smallest-i-requires c = c.requires.1
 
 pub difference_at-least-requires : goal.difference_at-least-requires
 difference_at-least-requires c =
-    let s = c in
-    omega (arith, all_inside _ _ _ _ s.requires.1 _ _ s.requires.0 c.difference_at-first.ensures c.smallest-i.ensures.value)
+    omega (arith, all_inside _ _ _ _ c.requires.1 _ _ c.requires.0 c.difference_at-first.ensures c.smallest-i.ensures.value)
 
 pub returns : goal.returns
 returns c =
-    let q = c.before in
-    let s = q in
-    all_points _ _ _ _ s.requires.1 _ _ s.requires.0 q.difference_at-first.ensures q.smallest-i.ensures.value _ c.difference_at-least.ensures
+    all_points _ _ _ _ c.requires.1 _ _ c.requires.0 c.difference_at-first.ensures c.smallest-i.ensures.value _ c.difference_at-least.ensures
