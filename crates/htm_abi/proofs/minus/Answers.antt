@@ -7,8 +7,9 @@ use mir.Syntax.{w64}
 use Rattle.algebra.proofs.Sizes.{Upto}
 use Rattle.algebra.proofs.Sized.{sfits, nat, lit, upto_neg, is_sub, fits_sub}
 use Rattle.htm_abi.proofs.minus.Goals as goal
+use Rattle.htm_abi.proofs.minus.Goals.{Start}
 
-small : (c : goal.Start) → c.args.n ≤ 2 ^ 32
+small : (c : Start) → c.args.n ≤ 2 ^ 32
 small c = omega arith
 
 upto : (n : ℕ) → n ≤ 2 ^ 32 → Upto (2 ^ 32) (pos n)

@@ -7,7 +7,7 @@ use Rattle.vector.specs.Vectors.{three}
 use Rattle.htm_abi.proofs.put_corners.Goals as goal
 
 pub shape_of-out : goal.shape_of-out
-shape_of-out c = omega (arith, c.put_corner-3.auto.0, c.put_corner-2.auto.0, c.put_corner.auto.0)
+shape_of-out c = omega (arith, c.put_corner-3.auto.out, c.put_corner-2.auto.out, c.put_corner.auto.out)
 
 pub returns : goal.returns
 returns c =

@@ -14,13 +14,13 @@ use Rattle.index.specs.Entries.{entry}
 use Rattle.index_calls.proofs.CallLaws.{by_add, no_owner}
 use Rattle.index_calls.proofs.LookupLaws.{not_added, added}
 use Rattle.index_calls.proofs.add.Goals as goal
-use Rattle.index_calls.proofs.add.Goals.{In-Gives-2}
+use Rattle.index_calls.proofs.add.Goals.{In-Gives}
 
 -- the identifier that was found, by the rule
-given : (c : In-Gives-2) → lookup c.args.p 12 ≡ gives c.in-Gives.id
+given : (c : In-Gives) → lookup c.args.p 12 ≡ gives c.in-Gives.id
 given c = sym c.lookup-found.ensures ∙ ap number_of c.in-Gives.is
 
-small : (c : In-Gives-2) → c.in-Gives.id ≤ 2 ^ 26
+small : (c : In-Gives) → c.in-Gives.id ≤ 2 ^ 26
 small c =
     let p = c.args.p in
     omega (arith, identifier_small p 12 (omega arith), (lookup_is p 12 _ (given c)).2)
@@ -32,7 +32,7 @@ returns-then-owner-ge-OWNERS c = let v = c.args in let both = by_add _ _ _ _ (no
 }
 
 pub overflow_cast-id : goal.overflow_cast-id
-overflow_cast-id c = record { sfits = omega (arith, small c.before.before) }
+overflow_cast-id c = record { sfits = omega (arith, small (goal.at.overflow_cast-id c).In-Gives) }
 
 pub overflow_cast-number : goal.overflow_cast-number
 overflow_cast-number c = record { sfits = omega arith }
@@ -42,10 +42,9 @@ overflow_cast-owner c = record { sfits = omega arith }
 
 pub returns-in-Refused : goal.returns-in-Refused
 returns-in-Refused c =
-    let f = c in
-    let v = f.args in
+    let v = c.args in
     let both = by_add _ _ _ _
-    (not_added (exposed v.owner v.number v.p) v.index.now f.in-Refused.n (lt-ltb v.owner 2 (omega arith)) (sym (ap number_of f.in-Refused.is) ∙ f.lookup-found.ensures)) in record {
+    (not_added (exposed v.owner v.number v.p) v.index.now c.in-Refused.n (lt-ltb v.owner 2 (omega arith)) (sym (ap number_of c.in-Refused.is) ∙ c.lookup-found.ensures)) in record {
       result_value = both.0;
       index_after = both.1;
     }
@@ -55,8 +54,8 @@ shape_of-index c = c.insert.auto.index
 
 pub returns-in-Gives : goal.returns-in-Gives
 returns-in-Gives c =
-    let f = c.before.before.before.before in
-    let v = f.args in
+    let f = (goal.at.returns-in-Gives c).In-Gives in
+    let v = c.args in
     let l = lookup_is v.p 12 _ (given f) in
     let o : v.owner ≤ 2 ^ 32 = omega arith in
     let n : v.number ≤ 2 ^ 32 = omega arith in

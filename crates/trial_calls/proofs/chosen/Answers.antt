@@ -5,14 +5,11 @@ use Rattle.trial_calls.proofs.chosen.Goals as goal
 
 pub returns-in-Gives : goal.returns-in-Gives
 returns-in-Gives c =
-    let r = c in
-    let a = r.args in
-    let e = sym r.result.given.1 in
-    subst (λ x. IsPart x a.first a.second c.part_by.result) e c.part_by.ensures
+    let a = c.args in
+    subst (λ x. IsPart x a.first a.second c.part_by.result) (sym c.in-Gives.is) c.part_by.ensures
 
 pub returns-in-Refused : goal.returns-in-Refused
 returns-in-Refused c =
-    let r = c in
-    let a = r.args in
-    let e = sym r.in-Refused.is in
+    let a = c.args in
+    let e = sym c.in-Refused.is in
     record { elements = ap (λ x. part_of x a.first.now a.second.now) e; address = ap (λ x. buffer_of x a.first.ref_ptr a.second.ref_ptr) e }

@@ -5,9 +5,10 @@ use Rattle.region.specs.Reader.{File}
 use Rattle.trial.specs.Answers.{check_setting}
 use Rattle.trial_calls.proofs.CheckLaws.{passing_some, passing_none}
 use Rattle.htm_abi.proofs.trials.setting_refusal_or_space.Goals as goal
+use Rattle.htm_abi.proofs.trials.setting_refusal_or_space.Goals.{Else-one-ne0}
 
 -- the first setting is good
-good : (c : goal.Else-one-ne0) → (a : Answer File) → check_setting c.args.s a ≡ a
+good : (c : Else-one-ne0) → (a : Answer File) → check_setting c.args.s a ≡ a
 good c a = let u = c.setting_refusal-one in u.ensures a ∙ passing_none a c.if-one-ne0.false
 
 pub returns-then-one-ne0 : goal.returns-then-one-ne0

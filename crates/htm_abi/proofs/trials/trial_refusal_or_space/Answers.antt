@@ -14,6 +14,7 @@ use Rattle.index.specs.Exposures.{is_owner}
 use Rattle.trial.specs.declared.Setting.{Setting}
 use Rattle.htm_abi.specs.ShortLists.{setting_refusal_or_space, trial_refusal_or_space}
 use Rattle.htm_abi.proofs.trials.trial_refusal_or_space.Goals as goal
+use Rattle.htm_abi.proofs.trials.trial_refusal_or_space.Goals.{Else-owner-ge-OWNERS}
 
 module _ (o : ℕ) (f : List ℕ) (s t : Setting) where
   no_owner : is_owner o ≡ false → trial_refusal_or_space o f s t ≡ refused Owner
@@ -29,7 +30,7 @@ module _ (o : ℕ) (f : List ℕ) (s t : Setting) where
     a_file : (h : Header) (n : ℕ) → gives h ≡ with_value header_of (read f) → setting_refusal_or_space s t ≡ refused n → trial_refusal_or_space o f s t ≡ refused n
     a_file h n e u = let v = value_gives header_of (read f) h (sym e) in by_file (gives v.0) v.1 ∙ u
 
-own : (c : goal.Else-owner-ge-OWNERS) → is_owner c.args.owner ≡ true
+own : (c : Else-owner-ge-OWNERS) → is_owner c.args.owner ≡ true
 own c = lt-ltb c.args.owner 2 (omega (arith, c.if-owner-ge-OWNERS.false))
 
 pub returns-then-owner-ge-OWNERS : goal.returns-then-owner-ge-OWNERS
@@ -37,15 +38,12 @@ returns-then-owner-ge-OWNERS c = let a = c.args in no_owner a.owner a.file.now a
 
 pub returns-in-Gives : goal.returns-in-Gives
 returns-in-Gives c =
-    let m = c.before in
-    let d = m.before.before in
-    let e = d.before.before in
-    let a = e.args in
-    a_file a.owner a.file.now a.s a.t (own e) _ c.setting_refusal_or_space.result (sym (ap header_given m.in-Gives.is) ∙ d.decode-said.ensures.result_value) c.setting_refusal_or_space.ensures
+    let a = c.args in
+    a_file a.owner a.file.now a.s a.t (own (goal.at.returns-in-Gives c).Else-owner-ge-OWNERS) _ c.setting_refusal_or_space.result
+        (sym (ap header_given c.in-Gives.is) ∙ c.decode-said.ensures.result_value) c.setting_refusal_or_space.ensures
 
 pub returns-in-Refused : goal.returns-in-Refused
 returns-in-Refused c =
-    let d = c.before.before.before in
-    let e = d.before.before in
-    let a = e.args in
-    no_file a.owner a.file.now a.s a.t (own e) c.in-Refused.n (sym (ap header_given c.in-Refused.is) ∙ d.decode-said.ensures.result_value)
+    let a = c.args in
+    no_file a.owner a.file.now a.s a.t (own (goal.at.returns-in-Refused c).Else-owner-ge-OWNERS) c.in-Refused.n
+        (sym (ap header_given c.in-Refused.is) ∙ c.decode-said.ensures.result_value)
