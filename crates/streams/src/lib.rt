@@ -157,3 +157,63 @@ pub fn has_no_argument(rt: &impl Env, streams: Streams, usage: &[u8]) -> bool {
     }
     false
 }
+
+#[cfg(test)]
+mod tests {
+    use super::*;
+    use std::test::Fail;
+
+    // Stands for an input: of two calls one is interrupted, the other gives a byte, its number; from the sixth on they fail.
+    #[derive(Drop)]
+    struct Calls {
+        made: u8,
+    }
+
+    impl Read for Calls {
+        fn read(&mut self, to: &mut [u8]) -> io::Result<usize> {
+            self.made = self.made.saturating_add(1);
+            if 5 < self.made {
+                return Err(io::Error::from_raw_os_error(5));
+            }
+            if self.made % 2 == 1 {
+                return Err(io::Error::from(ErrorKind::Interrupted));
+            }
+            if to.len() == 0 {
+                return Ok(0);
+            }
+            to[0] = self.made;
+            Ok(1)
+        }
+    }
+
+    #[test]
+    fn an_interrupted_read_is_made_again(rt: HostRuntime) -> Result<(), Fail> {
+        let mut input = Calls { made: 0 };
+        let mut to = [0u8; 2];
+        assert_eq!(rt; read_from(&mut input, &mut to)?, 1);
+        assert_eq!(rt; to, [2, 0]);
+        assert_eq!(rt; read_from(&mut input, &mut to)?, 1);
+        assert_eq!(rt; to, [4, 0]);
+        for _ in 0..2 {
+            let failure = read_from(&mut input, &mut to)
+                .err()
+                .and_then(|e| e.raw_os_error());
+            assert_eq!(rt; failure, Some(5));
+        }
+        Ok(())
+    }
+
+    #[test]
+    fn a_reason_has_no_number(rt: HostRuntime) {
+        assert_eq!(rt;
+            reason_in(b"No space left on device (os error 28)\0\0"),
+            "No space left on device"
+        );
+        assert_eq!(rt;
+            reason_in(b"failed to write whole buffer\0"),
+            "failed to write whole buffer"
+        );
+        assert_eq!(rt; reason_in(b"cut"), "cut");
+        assert_eq!(rt; reason_in(b"\xff"), "");
+    }
+}
