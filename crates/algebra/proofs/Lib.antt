@@ -5,6 +5,7 @@ pub mod Claim
 pub mod Cone
 pub mod Containment
 pub mod Counting
+pub mod Facts
 pub mod Filters
 pub mod Inequalities
 pub mod Moved
