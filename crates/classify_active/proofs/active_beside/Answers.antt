@@ -12,15 +12,18 @@ pub slice_bounds-active_in_region-end-6 : goal.slice_bounds-active_in_region-end
 slice_bounds-active_in_region-end-6 c = sym (length-take-le 32 c.args.stops.now (omega arith))
 
 pub active_in_region-w-requires : goal.active_in_region-w-requires
-active_in_region-w-requires c =
-    let s = c in record {
-      anchor = (s.requires.anchor.0, omega (arith, length-take-le 224 s.args.active.now (omega arith)), omega (arith, length-take-le 32 s.args.stops.now (omega arith)), c.active_limit.ensures);
-      ready = ready_count s.requires.anchor.4 s.requires.ready;
-    }
+active_in_region-w-requires c = record {
+  anchor = (
+    c.requires.anchor.0,
+    omega (arith, length-take-le 224 c.args.active.now (omega arith)),
+    omega (arith, length-take-le 32 c.args.stops.now (omega arith)),
+    c.active_limit.ensures,
+  );
+  ready = ready_count c.requires.anchor.4 c.requires.ready;
+}
 
 pub returns : goal.returns
 returns c =
-    let s = c in
+    let p = c.requires.anchor in
     let o = c.active_in_region-w in
-    active_lists_behind s.args.active.now _ s.args.stops.now _ _ s.requires.anchor.0 s.requires.anchor.1 s.requires.anchor.2 s.requires.anchor.3 o.auto.1.1.1.1.0 o.auto.1.1.1.1.1.0
-    (λ h. active_prepared_count s.requires.anchor.4 (o.ensures h))
+    active_lists_behind c.args.active.now _ c.args.stops.now _ _ p.0 p.1 p.2 p.3 o.auto.active o.auto.stops (λ h. active_prepared_count p.4 (o.ensures h))

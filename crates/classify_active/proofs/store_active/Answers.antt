@@ -5,9 +5,8 @@ use Rattle.classify_active.proofs.store_active.Goals as goal
 
 pub returns-in-Partial : goal.returns-in-Partial
 returns-in-Partial c =
-    let s = c.args in
-    let told = c.in-Partial.is in
+    let a = c.args in
     record {
-      value = ap (λ k. active_stored_count k s.w) (sym told);
-      active_after = c.store.ensures ∙ ap (λ k. active_stored_list k s.w s.q s.active-1.now) (sym told);
+      value = ap (λ k. active_stored_count k a.w) (sym c.in-Partial.is);
+      active_after = c.store.ensures ∙ ap (λ k. active_stored_list k a.w a.q a.active.now) (sym c.in-Partial.is);
     }

@@ -6,4 +6,4 @@ use Rattle.classify_active.proofs.ActiveRegionLaws.{part_back}
 use Rattle.classify_active.proofs.store_anchor_behind.Goals as goal
 
 pub returns : goal.returns
-returns c = let k = c.store_anchor in ap anchor_in (part_back 224 c.args.active.now k.new.0 (omega arith)) ∙ k.ensures
+returns c = let k = c.store_anchor in ap anchor_in (part_back 224 c.args.active.now k.new.numbers (omega arith)) ∙ k.ensures

@@ -1,5 +1,5 @@
 -- `classify_active::anchor::is_close` is the test: the steps are at most 5·2²¹, so that K times them and the clearance stay below 2⁶³. Assumes nothing.
-use Prim.Native.Nat.{◌+◌, ◌*◌, ◌^◌, ◌≤◌}
+use Prim.Native.Nat.{ℕ, ◌+◌, ◌*◌, ◌^◌, ◌≤◌}
 use native.Mathlib.Omega.{arith}
 use mathlib.Core.Path.{◌≡◌, refl, ◌∙◌}
 use borrow.Author.Tests.{not-true, not-false}
@@ -9,58 +9,55 @@ use Rattle.algebra.proofs.Sized.{held, nat, upto_held, is_add, fits_add, same_le
 use Rattle.algebra.proofs.Tests.{and_then}
 use Rattle.vector.specs.Numbers.{Kℕ}
 use Rattle.classify_active.specs.Anchor.{steps_to, close_to}
-use Rattle.classify_cap.proofs.CapLaws.{Beside, cap_small, cap_beside}
+use Rattle.classify_cap.proofs.CapLaws.{cap_small, cap_beside}
 use Rattle.classify_halfspace.proofs.FarLaws.{cap_clearance}
 use Rattle.classify_active.proofs.anchor.is_close.Goals as goal
-
-cap : (c : goal.Else-not-m) → Beside c.args.m.b c.args.m.reach c.args.m.rest
-cap c = cap_beside c.requires.bounding_cap (not-false _ c.if-not-m.false)
+use Rattle.classify_active.proofs.anchor.is_close.Goals.{After-step}
 
 -- the steps
-of_reach : (c : goal.After-step) → c.step.result ≡ nat_abs (c.args.m.reach -ℤ c.args.r.reach)
-of_reach c = c.step.ensures.value ∙ (λ i. nat_abs ((held (cap c.before.before.before.before.before.before).size tt).eq i -ℤ (held c.requires.anchor.reach tt).eq i))
+of_reach : (c : After-step) → c.step.result ≡ nat_abs (c.args.m.reach -ℤ c.args.r.reach)
+of_reach c =
+    let m = (cap_beside c.requires.bounding_cap (not-false _ c.if-not-m.false)).size in
+    c.step.ensures.value ∙ (λ i. nat_abs ((held m tt).eq i -ℤ (held c.requires.anchor.reach tt).eq i))
 
-total : (c : goal.After-step) → c.steps.result + 2 * c.step.result ≡ steps_to c.args.r c.args.m
+total : (c : After-step) → c.steps.result + 2 * c.step.result ≡ steps_to c.args.r c.args.m
 total c i = c.steps.ensures.value i + 2 * of_reach c i
 
-most : (c : goal.After-step) → 1048576 * (c.steps.result + 2 * c.step.result) ≤ 2 ^ 44
-most c = omega (arith, c.steps.ensures.upper_bound, c.step.ensures.upper_bound)
+most : (n k : ℕ) → n ≤ 3 * 2 ^ 21 → k ≤ 2 ^ 21 → 1048576 * (n + 2 * k) ≤ 2 ^ 44
+most n k h l = omega arith
 
 pub returns-then-not-m : goal.returns-then-not-m
 unfolding close_to
 returns-then-not-m c = rw (not-true c.args.m.ahead c.if-not-m.true) refl
 
 pub steps-requires : goal.steps-requires
-steps-requires c = let s = c in (cap_small s.requires.bounding_cap, s.requires.anchor.b)
+steps-requires c = (cap_small c.requires.bounding_cap, c.requires.anchor.b)
 
 pub step-requires : goal.step-requires
-step-requires c = let e = c.before.before.before.before.before in (upto_held (cap e).size tt, upto_held e.requires.anchor.reach tt)
+step-requires c = (upto_held (cap_beside c.requires.bounding_cap (not-false _ c.if-not-m.false)).size tt, upto_held c.requires.anchor.reach tt)
 
 pub overflow_mul-n : goal.overflow_mul-n
 overflow_mul-n c = record { fits = omega (arith, c.step.ensures.upper_bound) }
 
 pub overflow_add-n : goal.overflow_add-n
-overflow_add-n c = record { fits = omega (arith, most c) }
+overflow_add-n c = record { fits = omega (arith, most _ _ c.steps.ensures.upper_bound c.step.ensures.upper_bound) }
 
 pub overflow_mul-result : goal.overflow_mul-result
-overflow_mul-result c = record { fits = omega (arith, most c) }
+overflow_mul-result c = record { fits = omega (arith, most _ _ c.steps.ensures.upper_bound c.step.ensures.upper_bound) }
 
 pub overflow_cast-result : goal.overflow_cast-result
-overflow_cast-result c = record { sfits = omega (arith, most c) }
+overflow_cast-result c = record { sfits = omega (arith, most _ _ c.steps.ensures.upper_bound c.step.ensures.upper_bound) }
 
 pub overflow_add-result : goal.overflow_add-result
 overflow_add-result c =
-    let d = c.before.before in
-    let e = d in
-    fits_add (held (cap_clearance e.requires.bounding_cap (not-false _ e.if-not-m.left)) tt) (nat (most d) tt) tt
+    let n = most _ _ c.steps.ensures.upper_bound c.step.ensures.upper_bound in
+    fits_add (held (cap_clearance c.requires.bounding_cap (not-false _ c.if-not-m.false)) tt) (nat n tt) tt
 
 pub returns : goal.returns
 unfolding close_to
 returns c =
-    let d = c.before.before.before.before in
-    let e = d.before.before.before.before.before.before in
-    let s = e in
-    let a = not-false _ e.if-not-m.left in
-    same_le (is_add (held (cap_clearance s.requires.bounding_cap a) tt) (nat (most d) tt) tt) (held s.requires.anchor.margin tt)
-    ∙ (λ i. le_z (s.args.m.clearance +ℤ pos (Kℕ * total d i)) s.args.r.margin)
+    let a = not-false _ c.if-not-m.false in
+    let n = most _ _ c.steps.ensures.upper_bound c.step.ensures.upper_bound in
+    same_le (is_add (held (cap_clearance c.requires.bounding_cap a) tt) (nat n tt) tt) (held c.requires.anchor.margin tt)
+    ∙ (λ i. le_z (c.args.m.clearance +ℤ pos (Kℕ * total (goal.at.returns c).After-step i)) c.args.r.margin)
     ∙ and_then _ a

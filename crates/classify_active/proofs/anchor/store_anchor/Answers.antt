@@ -4,7 +4,6 @@ use borrow.Author.Rules.{rules}
 use lib.ListN.{set}
 use mir.Syntax.{w64}
 use mir.Val.{to_z, of_z}
-use Rattle.algebra.proofs.Sized.{stored_same}
 use Rattle.algebra.proofs.Cells.{all_cells}
 use Rattle.answer.specs.Lent.{put}
 use Rattle.vector.specs.Vectors.{three}
@@ -13,11 +12,10 @@ use Rattle.classify_active.proofs.anchor.store_anchor.Goals as goal
 
 pub returns : goal.returns
 returns c =
-    let s = c in
-    let r = s.args.r in
-    let ps = s.args.numbers.now in
-    let e = stored_same r.reach c.struct_told-1.given.1.0.1 in
-    let m = stored_same r.margin c.struct_told-2-1.given.1.1.0.1 in
-    let l : set (set c.store.new.0 3 (to_z w64 (of_z w64 r.reach))) 4 (to_z w64 (of_z w64 r.margin)) ≡ set (set (put 0 (three r.b-1) ps) 3 r.reach) 4 r.margin =
+    let r = c.args.r in
+    let ps = c.args.numbers.now in
+    let e : to_z w64 (of_z w64 r.reach) ≡ r.reach = search rules in
+    let m : to_z w64 (of_z w64 r.margin) ≡ r.margin = search rules in
+    let l : set (set c.store.new.xs 3 (to_z w64 (of_z w64 r.reach))) 4 (to_z w64 (of_z w64 r.margin)) ≡ set (set (put 0 (three r.b) ps) 3 r.reach) 4 r.margin =
     λ i. set (set (c.store.ensures i) 3 (e i)) 4 (m i) in
-    ap anchor_in l ∙ all_cells 5 (λ ps. anchor_in (set (set (put 0 (three r.b-1) ps) 3 r.reach) 4 r.margin) ≡ r) (λ a b c d e. refl) ps (search rules)
+    ap anchor_in l ∙ all_cells 5 (λ ps. anchor_in (set (set (put 0 (three r.b) ps) 3 r.reach) 4 r.margin) ≡ r) (λ a b c d e. refl) ps (search rules)
