@@ -1,4 +1,3 @@
-use Prim.Native.Nat.{◌-◌}
 use mathlib.Core.Path.{refl, sym, ◌∙◌}
 use native.Mathlib.Omega.{arith}
 use Rattle.frames_walk.proofs.RangeLaws.{ahead_on, ahead_stops, ahead_ends}
@@ -9,18 +8,15 @@ loop-place-init c = (omega arith, refl)
 
 pub returns-then-id-list : goal.returns-then-id-list
 returns-then-id-list c =
-    let l = c in
-    let v = l.args in
-    (sym (ahead_stops v.id v.list.now v.n l.loop-place.place (omega arith) (omega arith)) ∙ l.loop-place.invariant.1, omega arith)
+    let v = c.args in
+    (sym (ahead_stops v.id v.list.now v.n c.loop-place.place (omega arith) (omega arith)) ∙ c.loop-place.invariant.1, omega arith)
 
 pub loop-place-preserved : goal.loop-place-preserved
 loop-place-preserved c =
-    let l = c in
-    let v = l.args in
-    (omega arith, sym (ahead_on v.id v.list.now v.n l.loop-place.place (omega arith) (omega arith)) ∙ l.loop-place.invariant.1)
+    let v = c.args in
+    (omega arith, sym (ahead_on v.id v.list.now v.n c.loop-place.place (omega arith) (omega arith)) ∙ c.loop-place.invariant.1)
 
 pub returns : goal.returns
 returns c =
-    let l = c in
-    let v = l.args in
-    (sym (ahead_ends v.id v.list.now v.n l.loop-place.place (omega arith)) ∙ l.loop-place.invariant.1, omega arith)
+    let v = c.args in
+    (sym (ahead_ends v.id v.list.now v.n c.loop-place.place (omega arith)) ∙ c.loop-place.invariant.1, omega arith)

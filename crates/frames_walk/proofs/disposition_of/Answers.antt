@@ -21,23 +21,18 @@ returns-then-not-outer c = rw (c.if-inner.false, c.if-not-outer.true)
 
 pub returns-then-not-is_vector : goal.returns-then-not-is_vector
 returns-then-not-is_vector c =
-    let o = c.before.before in
-    rw (o.if-inner.false, outer o, sym c.is_vector.ensures ∙ c.if-not-is_vector.true)
+    rw (c.if-inner.false, outer (goal.at.returns-then-not-is_vector c).Else-not-outer, sym c.is_vector.ensures ∙ c.if-not-is_vector.true)
 
 pub array_holds-requires : goal.array_holds-requires
 array_holds-requires c = record {
   count_bound = c.requires;
-  small = vector_small c.args.p (vector c);
+  small = vector_small c.args.p (vector (goal.at.array_holds-requires c).Else-not-is_vector);
 }
 
 pub returns-then-array_holds : goal.returns-then-array_holds
 returns-then-array_holds c =
-    let v = c.before.before in
-    let o = v.before.before in
-    rw (o.if-inner.false, outer o, vector v, sym c.array_holds.ensures ∙ c.if-array_holds.true)
+    rw (c.if-inner.false, outer (goal.at.returns-then-array_holds c).Else-not-outer, vector (goal.at.returns-then-array_holds c).Else-not-is_vector, sym c.array_holds.ensures ∙ c.if-array_holds.true)
 
 pub returns-else-array_holds : goal.returns-else-array_holds
 returns-else-array_holds c =
-    let v = c.before.before in
-    let o = v.before.before in
-    rw (o.if-inner.false, outer o, vector v, sym c.array_holds.ensures ∙ c.if-array_holds.false)
+    rw (c.if-inner.false, outer (goal.at.returns-else-array_holds c).Else-not-outer, vector (goal.at.returns-else-array_holds c).Else-not-is_vector, sym c.array_holds.ensures ∙ c.if-array_holds.false)

@@ -20,32 +20,25 @@ count_disposition-requires c = omega (arith, c.requires.lent.1.dispositions, c.r
 -- the states after the calls, the last one first: deliver, disposition_of, begins and ahead, each of the outer ranges (o) and of the inner ones (n), shortened
 pub returns : goal.returns
 returns c =
-    let d = c.before.before.before.before in
-    let f = d.before.before.before.before in
-    let o = f.before in
-    let n = o.before in
-    let n₁ = n.before.before in
-    let o₁ = n₁.before.before in
-    let s = o₁ in
     let p = c.requires in
     let v = c.args in
-    let id = s.shortened-id.result in
+    let id = c.shortened-id.result in
     let t = tail v.lists.from v.ranges.now in
-    let b : WalkState = record { visited = v.at.visited + 1; outer = o₁.ahead-outer.result; inner = n₁.ahead-inner.result; dispositions = c.count_disposition.result } in
-    let turn : Turn v.lists v.ranges.now v.rows.now v.count v.e v.at v.numbers.now b d.deliver.new.numbers id n.begins.result o.begins-2.result f.disposition_of-disposition.result =
+    let b : WalkState = record { visited = v.at.visited + 1; outer = c.ahead-outer.result; inner = c.ahead-inner.result; dispositions = c.count_disposition.result } in
+    let turn : Turn v.lists v.ranges.now v.rows.now v.count v.e v.at v.numbers.now b c.deliver.new.numbers id c.begins.result c.begins-2.result c.disposition_of-disposition.result =
     record {
-      id = s.shortened-id.ensures;
-      outer = o₁.ahead-outer.ensures.0;
-      inner = subst (λ xs. drop b.inner (ranges_in v.lists.inner xs) ≡ ahead id (drop v.at.inner (ranges_in v.lists.inner xs))) t n₁.ahead-inner.ensures.0;
-      in_inner = subst (λ xs. n.begins.result ≡ begins id (drop b.inner (ranges_in v.lists.inner xs))) t n.begins.ensures;
-      in_outer = o.begins-2.ensures;
-      disposition = f.disposition_of-disposition.ensures;
+      id = c.shortened-id.ensures;
+      outer = c.ahead-outer.ensures.0;
+      inner = subst (λ xs. drop b.inner (ranges_in v.lists.inner xs) ≡ ahead id (drop v.at.inner (ranges_in v.lists.inner xs))) t c.ahead-inner.ensures.0;
+      in_inner = subst (λ xs. c.begins.result ≡ begins id (drop b.inner (ranges_in v.lists.inner xs))) t c.begins.ensures;
+      in_outer = c.begins-2.ensures;
+      disposition = c.disposition_of-disposition.ensures;
       visited = refl;
       dispositions = c.count_disposition.ensures;
-      numbers = d.deliver.ensures;
+      numbers = c.deliver.ensures;
     } in
     let few = subst (λ t. t.unchecked + t.held + t.discarded ≤ v.at.visited + 1) (sym c.count_disposition.ensures)
-    (omega (arith, with_disposition_most v.at.dispositions f.disposition_of-disposition.result, p.lent.1.dispositions)) in record {
-      visits_entry = turned v.lists v.ranges.now v.rows.now v.count v.e v.at v.numbers.now b d.deliver.new.numbers id n.begins.result o.begins-2.result f.disposition_of-disposition.result turn;
-      fits = (record { outer = o₁.ahead-outer.ensures.1; inner = n₁.ahead-inner.ensures.1; dispositions = few; visited = omega (arith, p.lent.2) }, refl, d.deliver.auto.numbers);
+    (omega (arith, with_disposition_most v.at.dispositions c.disposition_of-disposition.result, p.lent.1.dispositions)) in record {
+      visits_entry = turned v.lists v.ranges.now v.rows.now v.count v.e v.at v.numbers.now b c.deliver.new.numbers id c.begins.result c.begins-2.result c.disposition_of-disposition.result turn;
+      fits = (record { outer = c.ahead-outer.ensures.1; inner = c.ahead-inner.ensures.1; dispositions = few; visited = omega (arith, p.lent.2) }, refl, c.deliver.auto.numbers);
     }

@@ -1,4 +1,3 @@
-use Prim.Native.Nat.{◌-◌}
 use mathlib.Core.Path.{refl, ◌∙◌}
 use native.Mathlib.Omega.{arith}
 use Rattle.frames_walk.proofs.WalkLaws.{past_none, past_next, past_all}
@@ -14,23 +13,19 @@ loop-i-init c =
     )
 
 pub visit_if_owned-at-requires : goal.visit_if_owned-at-requires
-visit_if_owned-at-requires c = let l = c.before.before.before in let s = l in record {
-  lent = (s.requires.in_bounds.1, l.loop-i.invariant.1, omega (arith, s.requires.in_bounds.2, l.loop-i.invariant.2));
-  count_bound = s.requires.count_bound;
+visit_if_owned-at-requires c = record {
+  lent = (c.requires.in_bounds.1, c.loop-i.invariant.1, omega (arith, c.requires.in_bounds.2, c.loop-i.invariant.2));
+  count_bound = c.requires.count_bound;
 }
 
 pub loop-i-preserved : goal.loop-i-preserved
 loop-i-preserved c =
-    let p = c.before.before in
-    let e = p.before.before in
-    let l = e.before.before in
-    let n = l in
-    let v = n.args in (
+    let v = c.args in (
       omega arith,
-      p.visit_if_owned-at.ensures.fits.0,
-      p.visit_if_owned-at.ensures.fits.1 ∙ l.loop-i.invariant.2,
-      past_next v.owner v.index.now v.lists v.ranges.now v.rows.now v.count v.numbers.now l.loop-i.i e.entry_at.result l.loop-i.at p.visit_if_owned-at.result l.loop-i.numbers _
-          (omega (arith, n.count_in-n.ensures.0)) e.entry_at.ensures p.visit_if_owned-at.ensures.visits_if_owned l.loop-i.invariant.3,
+      c.visit_if_owned-at.ensures.fits.0,
+      c.visit_if_owned-at.ensures.fits.1 ∙ c.loop-i.invariant.2,
+      past_next v.owner v.index.now v.lists v.ranges.now v.rows.now v.count v.numbers.now c.loop-i.i c.entry_at.result c.loop-i.at c.visit_if_owned-at.result c.loop-i.numbers _
+          (omega (arith, c.count_in-n.ensures.0)) c.entry_at.ensures c.visit_if_owned-at.ensures.visits_if_owned c.loop-i.invariant.3,
     )
 
 pub shape_of-numbers : goal.shape_of-numbers
@@ -38,7 +33,5 @@ shape_of-numbers c = c.loop-i.invariant.2
 
 pub returns : goal.returns
 returns c =
-    let l = c.before.before in
-    let n = l in
-    let v = n.args in
-    past_all v.owner v.index.now v.lists v.ranges.now v.rows.now v.count v.numbers.now l.loop-i.i l.loop-i.at l.loop-i.numbers (omega (arith, n.count_in-n.ensures.0)) l.loop-i.invariant.3
+    let v = c.args in
+    past_all v.owner v.index.now v.lists v.ranges.now v.rows.now v.count v.numbers.now c.loop-i.i c.loop-i.at c.loop-i.numbers (omega (arith, c.count_in-n.ensures.0)) c.loop-i.invariant.3

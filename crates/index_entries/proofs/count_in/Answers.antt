@@ -8,10 +8,10 @@ use Rattle.index_entries.proofs.NumberLaws.{CountCast, none_below, count_cast}
 use Rattle.index_entries.proofs.count_in.Goals as goal
 
 read : (c : goal.Else-n-lt0) → CountCast (to_z w64 (of_z w64 (get_or c.args.index.now 0 (pos 0)))) (get_or c.args.index.now 0 (pos 0))
-read c = count_cast (get_or c.args.index.now 0 (pos 0)) c.n-1.given c.if-n-lt0.false
+read c = count_cast (get_or c.args.index.now 0 (pos 0)) (omega arith) c.if-n-lt0.false
 
 pub returns-then-n-lt0 : goal.returns-then-n-lt0
-returns-then-n-lt0 c = (none_below (get_or c.args.index.now 0 (pos 0)) c.n-1.given c.if-n-lt0.true, omega arith)
+returns-then-n-lt0 c = (none_below (get_or c.args.index.now 0 (pos 0)) (omega arith) c.if-n-lt0.true, omega arith)
 
 pub overflow_cast-count : goal.overflow_cast-count
 overflow_cast-count c = ((read c).sign, (read c).fits)

@@ -12,9 +12,9 @@ use Rattle.index_entries.proofs.entry_at.Goals as goal
 pub returns : goal.returns
 returns c =
     let v = c.args in
-    let id = stored_same (get_or v.index.now v.k (pos 0)) c.result-1.given in
-    let number = stored_same (get_or v.index.now (v.k + 1) (pos 0)) c.result-2-1.given in
-    let owner = stored_same (get_or v.index.now (v.k + 2) (pos 0)) c.result-3-1.given in
+    let id = stored_same (get_or v.index.now v.k (pos 0)) (omega arith) in
+    let number = stored_same (get_or v.index.now (v.k + 1) (pos 0)) (omega arith) in
+    let owner = stored_same (get_or v.index.now (v.k + 2) (pos 0)) (omega arith) in
     let l = v.index.now in
     let e4 : v.k + 3 + 1 ≡ v.k + 4 = omega arith in
     let e5 : v.k + 3 + 2 ≡ v.k + 5 = omega arith in

@@ -15,16 +15,13 @@ overflow_cast-number c = record { sfits = omega arith }
 
 pub returns-then-e-number : goal.returns-then-e-number
 returns-then-e-number c =
-    let t = c.before in
-    let s = t in
-    let v = s.args in
-    let e : eq_z v.e.number (pos v.number) ≡ true = sym (same_bits v.e.number (pos v.number) s.struct_told-1.given.1.0.1 (omega arith)) ∙ eq-eqb _ _ t.if-e-number.true in
+    let v = c.args in
+    let e : eq_z v.e.number (pos v.number) ≡ true = sym (same_bits v.e.number (pos v.number) (omega arith) (omega arith)) ∙ eq-eqb _ _ c.if-e-number.true in
     c.is_owned.ensures ∙ and_then (is_owned v.owner v.e) e
 
 pub returns-else-e-number : goal.returns-else-e-number
 returns-else-e-number c =
-    let s = c in
-    let v = s.args in
-    let bits = same_bits v.e.number (pos v.number) s.struct_told-1.given.1.0.1 (omega arith) in
+    let v = c.args in
+    let bits = same_bits v.e.number (pos v.number) (omega arith) (omega arith) in
     let e : eq_z v.e.number (pos v.number) ≡ false = sym bits ∙ ne_eqb _ _ c.if-e-number.false in
     bits ∙ and_else (is_owned v.owner v.e) e

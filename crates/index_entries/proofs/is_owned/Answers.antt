@@ -8,4 +8,4 @@ pub overflow_cast-result : goal.overflow_cast-result
 overflow_cast-result c = record { sfits = omega arith }
 
 pub returns : goal.returns
-returns c = let s = c in same_bits s.args.e.owner (pos s.args.owner) c.struct_told-1.given.1.1.0.1 (omega arith)
+returns c = same_bits c.args.e.owner (pos c.args.owner) (omega arith) (omega arith)

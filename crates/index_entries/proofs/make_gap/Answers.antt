@@ -32,31 +32,28 @@ shape_of-index-then-not-precedes c = c.loop-i.invariant.2
 
 pub returns-then-not-precedes : goal.returns-then-not-precedes
 returns-then-not-precedes c =
-    let l = c in
-    let v = l.args in
-    let no : (j : ℕ) → l.loop-i.i ≡ suc j → precedes v.e (entry_at v.index.now (1 + Width * j)) ≡ false =
+    let v = c.args in
+    let no : (j : ℕ) → c.loop-i.i ≡ suc j → precedes v.e (entry_at v.index.now (1 + Width * j)) ≡ false =
     λ j p.
-    (let e : j ≡ l.loop-i.i - 1 = omega arith in ap (λ k. precedes v.e (entry_at v.index.now (1 + Width * k))) e)
-    ∙ tested c.before ∙ c.if-not-precedes.true in
+    (let e : j ≡ c.loop-i.i - 1 = omega arith in ap (λ k. precedes v.e (entry_at v.index.now (1 + Width * k))) e)
+    ∙ tested (goal.at.returns-then-not-precedes c).After-precedes ∙ c.if-not-precedes.true in
     record {
-      value = (stay_ends (precedes v.e) v.n v.index.now 1 l.loop-i.i (omega arith) l.loop-i.invariant.3 no, omega arith);
-      index_after = l.loop-i.invariant.1;
+      value = (stay_ends (precedes v.e) v.n v.index.now 1 c.loop-i.i (omega arith) c.loop-i.invariant.3 no, omega arith);
+      index_after = c.loop-i.invariant.1;
     }
 
 pub loop-i-preserved : goal.loop-i-preserved
 loop-i-preserved c =
-    let l = c in
-    let v = l.args in
-    let p = c.before.before.before.before in
-    let yes = tested p ∙ c.if-not-precedes.false in (
+    let v = c.args in
+    let yes = tested (goal.at.loop-i-preserved c).After-precedes ∙ c.if-not-precedes.false in (
       omega arith,
       c.store_entry.ensures
-          ∙ ap (λ x. put (1 + Width * l.loop-i.i) (numbers x) l.loop-i.index) (unmoved p.before)
-          ∙ raised_step v.n l.loop-i.i v.index.now l.loop-i.index l.loop-i.invariant.1 (omega arith) (omega arith) (omega arith),
-      c.store_entry.auto.index ∙ l.loop-i.invariant.2,
-      λ j a b. split (eqb j (l.loop-i.i - 1))
-          (λ t. ap (λ k. precedes v.e (entry_at v.index.now (1 + Width * k))) (eqb-true j (l.loop-i.i - 1) t) ∙ yes)
-          (λ t. l.loop-i.invariant.3 j (omega (arith, eqb-false j (l.loop-i.i - 1) t)) b),
+          ∙ ap (λ x. put (1 + Width * c.loop-i.i) (numbers x) c.loop-i.index) (unmoved (goal.at.loop-i-preserved c).After-entry_at-x)
+          ∙ raised_step v.n c.loop-i.i v.index.now c.loop-i.index c.loop-i.invariant.1 (omega arith) (omega arith) (omega arith),
+      c.store_entry.auto.index ∙ c.loop-i.invariant.2,
+      λ j a b. split (eqb j (c.loop-i.i - 1))
+          (λ t. ap (λ k. precedes v.e (entry_at v.index.now (1 + Width * k))) (eqb-true j (c.loop-i.i - 1) t) ∙ yes)
+          (λ t. c.loop-i.invariant.3 j (omega (arith, eqb-false j (c.loop-i.i - 1) t)) b),
     )
 
 pub shape_of-index : goal.shape_of-index
@@ -64,9 +61,8 @@ shape_of-index c = c.loop-i.invariant.2
 
 pub returns : goal.returns
 returns c =
-    let l = c in
-    let v = l.args in
+    let v = c.args in
     record {
-      value = (stay_ends (precedes v.e) v.n v.index.now 1 l.loop-i.i (omega arith) l.loop-i.invariant.3 (λ j p. absurd (omega arith)), omega arith);
-      index_after = l.loop-i.invariant.1;
+      value = (stay_ends (precedes v.e) v.n v.index.now 1 c.loop-i.i (omega arith) c.loop-i.invariant.3 (λ j p. absurd (omega arith)), omega arith);
+      index_after = c.loop-i.invariant.1;
     }

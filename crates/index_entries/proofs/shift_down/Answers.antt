@@ -12,8 +12,7 @@ loop-k-init c = (omega arith, shifted_down_start _ _ _, refl)
 pub loop-k-preserved : goal.loop-k-preserved
 loop-k-preserved c =
     let b = c.loop-k in
-    let s = c in
-    (omega arith, ap (set b.index (s.args.at + b.k)) (stored_same _ c.index-1.given) ∙ shifted_down_step _ _ _ _ _ (omega arith) _ b.invariant.1, simp length-set b.invariant.2)
+    (omega arith, ap (set b.index (c.args.at + b.k)) (stored_same _ (omega arith)) ∙ shifted_down_step _ _ _ _ _ (omega arith) _ b.invariant.1, simp length-set b.invariant.2)
 
 pub shape_of-index : goal.shape_of-index
 shape_of-index c = c.loop-k.invariant.2

@@ -23,14 +23,12 @@ shape_of-index c = c.store.auto.xs ∙ simp length-set
 
 pub returns : goal.returns
 returns c =
-    let p = c.before.before.before in
-    let s = p in
-    let v = s.args in
+    let v = c.args in
     let k = v.k in
     let e = v.e in
-    let id = stored_same e.id p.struct_told-1.given.0.1 in
-    let number = stored_same e.number p.struct_told-2-1.given.1.0.1 in
-    let owner = stored_same e.owner p.struct_told-3-1.given.1.1.0.1 in
+    let id = stored_same e.id (omega arith) in
+    let number = stored_same e.number (omega arith) in
+    let owner = stored_same e.owner (omega arith) in
     let front = e.id ∷ e.number ∷ e.owner ∷ [] in
     let first = (λ i. set (set (set v.index.now k (id i)) (k + 1) (number i)) (k + 2) (owner i)) ∙ stored_put k front v.index.now (omega arith) in
     put_next k front (three e.pointing) v.index.now first c.store.ensures refl (omega arith)
