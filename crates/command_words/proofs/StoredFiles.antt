@@ -1,7 +1,7 @@
 -- What is stored of a file stands for the whole file. It is the file itself as long as that has at most FileDigits bytes, and a command reads as
 -- many bytes of it as of the whole, or no file (`read_the_same`). Of a longer file at least FileDigits bytes are stored, all digits where all of
 -- the file are, and an even number of digits was dropped. Assumes nothing.
-use Prim.Native.Nat.{ℕ, ◌+◌, ◌-◌, ◌*◌, ◌/◌, ◌≤◌, ◌<◌}
+use Prim.Native.Nat.{ℕ, ◌+◌, ◌*◌, ◌/◌, ◌≤◌, ◌<◌}
 use native.Mathlib.Omega.{arith}
 use mathlib.Core.Path.{◌≡◌, refl, sym, ap, subst, ◌∙◌}
 use mathlib.Core.Bool.{Bool, true, false, ◌&&◌, true≢false}

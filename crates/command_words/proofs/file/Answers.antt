@@ -1,7 +1,5 @@
 -- The word is not `-`. Two digits of a pair are digits where they have a value, and after the loop all of the word are read.
-use Rattle.std.proofs.Common.{◌≡◌, ◌*◌, ◌∷◌, [], List, ℕ, Bool, true, false, sym, ◌∙◌, arith}
-use Rattle.algebra.specs.Lists.{every}
-use Rattle.command_words.specs.Files.{is_hex}
+use Rattle.std.proofs.Common.{◌*◌, sym, ◌∙◌, arith}
 use Rattle.command_words.proofs.FileLaws.{some_bytes, no_digits, all_bytes, first_bytes, pair_good, pair_bad, all_read}
 use Rattle.command_words.proofs.file.Goals as goal
 
