@@ -1,6 +1,6 @@
 -- Far without E. Where D and f·f − D² have no sign, f is far from a number on: with d = n − m the difference of the two sides grows from m to n by
 -- D d (2(D m − c) + D d) + p d (d + 2m). So f is far at E where the least number at which it is far is reached, and not where it is not. Assumes nothing.
-use Prim.Native.Nat.{ℕ, ◌+◌, ◌*◌, ◌/◌, ◌≤◌, ◌<◌}
+use Prim.Native.Nat.{ℕ, ◌+◌, ◌*◌, ◌/◌, ◌≤◌}
 use native.Mathlib.Omega.{arith}
 use mathlib.Core.Path.{◌≡◌, refl, sym, subst, ◌∙◌}
 use mathlib.Core.Bool.{Bool, true, false, true≢false, ◌&&◌}

@@ -1,6 +1,6 @@
 -- The scan of convexes and their halfspaces, step by step: what is left to be scanned and the class found so far together give the region's class.
 -- The class of a convex is the meet of its halfspaces' classes, that of a region the join of its convexes'. Assumes nothing.
-use Prim.Native.Nat.{ℕ, zero, suc, ◌+◌, ◌*◌, ◌≤◌, ◌<◌}
+use Prim.Native.Nat.{ℕ, suc, ◌+◌, ◌*◌, ◌≤◌, ◌<◌}
 use native.Mathlib.Nat.{le_refl}
 use native.Mathlib.Omega.{arith}
 use mathlib.Core.Path.{◌≡◌, refl, sym, ap, ◌∙◌}
@@ -16,7 +16,7 @@ use Rattle.mesh.specs.declared.Trixel.{Trixel}
 use Rattle.region.specs.declared.Halfspace.{Halfspace}
 use Rattle.region.specs.Regions.{Convex, Region}
 use Rattle.region.specs.Building.{total, is_offset}
-use Rattle.region.proofs.GoodRegions.{good_halfspace, good}
+use Rattle.region.proofs.GoodRegions.{good_halfspace}
 use Rattle.region.proofs.FilledLaws.{Filled}
 use Rattle.classify.specs.declared.Class.{Class}
 use Rattle.classify.specs.declared.Class.TheVariants.{Outside, Partial, Full}

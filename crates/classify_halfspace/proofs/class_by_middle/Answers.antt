@@ -7,24 +7,21 @@ use Rattle.classify_halfspace.proofs.ClassLaws.{apart_far, apart_near}
 use Rattle.classify_halfspace.proofs.class_by_middle.Goals as goal
 
 pub far_from-apart-requires : goal.far_from-apart-requires
-far_from-apart-requires c = let p = c.requires.rays_of in record {
-  small_trixel = (p.1.0.small, p.0);
-  sound_halfspace = p.1.1;
+far_from-apart-requires c = record {
+  small_trixel = (c.requires.normals_in.small, c.requires.rays_of);
+  sound_halfspace = c.requires.sound_halfspace;
 }
 
 pub class_by_edges-requires : goal.class_by_edges-requires
-class_by_edges-requires c = let both = c.requires.rays_of.1 in record {
-  normals_in = both.0;
-  sound_halfspace = both.1;
+class_by_edges-requires c = record {
+  normals_in = c.requires.normals_in;
+  sound_halfspace = c.requires.sound_halfspace;
 }
 
 pub returns-then-apart : goal.returns-then-apart
 returns-then-apart c =
-    let s = c in
-    c.class_apart.ensures ∙ ap class_apart (held (sound_offset s.requires.rays_of.1.1) tt).eq
-    ∙ sym (apart_far s.args.q s.args.t s.requires.t_value (sym c.far_from-apart.ensures ∙ c.if-apart.true))
+    c.class_apart.ensures ∙ ap class_apart (held (sound_offset c.requires.sound_halfspace) tt).eq
+    ∙ sym (apart_far c.args.q c.args.t c.requires.t_value (sym c.far_from-apart.ensures ∙ c.if-apart.true))
 
 pub returns-else-apart : goal.returns-else-apart
-returns-else-apart c =
-    let s = c in
-    c.class_by_edges.ensures ∙ sym (apart_near s.args.q s.args.t (sym c.far_from-apart.ensures ∙ c.if-apart.false))
+returns-else-apart c = c.class_by_edges.ensures ∙ sym (apart_near c.args.q c.args.t (sym c.far_from-apart.ensures ∙ c.if-apart.false))

@@ -7,14 +7,12 @@ use Rattle.index.specs.Answers.{add_answer, add_after}
 use Rattle.htm.proofs.add.Goals as goal
 
 pub shape_of-index : goal.shape_of-index
-shape_of-index c = c.add.auto.0
+shape_of-index c = c.add.auto.index
 
 pub returns : goal.returns
 returns c =
-    let p = c.before.before in
-    let s = p in
-    let v = p.pointing.ensures ∙ (λ i. vec (to_z-of_z s.ranges.x i) (to_z-of_z s.ranges.y i) (to_z-of_z s.ranges.z i)) in
+    let v = c.pointing.ensures ∙ (λ i. vec (to_z-of_z c.ranges.x i) (to_z-of_z c.ranges.y i) (to_z-of_z c.ranges.z i)) in
     let a = c.add.ensures in record {
-      result_value = a.result_value ∙ ap (λ q. add_answer (exposed s.args.owner s.args.number q) s.args.index.now) v;
-      index_after = a.index_after ∙ ap (λ q. add_after (exposed s.args.owner s.args.number q) s.args.index.now) v;
+      result_value = a.result_value ∙ ap (λ q. add_answer (exposed c.args.owner c.args.number q) c.args.index.now) v;
+      index_after = a.index_after ∙ ap (λ q. add_after (exposed c.args.owner c.args.number q) c.args.index.now) v;
     }

@@ -7,6 +7,5 @@ use Rattle.htm.proofs.holds.Goals as goal
 
 pub returns : goal.returns
 returns c =
-    let s = c in
-    let p = c.pointing.ensures ∙ (λ i. vec (to_z-of_z s.ranges.x i) (to_z-of_z s.ranges.y i) (to_z-of_z s.ranges.z i)) in
-    c.point_test.ensures ∙ ap (point_test s.args.file.now) p
+    let p = c.pointing.ensures ∙ (λ i. vec (to_z-of_z c.ranges.x i) (to_z-of_z c.ranges.y i) (to_z-of_z c.ranges.z i)) in
+    c.point_test.ensures ∙ ap (point_test c.args.file.now) p

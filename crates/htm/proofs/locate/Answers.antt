@@ -7,6 +7,5 @@ use Rattle.htm.proofs.locate.Goals as goal
 
 pub returns : goal.returns
 returns c =
-    let s = c in
-    let p = c.pointing.ensures ∙ (λ i. vec (to_z-of_z s.ranges.x i) (to_z-of_z s.ranges.y i) (to_z-of_z s.ranges.z i)) in
-    c.lookup.ensures ∙ ap (λ p. lookup p s.args.depth) p
+    let p = c.pointing.ensures ∙ (λ i. vec (to_z-of_z c.ranges.x i) (to_z-of_z c.ranges.y i) (to_z-of_z c.ranges.z i)) in
+    c.lookup.ensures ∙ ap (λ p. lookup p c.args.depth) p

@@ -3,15 +3,13 @@
 use Prim.Native.Nat.{◌-◌, ◌≤◌, ◌<◌}
 use mathlib.Core.Path.{◌≡◌}
 use mathlib.Core.Bool.{true}
-use mir.Syntax.{w64}
-use mir.Val.{to_z}
 use Rattle.vector.specs.Numbers.{Kℕ}
 use Rattle.classify_halfspace.specs.LeastFar.{far_by}
 use Rattle.classify_halfspace.proofs.least.far_down.Given as goal
 
 abbrev pub invariant-loop-step : goal.invariant-loop-step
 invariant-loop-step l =
-    (0 < l.step) × (0 < l.high) × (l.high ≤ Kℕ) × (Kℕ - l.step < l.high) × (far_by l.q.low l.q.rest (to_z w64 l.c) (to_z w64 l.b) l.high ≡ true)
+    (0 < l.step) × (0 < l.high) × (l.high ≤ Kℕ) × (Kℕ - l.step < l.high) × (far_by l.q.low l.q.rest l.c l.b l.high ≡ true)
 
 abbrev pub decreases-loop-step : goal.decreases-loop-step
 decreases-loop-step l = Kℕ - l.step

@@ -2,16 +2,14 @@
 use Prim.Native.Nat.{◌-◌, ◌≤◌, ◌<◌}
 use mathlib.Core.Path.{◌≡◌}
 use mathlib.Core.Bool.{true, false}
-use mir.Syntax.{w64}
-use mir.Val.{to_z}
 use Rattle.vector.specs.Numbers.{Kℕ}
 use Rattle.classify_halfspace.specs.LeastFar.{far_by}
 use Rattle.classify_halfspace.proofs.least.least_far.Given as goal
 
 abbrev pub invariant-loop-below : goal.invariant-loop-below
 invariant-loop-below l =
-    (l.below < l.n) × (l.n ≤ Kℕ) × (far_by l.q.low l.q.rest (to_z w64 l.c) (to_z w64 l.b) l.below ≡ false)
-    × (far_by l.q.low l.q.rest (to_z w64 l.c) (to_z w64 l.b) l.n ≡ true)
+    (l.below < l.n) × (l.n ≤ Kℕ) × (far_by l.q.low l.q.rest l.c l.b l.below ≡ false)
+    × (far_by l.q.low l.q.rest l.c l.b l.n ≡ true)
 
 abbrev pub decreases-loop-below : goal.decreases-loop-below
 decreases-loop-below l = l.n - l.below

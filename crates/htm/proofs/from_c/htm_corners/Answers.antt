@@ -7,36 +7,35 @@ use Rattle.mesh.specs.Identifiers.{corners}
 use Rattle.mesh.specs.Answers.{corners_given}
 use Rattle.htm.proofs.CLaws.{corners_small, no_corners, no_room, corners_put}
 use Rattle.htm.proofs.from_c.htm_corners.Goals as goal
+use Rattle.htm.proofs.from_c.htm_corners.Goals.{In-Gives}
 
 -- the corners that were found, by the rule
-found : (c : goal.In-Gives-2) → gives c.in-Gives.c ≡ corners c.args.id
+found : (c : In-Gives) → gives c.in-Gives.c ≡ corners c.args.id
 found c = sym (ap corners_given c.in-Gives.is) ∙ c.corners-answer.ensures
 
 pub returns-then-out-lt-CORNERS_LENGTH : goal.returns-then-out-lt-CORNERS_LENGTH
 returns-then-out-lt-CORNERS_LENGTH c =
-    let a = c.before.before.before in
-    let s = a.args in
+    let s = c.args in
     let m = c.minus.ensures in
-    let k = no_room s.id s.out-1.now _ (found a) (omega (arith, c.if-out-lt-CORNERS_LENGTH.true)) in
+    let k = no_room s.id s.out.now _ (found (goal.at.returns-then-out-lt-CORNERS_LENGTH c).In-Gives) (omega (arith, c.if-out-lt-CORNERS_LENGTH.true)) in
     record {
       value = (held m.1 tt).eq ∙ m.0 ∙ k.0;
       out_after = k.1;
     }
 
 pub put_corners-requires : goal.put_corners-requires
-put_corners-requires c = let a = c.before.before.before in record {
+put_corners-requires c = record {
   in_bounds = omega (arith, c.if-out-lt-CORNERS_LENGTH.false);
-  small_corners = corners_small a.args.id _ (found a);
+  small_corners = corners_small c.args.id _ (found (goal.at.put_corners-requires c).In-Gives);
 }
 
 pub shape_of-out : goal.shape_of-out
-shape_of-out c = c.put_corners.auto.0
+shape_of-out c = c.put_corners.auto.out
 
 pub returns-else-out-lt-CORNERS_LENGTH : goal.returns-else-out-lt-CORNERS_LENGTH
 returns-else-out-lt-CORNERS_LENGTH c =
-    let a = c.before.before.before.before.before in
-    let s = a.args in
-    let k = corners_put s.id s.out-1.now _ (found a) (omega (arith, c.if-out-lt-CORNERS_LENGTH.false)) in
+    let s = c.args in
+    let k = corners_put s.id s.out.now _ (found (goal.at.returns-else-out-lt-CORNERS_LENGTH c).In-Gives) (omega (arith, c.if-out-lt-CORNERS_LENGTH.false)) in
     record {
       value = k.0;
       out_after = c.put_corners.ensures ∙ k.1;
@@ -46,7 +45,7 @@ pub returns-in-Refused : goal.returns-in-Refused
 returns-in-Refused c =
     let s = c.args in
     let m = c.minus-in-Refused.ensures in
-    let k = no_corners s.id s.out-1.now _ (sym (ap corners_given c.in-Refused.is) ∙ c.corners-answer.ensures) in
+    let k = no_corners s.id s.out.now _ (sym (ap corners_given c.in-Refused.is) ∙ c.corners-answer.ensures) in
     record {
       value = (held m.1 tt).eq ∙ m.0 ∙ k.0;
       out_after = k.1;

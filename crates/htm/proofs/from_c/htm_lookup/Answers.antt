@@ -9,15 +9,15 @@ use Rattle.mesh.specs.Lookup as mesh
 use Rattle.htm_abi.specs.Values.{number_for_c}
 use Rattle.htm.proofs.LocatedLaws.{lookup_small}
 use Rattle.htm.proofs.from_c.htm_lookup.Goals as goal
+use Rattle.htm.proofs.from_c.htm_lookup.Goals.{After-locate}
 
 -- what the lookup answered, by the rule
-answered : (c : goal.After-locate) → let s = c.args in number_of c.locate.result ≡ mesh.lookup (vec s.x s.y s.z) s.depth
+answered : (c : After-locate) → let s = c.args in number_of c.locate.result ≡ mesh.lookup (vec s.x s.y s.z) s.depth
 answered c =
-    let s = c in
-    c.locate.ensures ∙ (λ i. mesh.lookup (vec (to_z-of_z s.ranges.x i) (to_z-of_z s.ranges.y i) (to_z-of_z s.ranges.z i)) s.args.depth)
+    c.locate.ensures ∙ (λ i. mesh.lookup (vec (to_z-of_z c.ranges.x i) (to_z-of_z c.ranges.y i) (to_z-of_z c.ranges.z i)) c.args.depth)
 
 pub number_or_minus-requires : goal.number_or_minus-requires
-number_or_minus-requires c n e = omega (arith, lookup_small _ _ n (sym (answered c) ∙ e))
+number_or_minus-requires c n e = omega (arith, lookup_small _ _ n (sym (answered (goal.at.number_or_minus-requires c).After-locate) ∙ e))
 
 pub returns : goal.returns
-returns c = let l = c.number_or_minus.ensures in (held l.1 tt).eq ∙ l.0 ∙ ap number_for_c (answered c.before)
+returns c = let l = c.number_or_minus.ensures in (held l.1 tt).eq ∙ l.0 ∙ ap number_for_c (answered (goal.at.returns c).After-locate)

@@ -10,7 +10,7 @@ pub number_or_minus-requires : goal.number_or_minus-requires
 number_or_minus-requires c n e = omega (arith, converted_short _ _ _ n (sym c.to_grouped.ensures.result_value ∙ e))
 
 pub shape_of-out : goal.shape_of-out
-shape_of-out c = c.to_grouped.auto.1.0
+shape_of-out c = c.to_grouped.auto.out
 
 pub returns : goal.returns
 returns c =

@@ -10,7 +10,7 @@ pub number_or_minus-requires : goal.number_or_minus-requires
 number_or_minus-requires c n e = omega (arith, file_short _ _ _ _ _ n (sym c.write_grouped.ensures.result_value ∙ e))
 
 pub shape_of-out : goal.shape_of-out
-shape_of-out c = c.write_grouped.auto.1.1.1.0
+shape_of-out c = c.write_grouped.auto.out
 
 pub returns : goal.returns
 returns c =

@@ -10,5 +10,4 @@ use Rattle.htm.proofs.from_c.lookup.Goals as goal
 pub returns : goal.returns
 unfolding lookup_for_c
 returns c =
-    let s = c in
-    c.or_zero.ensures ∙ ap or_zero (c.locate.ensures ∙ (λ i. mesh.lookup (vec (to_z-of_z s.ranges.x i) (to_z-of_z s.ranges.y i) (to_z-of_z s.ranges.z i)) s.args.depth))
+    c.or_zero.ensures ∙ ap or_zero (c.locate.ensures ∙ (λ i. mesh.lookup (vec (to_z-of_z c.ranges.x i) (to_z-of_z c.ranges.y i) (to_z-of_z c.ranges.z i)) c.args.depth))

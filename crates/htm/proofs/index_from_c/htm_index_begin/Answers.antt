@@ -5,7 +5,7 @@ use Rattle.htm_abi.specs.Values.{status_of}
 use Rattle.htm.proofs.index_from_c.htm_index_begin.Goals as goal
 
 pub shape_of-index : goal.shape_of-index
-shape_of-index c = c.index_begin.auto.0
+shape_of-index c = c.index_begin.auto.index
 
 pub returns : goal.returns
 returns c = let m = c.status.ensures in let a = c.index_begin.ensures in record {

@@ -5,7 +5,7 @@ use Rattle.htm_abi.specs.Values.{status_of}
 use Rattle.htm.proofs.index_from_c.htm_remove.Goals as goal
 
 pub shape_of-index : goal.shape_of-index
-shape_of-index c = c.remove.auto.0
+shape_of-index c = c.remove.auto.index
 
 pub returns : goal.returns
 returns c = let m = c.status.ensures in let a = c.remove.ensures in record {
