@@ -4,6 +4,7 @@ pub mod JumpChild
 pub mod JumpConstants
 pub mod JumpInvariant
 pub mod JumpLevel
+pub mod JumpNumbers
 pub mod JumpShape
 pub mod JumpSide
 pub mod JumpStart
