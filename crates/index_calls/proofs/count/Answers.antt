@@ -6,4 +6,4 @@ pub returns-then-index-lt-INDEX_LENGTH : goal.returns-then-index-lt-INDEX_LENGTH
 returns-then-index-lt-INDEX_LENGTH c = none_counted c.args.index.now c.if-index-lt-INDEX_LENGTH.true
 
 pub returns : goal.returns
-returns c = let s = c in is_counted s.args.index.now s.if-index-lt-INDEX_LENGTH.false c.count_in.result c.count_in.ensures.0
+returns c = is_counted c.args.index.now c.if-index-lt-INDEX_LENGTH.false c.count_in.result c.count_in.ensures.0

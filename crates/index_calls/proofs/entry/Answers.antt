@@ -10,10 +10,8 @@ pub returns-then-index-lt-INDEX_LENGTH : goal.returns-then-index-lt-INDEX_LENGTH
 returns-then-index-lt-INDEX_LENGTH c = entry_short c.args.index.now c.args.place c.if-index-lt-INDEX_LENGTH.true
 
 pub returns-then-count_in-i : goal.returns-then-count_in-i
-returns-then-count_in-i c = let s = c in is_past s.args.index.now s.args.place s.if-index-lt-INDEX_LENGTH.false c.count_in.result c.count_in.ensures.0 (omega arith)
+returns-then-count_in-i c = is_past c.args.index.now c.args.place c.if-index-lt-INDEX_LENGTH.false c.count_in.result c.count_in.ensures.0 (omega arith)
 
 pub returns : goal.returns
 returns c =
-    let k = c.before.before in
-    let s = k in
-    ap (λ e. gives (found e)) c.entry_at.ensures ∙ has_entry s.args.index.now s.args.place s.if-index-lt-INDEX_LENGTH.false k.count_in.result k.count_in.ensures.0 (omega arith)
+    ap (λ e. gives (found e)) c.entry_at.ensures ∙ has_entry c.args.index.now c.args.place c.if-index-lt-INDEX_LENGTH.false c.count_in.result c.count_in.ensures.0 (omega arith)

@@ -20,13 +20,10 @@ returns-then-index-lt-INDEX_LENGTH c = let v = c.args in let both = by_remove _ 
 
 pub returns-then-n-i : goal.returns-then-n-i
 returns-then-n-i c =
-    let a = c in
-    let h = c in
-    let e = h in
-    let v = e.args in
+    let v = c.args in
     let both = by_remove _ _ _ _
     (of_owner (lt-ltb v.owner 2 (omega arith))
-    (is_absent v.index.now h.count_in-n.result e.if-index-lt-INDEX_LENGTH.false h.count_in-n.ensures.0 (key v.owner v.number) a.find-i.result.place a.find-i.ensures.place_value.0 (omega arith))) in record {
+    (is_absent v.index.now c.count_in-n.result c.if-index-lt-INDEX_LENGTH.false c.count_in-n.ensures.0 (key v.owner v.number) c.find-i.result.place c.find-i.ensures.place_value.0 (omega arith))) in record {
       result_value = both.0;
       index_after = both.1;
     }
@@ -39,16 +36,11 @@ shape_of-index c = simp length-set (omega arith)
 
 pub returns : goal.returns
 returns c =
-    let r = c in
-    let o = c in
-    let a = c in
-    let h = c in
-    let e = h in
-    let v = e.args in
+    let v = c.args in
     let both = by_remove _ _ _ _
     (of_owner (lt-ltb v.owner 2 (omega arith))
-    (is_removed v.index.now h.count_in-n.result e.if-index-lt-INDEX_LENGTH.false h.count_in-n.ensures.0 (key v.owner v.number) a.find-i.result.place a.find-i.ensures.place_value.0 _
-    (omega arith) (omega arith) r.shift_down.ensures)) in record {
+    (is_removed v.index.now c.count_in-n.result c.if-index-lt-INDEX_LENGTH.false c.count_in-n.ensures.0 (key v.owner v.number) c.find-i.result.place c.find-i.ensures.place_value.0 _
+    (omega arith) (omega arith) c.shift_down.ensures)) in record {
       result_value = both.0;
       index_after = both.1;
     }
