@@ -15,6 +15,4 @@ one_more ns n before {xs} e h =
 
 pub returns : goal.returns
 returns c =
-    let p = c.before.before in
-    let s = p in
-    one_more (header_list s.args.h) s.args.convexes s.args.header.now p.put_header.ensures s.requires
+    one_more (header_list c.args.h) c.args.convexes c.args.header.now c.put_header.ensures c.requires

@@ -28,9 +28,8 @@ shape_of-out c = simp length-set
 
 pub returns : goal.returns
 returns c =
-    let s = c in
-    let v = s.args.v in
-    let xs = s.args.out.now in
-    let at = s.args.at in
-    let n = s.requires.small in
-    (λ i. set (set (set xs at (same_narrower n.x tt i)) (at + 1) (same_narrower n.y tt i)) (at + 2) (same_narrower n.z tt i)) ∙ stored_put at (three v) xs s.requires.at_in_bounds
+    let v = c.args.v in
+    let xs = c.args.out.now in
+    let at = c.args.at in
+    let n = c.requires.small in
+    (λ i. set (set (set xs at (same_narrower n.x tt i)) (at + 1) (same_narrower n.y tt i)) (at + 2) (same_narrower n.z tt i)) ∙ stored_put at (three v) xs c.requires.at_in_bounds

@@ -11,9 +11,8 @@ shape_of-out c = omega (arith, c.put_corner-3.auto.out, c.put_corner-2.auto.out,
 
 pub returns : goal.returns
 returns c =
-    let s = c in
-    let xs = s.args.out.now in
-    let k = s.args.c in
+    let xs = c.args.out.now in
+    let k = c.args.c in
     let one = c.put_corner.ensures in
     let two = put_next 0 (three k.v0) (three k.v1) xs one c.put_corner-2.ensures refl (omega arith) in
     put_next 0 (three k.v0 ++ three k.v1) (three k.v2) xs two c.put_corner-3.ensures refl (omega arith)

@@ -16,6 +16,5 @@ shape_of-header c = simp length-set
 
 pub returns : goal.returns
 returns c =
-    let s = c in
-    let h = s.args.h in
-    sets-eq (h.count ∷ h.depth ∷ h.budget ∷ []) s.args.header.now 0 s.requires
+    let h = c.args.h in
+    sets-eq (h.count ∷ h.depth ∷ h.budget ∷ []) c.args.header.now 0 c.requires

@@ -18,9 +18,8 @@ good : (c : Else-two-ne0) →
     let x = c.args in
     (a : Answer File) → check_setting x.s (check_setting x.t a) ≡ a
 good c =
-    let e = c in
-    let a = e.args in
-    both_checked a.index a.s a.t a.first a.second e.setting_refusal-one.result e.setting_refusal-one.ensures e.if-one-ne0.false
+    let a = c.args in
+    both_checked a.index a.s a.t a.first a.second c.setting_refusal-one.result c.setting_refusal-one.ensures c.if-one-ne0.false
     c.setting_refusal-two.result c.setting_refusal-two.ensures c.if-two-ne0.false
 
 -- the first buffer has room, and the second
@@ -41,9 +40,8 @@ returns-then-one-ne0 c =
 
 pub returns-then-two-ne0 : goal.returns-then-two-ne0
 returns-then-two-ne0 c =
-    let e = c in
-    let a = e.args in
-    no_second a.index a.s a.t a.first a.second e.setting_refusal-one.result e.setting_refusal-one.ensures e.if-one-ne0.false
+    let a = c.args in
+    no_second a.index a.s a.t a.first a.second c.setting_refusal-one.result c.setting_refusal-one.ensures c.if-one-ne0.false
     c.setting_refusal-two.result c.setting_refusal-two.ensures c.if-two-ne0.true
 
 pub returns-then-not-has_room : goal.returns-then-not-has_room

@@ -8,14 +8,12 @@ use Rattle.trial_calls.proofs.score_of.Goals as goal
 
 pub overflow_mul-result : goal.overflow_mul-result
 overflow_mul-result c =
-    let w = c in
-    let a = w.args in
+    let a = c.args in
     let m = a.made.counts in
-    omega (arith, sky_fits a.depth (m.full + m.partial + m.swallowed) w.power-span.result w.requires.2 w.power-span.ensures w.requires.0)
+    omega (arith, sky_fits a.depth (m.full + m.partial + m.swallowed) c.power-span.result c.requires.2 c.power-span.ensures c.requires.0)
 
 pub returns : goal.returns
 returns c =
-    let w = c in
-    let a = w.args in
+    let a = c.args in
     let m = a.made.counts in
-    ap (λ p. record { result = (score_of a.depth a.made).result; sky = (m.full + m.partial + m.swallowed) * p }) w.power-span.ensures
+    ap (λ p. record { result = (score_of a.depth a.made).result; sky = (m.full + m.partial + m.swallowed) * p }) c.power-span.ensures

@@ -43,10 +43,9 @@ shape_of-numbers c = simp length-set
 
 pub returns : goal.returns
 returns c =
-    let s = c in
-    let r = s.args.r in
+    let r = c.args.r in
     let a = r.first in
     let b = r.second in
     let list : ℕ → List ℕ = λ k.
     a.unchecked ∷ a.held ∷ a.discarded ∷ a.outer ∷ a.inner ∷ b.unchecked ∷ b.held ∷ b.discarded ∷ b.outer ∷ b.inner ∷ k ∷ [] in
-    sets-eq (list c.choice_number.result) s.args.numbers.now 0 s.requires ∙ ap (λ k. put 0 (list k) s.args.numbers.now) c.choice_number.ensures
+    sets-eq (list c.choice_number.result) c.args.numbers.now 0 c.requires ∙ ap (λ k. put 0 (list k) c.args.numbers.now) c.choice_number.ensures

@@ -19,12 +19,10 @@ returns-then-one-ne0 c =
 
 pub returns-then-two-ne0 : goal.returns-then-two-ne0
 returns-then-two-ne0 c =
-    let e = c.before.before in
     let u = c.setting_refusal-two in
-    good e (check_setting e.args.t (refused Space)) ∙ u.ensures (refused Space) ∙ passing_some u.result (refused Space) c.if-two-ne0.true
+    good (goal.at.returns-then-two-ne0 c).Else-one-ne0 (check_setting c.args.t (refused Space)) ∙ u.ensures (refused Space) ∙ passing_some u.result (refused Space) c.if-two-ne0.true
 
 pub returns-else-two-ne0 : goal.returns-else-two-ne0
 returns-else-two-ne0 c =
-    let e = c.before.before in
     let u = c.setting_refusal-two in
-    good e (check_setting e.args.t (refused Space)) ∙ u.ensures (refused Space) ∙ passing_none (refused Space) c.if-two-ne0.false
+    good (goal.at.returns-else-two-ne0 c).Else-one-ne0 (check_setting c.args.t (refused Space)) ∙ u.ensures (refused Space) ∙ passing_none (refused Space) c.if-two-ne0.false
