@@ -1,6 +1,6 @@
 use Prim.Native.Nat.{◌-◌}
 use native.Mathlib.Omega.{arith}
-use mathlib.Core.Path.{refl, ◌∙◌}
+use mathlib.Core.Path.{refl}
 use Rattle.covering_walk.proofs.VisitLaws.{rooting_start, root_needs, rooting_more, rooted}
 use Rattle.covering_calls.proofs.visit_each_root.Goals as goal
 

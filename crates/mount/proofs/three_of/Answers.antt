@@ -1,7 +1,4 @@
 -- `mount::three_of` is the vector of three components, or the first refusal among them. Assumes nothing.
-use Rattle.algebra.proofs.Sized.{stored_same}
-use Rattle.answer.specs.Answer.{gives}
-use Rattle.vector.specs.Vectors.{vec}
 use Rattle.mount.proofs.three_of.Goals as goal
 
 pub returns-in-Refused-y : goal.returns-in-Refused-y
