@@ -1,4 +1,3 @@
-use Prim.Native.Nat.{◌-◌}
 use native.Mathlib.Omega.{arith}
 use Rattle.classify_prepared.proofs.PreparingLaws.{prepare_start, prepare_more, prepare_end}
 use Rattle.classify_prepared.proofs.lists.prepare_rows.Goals as goal
