@@ -37,4 +37,4 @@ pub returns-in-Refused : goal.returns-in-Refused
 returns-in-Refused c =
     let a = c.args in
     file_refused a.owner a.index.now a.file.now a.s a.t a.first.now a.second.now (own (goal.at.returns-in-Refused c).Else-owner-ge-OWNERS) c.in-Refused.n
-        (sym (ap header_given c.in-Refused.is) ∙ c.decode-said.ensures.result_value)
+    (sym (ap header_given c.in-Refused.is) ∙ c.decode-said.ensures.result_value)

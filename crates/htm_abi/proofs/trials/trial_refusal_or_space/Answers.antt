@@ -40,10 +40,10 @@ pub returns-in-Gives : goal.returns-in-Gives
 returns-in-Gives c =
     let a = c.args in
     a_file a.owner a.file.now a.s a.t (own (goal.at.returns-in-Gives c).Else-owner-ge-OWNERS) _ c.setting_refusal_or_space.result
-        (sym (ap header_given c.in-Gives.is) ∙ c.decode-said.ensures.result_value) c.setting_refusal_or_space.ensures
+    (sym (ap header_given c.in-Gives.is) ∙ c.decode-said.ensures.result_value) c.setting_refusal_or_space.ensures
 
 pub returns-in-Refused : goal.returns-in-Refused
 returns-in-Refused c =
     let a = c.args in
     no_file a.owner a.file.now a.s a.t (own (goal.at.returns-in-Refused c).Else-owner-ge-OWNERS) c.in-Refused.n
-        (sym (ap header_given c.in-Refused.is) ∙ c.decode-said.ensures.result_value)
+    (sym (ap header_given c.in-Refused.is) ∙ c.decode-said.ensures.result_value)
