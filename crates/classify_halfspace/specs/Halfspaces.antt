@@ -6,7 +6,7 @@
 --   edges_class q t                   the class where within does not hold, nor apart by the bounding cap
 --   rays_class q t                    the class where apart does not hold by the bounding cap
 --   NormalsIn t ps                   the normals of t stand in ps behind its corners, and are within ±K
-use Rattle.std.specs.Prelude.{◌≤◌, ◌≡◌, Bool, cond, ◌&&◌, List, length, ℤ, ◌-ℤ◌, ◌*ℤ◌}
+use Rattle.std.specs.Prelude.{◌*◌, ◌≤◌, ◌≡◌, Bool, cond, ◌&&◌, List, length, ℤ, ◌-ℤ◌, ◌*ℤ◌}
 use Rattle.std.specs.Int.Signed.{non_neg, le_z, lt_z}
 use Rattle.vector.specs.declared.Vec3.{Vec3}
 use Rattle.vector.specs.Vectors.{dot}

@@ -13,16 +13,15 @@ pub returns-then-not-s : goal.returns-then-not-s
 returns-then-not-s c e = absurd (false≢true e)
 
 pub is_close-requires : goal.is_close-requires
-is_close-requires c = let s = c in record {
-  anchor = subst IsAnchor (sym c.anchor_behind.ensures) s.requires.anchor;
-  bounding_cap = s.requires.rays_of.1;
+is_close-requires c = record {
+  anchor = subst IsAnchor (sym c.anchor_behind.ensures) c.requires.anchor;
+  bounding_cap = c.requires.rays_of.1;
 }
 
 pub returns : goal.returns
 returns c e =
-    let s = c in
     record {
       some = omega (arith, c.active_count.ensures);
-      oriented = sym s.requires.rays_of.0.oriented ∙ not-false _ c.if-not-s.false;
-      close = ap (λ r. close_to r s.args.m) (sym c.anchor_behind.ensures) ∙ sym c.is_close.ensures ∙ e;
+      oriented = sym c.requires.rays_of.0.oriented ∙ not-false _ c.if-not-s.false;
+      close = ap (λ r. close_to r c.args.m) (sym c.anchor_behind.ensures) ∙ sym c.is_close.ensures ∙ e;
     }

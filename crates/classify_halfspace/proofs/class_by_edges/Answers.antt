@@ -5,6 +5,7 @@ use mathlib.Core.Bool.{Bool}
 use Rattle.algebra.proofs.Sized.{held}
 use Rattle.vector.specs.declared.Vec3.{Vec3}
 use Rattle.vector.proofs.Sizes.{Small}
+use Rattle.classify_prepared.specs.declared.PreparedHalfspace.{PreparedHalfspace}
 use Rattle.classify.specs.Shape.{beyond_edge}
 use Rattle.classify_prepared.proofs.PreparedLaws.{sound_offset}
 use Rattle.classify_halfspace.specs.Halfspaces.{class_apart}
@@ -12,9 +13,8 @@ use Rattle.classify_halfspace.proofs.EdgeLaws.{first_beyond, second_beyond, thir
 use Rattle.classify_halfspace.proofs.class_by_edges.Goals as goal
 
 -- an edge that was asked, as the trixel has it
-module _ (s : goal.Start) {b x : Bool} where
-  edge : {p r : Vec3} → r ≡ p → b ≡ beyond_edge s.args.q.f s.args.q.low r → b ≡ x → beyond_edge s.args.q.f s.args.q.low p ≡ x
-  edge k e w = sym (ap (beyond_edge s.args.q.f s.args.q.low) k) ∙ sym e ∙ w
+edge : (q : PreparedHalfspace) {b x : Bool} {p r : Vec3} → r ≡ p → b ≡ beyond_edge q.f q.low r → b ≡ x → beyond_edge q.f q.low p ≡ x
+edge q k e w = sym (ap (beyond_edge q.f q.low) k) ∙ sym e ∙ w
 
 pub beyond_edge-requires : goal.beyond_edge-requires
 beyond_edge-requires c = let n = c.requires.normals_in in record {
@@ -24,40 +24,34 @@ beyond_edge-requires c = let n = c.requires.normals_in in record {
 
 pub returns-then-beyond_edge : goal.returns-then-beyond_edge
 returns-then-beyond_edge c =
-    let s = c.before.before.before.before in
-    c.class_apart.ensures ∙ ap class_apart (held (sound_offset s.requires.sound_halfspace) tt).eq
-    ∙ sym (first_beyond s.args.q s.args.t (edge s s.requires.normals_in.p0 c.beyond_edge.ensures c.if-beyond_edge.true))
+    c.class_apart.ensures ∙ ap class_apart (held (sound_offset c.requires.sound_halfspace) tt).eq
+    ∙ sym (first_beyond c.args.q c.args.t (edge c.args.q c.requires.normals_in.p0 c.beyond_edge.ensures c.if-beyond_edge.true))
 
 pub beyond_edge-requires-2 : goal.beyond_edge-requires-2
-beyond_edge-requires-2 c = let s = c in let n = s.requires.normals_in in record {
-  sound_halfspace = s.requires.sound_halfspace;
+beyond_edge-requires-2 c = let n = c.requires.normals_in in record {
+  sound_halfspace = c.requires.sound_halfspace;
   k_in_bounds = (omega (arith, n.room), subst Small (sym n.p1) n.small.p1);
 }
 
 pub returns-then-beyond_edge-2 : goal.returns-then-beyond_edge-2
 returns-then-beyond_edge-2 c =
-    let s = c.before.before.before.before.before.before in
-    c.class_apart-then-beyond_edge-2.ensures ∙ ap class_apart (held (sound_offset s.requires.sound_halfspace) tt).eq
-    ∙ sym (second_beyond s.args.q s.args.t (edge s s.requires.normals_in.p1 c.beyond_edge-2.ensures c.if-beyond_edge-2.true))
+    c.class_apart-then-beyond_edge-2.ensures ∙ ap class_apart (held (sound_offset c.requires.sound_halfspace) tt).eq
+    ∙ sym (second_beyond c.args.q c.args.t (edge c.args.q c.requires.normals_in.p1 c.beyond_edge-2.ensures c.if-beyond_edge-2.true))
 
 pub beyond_edge-requires-3 : goal.beyond_edge-requires-3
-beyond_edge-requires-3 c = let s = c in let n = s.requires.normals_in in record {
-  sound_halfspace = s.requires.sound_halfspace;
+beyond_edge-requires-3 c = let n = c.requires.normals_in in record {
+  sound_halfspace = c.requires.sound_halfspace;
   k_in_bounds = (omega (arith, n.room), subst Small (sym n.p2) n.small.p2);
 }
 
 pub returns-then-beyond_edge-3 : goal.returns-then-beyond_edge-3
 returns-then-beyond_edge-3 c =
-    let s = c.before.before.before.before.before.before.before.before in
-    c.class_apart-then-beyond_edge-3.ensures ∙ ap class_apart (held (sound_offset s.requires.sound_halfspace) tt).eq
-    ∙ sym (third_beyond s.args.q s.args.t (edge s s.requires.normals_in.p2 c.beyond_edge-3.ensures c.if-beyond_edge-3.true))
+    c.class_apart-then-beyond_edge-3.ensures ∙ ap class_apart (held (sound_offset c.requires.sound_halfspace) tt).eq
+    ∙ sym (third_beyond c.args.q c.args.t (edge c.args.q c.requires.normals_in.p2 c.beyond_edge-3.ensures c.if-beyond_edge-3.true))
 
 pub returns : goal.returns
 returns c =
-    let e2 = c.before.before in
-    let e1 = e2.before.before in
-    let s = e1.before.before in
-    sym (none_beyond s.args.q s.args.t
-    (edge s s.requires.normals_in.p0 e1.beyond_edge.ensures e1.if-beyond_edge.false)
-    (edge s s.requires.normals_in.p1 e2.beyond_edge-2.ensures e2.if-beyond_edge-2.false)
-    (edge s s.requires.normals_in.p2 c.beyond_edge-3.ensures c.if-beyond_edge-3.false))
+    sym (none_beyond c.args.q c.args.t
+    (edge c.args.q c.requires.normals_in.p0 c.beyond_edge.ensures c.if-beyond_edge.false)
+    (edge c.args.q c.requires.normals_in.p1 c.beyond_edge-2.ensures c.if-beyond_edge-2.false)
+    (edge c.args.q c.requires.normals_in.p2 c.beyond_edge-3.ensures c.if-beyond_edge-3.false))

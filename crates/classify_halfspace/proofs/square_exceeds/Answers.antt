@@ -10,7 +10,7 @@ use Rattle.algebra.proofs.Tests.{and_then, and_no_left, le_yes, yes_lt, no_lt, n
 use Rattle.classify_halfspace.proofs.square_exceeds.Goals as goal
 
 pub returns-then-x-le0 : goal.returns-then-x-le0
-returns-then-x-le0 c = let s = c in sym (and_no_left _ (no_lt {a = pos 0} {b = s.args.x} (le_yes (ap (λ z. le_z z (pos 0)) (sym (held s.requires.upto tt).eq) ∙ c.if-x-le0.true))))
+returns-then-x-le0 c = sym (and_no_left _ (no_lt {a = pos 0} {b = c.args.x} (le_yes (ap (λ z. le_z z (pos 0)) (sym (held c.requires.upto tt).eq) ∙ c.if-x-le0.true))))
 
 pub overflow_cast-x : goal.overflow_cast-x
 overflow_cast-x c = fits_tested (held c.requires.upto tt) c.if-x-le0.false tt
@@ -26,12 +26,11 @@ square_passes-requires c = let p = c.requires.rest in ((upto_held p.0.size tt).l
 
 pub returns : goal.returns
 returns c =
-    let s = c in
-    let x = held s.requires.upto tt in
-    let p = s.requires.rest.0 in
-    let q = s.requires.rest.1 in
-    let l = no_le {a = s.args.x} {b = pos 0} (ap (λ z. le_z z (pos 0)) (sym x.eq) ∙ c.if-x-le0.false) in
+    let x = held c.requires.upto tt in
+    let p = c.requires.rest.0 in
+    let q = c.requires.rest.1 in
+    let l = no_le {a = c.args.x} {b = pos 0} (ap (λ z. le_z z (pos 0)) (sym x.eq) ∙ c.if-x-le0.false) in
     c.square_passes.ensures
     ∙ (λ i. ltb (nat_abs ((held p.size tt).eq i) * nat_abs ((held q.size tt).eq i)) (nat_abs (x.eq i) * nat_abs (x.eq i)))
-    ∙ by_sizes s.args.x s.args.p s.args.q (yes_non_neg (<ℤ→≤ℤ l)) p.sign q.sign
+    ∙ by_sizes c.args.x c.args.p c.args.q (yes_non_neg (<ℤ→≤ℤ l)) p.sign q.sign
     ∙ and_then _ (yes_lt l)

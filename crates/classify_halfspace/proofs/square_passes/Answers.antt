@@ -7,7 +7,7 @@ use Rattle.algebra.proofs.Filters.{square_surely, square_surely_not, square_larg
 use Rattle.classify_halfspace.proofs.square_passes.Goals as goal
 
 pub returns-then-m-ge-LARGE : goal.returns-then-m-ge-LARGE
-returns-then-m-ge-LARGE c = let s = c in sym (lt-ltb _ _ (square_large s.args.m s.args.p s.args.q (omega arith) s.requires.0 s.requires.1))
+returns-then-m-ge-LARGE c = sym (lt-ltb _ _ (square_large c.args.m c.args.p c.args.q (omega arith) c.requires.0 c.requires.1))
 
 pub overflow_add-u : goal.overflow_add-u
 overflow_add-u c = record { fits = omega arith }

@@ -15,10 +15,7 @@ overflow_add-result-2 c = record { fits = omega arith }
 pub returns : goal.returns
 unfolding height_of
 returns c =
-    let y = c.before.before in
-    let x = y.before.before in
-    let s = x in
-    let ex = x.upper_square.ensures.0 ∙ ap upper_square (held s.requires.x tt).eq in
-    let ey = y.upper_square-2.ensures.0 ∙ ap upper_square (held s.requires.y tt).eq in
-    let ez = c.upper_square-3.ensures.0 ∙ ap upper_square (held s.requires.z tt).eq in
+    let ex = c.upper_square.ensures.0 ∙ ap upper_square (held c.requires.x tt).eq in
+    let ey = c.upper_square-2.ensures.0 ∙ ap upper_square (held c.requires.y tt).eq in
+    let ez = c.upper_square-3.ensures.0 ∙ ap upper_square (held c.requires.z tt).eq in
     λ i. (ex i + ey i + ez i) / 2 ^ 32

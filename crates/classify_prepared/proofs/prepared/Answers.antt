@@ -1,8 +1,11 @@
 -- `classify_prepared::prepared` has f, d, D, G and f·f − D²: d is within ±K, and so is D. Assumes nothing.
-use Prim.Native.Nat.{◌≤◌}
+use Prim.Native.Nat.{ℕ, ◌≤◌}
 use mathlib.Core.Path.{◌≡◌, sym, ap, subst, ◌∙◌}
 use lib.Dec.{lit≤}
-use lib.IntN.{pos, nat_abs, ◌-ℤ◌}
+use lib.IntN.{ℤ, pos, nat_abs, ◌-ℤ◌}
+use mir.Syntax.{w64}
+use mir.Val.{to_z, of_z}
+use Rattle.algebra.proofs.Sizes.{Upto}
 use Rattle.algebra.proofs.Sized.{held, upto_held, upto_mono, is_mul, is_sub, fits_mul, fits_sub}
 use Rattle.vector.specs.Numbers.{Kℕ}
 use Rattle.vector.specs.Vectors.{dot}
@@ -13,11 +16,11 @@ use Rattle.classify.specs.Shape.{square, f_of, DOf, GOf}
 use Rattle.classify_prepared.proofs.prepared.Goals as goal
 
 -- e
-size_is : (c : goal.After-size-e) → c.size-e.result ≡ nat_abs c.args.d
-size_is c = c.size-e.ensures ∙ ap nat_abs (held (between_upto c.args.d c.requires.d_value) tt).eq
+size_is : {d : ℤ} {e : ℕ} → Upto Kℕ d → e ≡ nat_abs (to_z w64 (of_z w64 d)) → e ≡ nat_abs d
+size_is h k = k ∙ ap nat_abs (held h tt).eq
 
-size_most : (c : goal.After-size-e) → c.size-e.result ≤ Kℕ
-size_most c = subst (λ n. n ≤ Kℕ) (sym (size_is c)) (between_upto c.args.d c.requires.d_value).le
+size_most : {d : ℤ} {e : ℕ} → Upto Kℕ d → e ≡ nat_abs (to_z w64 (of_z w64 d)) → e ≤ Kℕ
+size_most h k = subst (λ n. n ≤ Kℕ) (sym (size_is h k)) h.le
 
 pub turned-f-requires : goal.turned-f-requires
 turned-f-requires c = vector_small c.args.n c.requires.n_value
@@ -26,10 +29,10 @@ pub size-e-requires : goal.size-e-requires
 size-e-requires c = upto_held (upto_mono (lit≤ tt) (between_upto c.args.d c.requires.d_value)) tt
 
 pub low_of-low-requires : goal.low_of-low-requires
-low_of-low-requires c = size_most c
+low_of-low-requires c = size_most (between_upto c.args.d c.requires.d_value) c.size-e.ensures
 
 pub high_of-requires : goal.high_of-requires
-high_of-requires c = size_most c.before
+high_of-requires c = size_most (between_upto c.args.d c.requires.d_value) c.size-e.ensures
 
 pub dot-requires : goal.dot-requires
 dot-requires c = let h = c.turned-f.ensures.1 in record {
@@ -45,15 +48,13 @@ overflow_sub-result c = let h = c.low_of-low.ensures.1 in fits_sub (held c.dot.e
 
 pub returns : goal.returns
 returns c =
-    let a = c.before.before in
-    let u = a.before.before in
-    let s = u in
-    let e = size_is a.before in
-    let d = (held (between_upto s.args.d s.requires.d_value) tt).eq in
-    let f = u.turned-f.ensures.0 ∙ ap (λ d. f_of (halfspace_from s.args.n d)) d in
-    let D = a.low_of-low.ensures.0 ∙ ap (λ n. DOf (pos n)) e in
-    let low = (held a.low_of-low.ensures.1 tt).eq ∙ D in
+    let h = between_upto c.args.d c.requires.d_value in
+    let e = size_is h c.size-e.ensures in
+    let d = (held h tt).eq in
+    let f = c.turned-f.ensures.0 ∙ ap (λ d. f_of (halfspace_from c.args.n d)) d in
+    let D = c.low_of-low.ensures.0 ∙ ap (λ n. DOf (pos n)) e in
+    let low = (held c.low_of-low.ensures.1 tt).eq ∙ D in
     let high = (held c.high_of.ensures.1 tt).eq ∙ c.high_of.ensures.0 ∙ ap (λ n. GOf (pos n)) e in
     let length = c.dot.ensures.value ∙ ap (λ v. dot v v) f in
-    let rest = (is_sub (held c.dot.ensures.upto tt) (is_mul (held a.low_of-low.ensures.1 tt) (held a.low_of-low.ensures.1 tt) tt) tt).eq ∙ (λ i. length i -ℤ square (D i)) in
+    let rest = (is_sub (held c.dot.ensures.upto tt) (is_mul (held c.low_of-low.ensures.1 tt) (held c.low_of-low.ensures.1 tt) tt) tt).eq ∙ (λ i. length i -ℤ square (D i)) in
     λ i. record { f = f i; d = d i; low = low i; high = high i; rest = rest i }

@@ -10,9 +10,8 @@ negated-requires c = c.requires
 
 pub returns-then-d-lt0 : goal.returns-then-d-lt0
 returns-then-d-lt0 c =
-    let s = c in
-    let n = s.args.n in
-    (c.negated.ensures.value ∙ sym (ap (λ b. cond b n (minus n)) (sign_held s.ranges.d c.if-d-lt0.true)), c.negated.ensures.small)
+    let n = c.args.n in
+    (c.negated.ensures.value ∙ sym (ap (λ b. cond b n (minus n)) (sign_held c.ranges.d c.if-d-lt0.true)), c.negated.ensures.small)
 
 pub returns : goal.returns
 returns c = let n = c.args.n in (sym (ap (λ b. cond b n (minus n)) (sign_held c.ranges.d c.if-d-lt0.false)), c.requires)

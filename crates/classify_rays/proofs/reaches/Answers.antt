@@ -10,7 +10,7 @@ pub copied-requires : goal.copied-requires
 copied-requires c = c.requires.2.size
 
 pub returns-in-Yes : goal.returns-in-Yes
-returns-in-Yes c = let s = c in filter_right s.args.x s.args.g s.requires.2 c.filtered-decided.ensures c.in-Yes.is
+returns-in-Yes c = filter_right c.args.x c.args.g c.requires.2 c.filtered-decided.ensures c.in-Yes.is
 
 pub returns-in-No : goal.returns-in-No
-returns-in-No c = let s = c in filter_right s.args.x s.args.g s.requires.2 c.filtered-decided.ensures c.in-No.is
+returns-in-No c = filter_right c.args.x c.args.g c.requires.2 c.filtered-decided.ensures c.in-No.is

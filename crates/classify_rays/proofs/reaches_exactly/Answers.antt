@@ -23,9 +23,8 @@ times-wanted-requires c = let p = c.requires in lt_of_le_of_lt (mul-le-mul (leng
 
 pub returns : goal.returns
 returns c =
-    let s = c in
-    let x = s.args in
-    let n = value_of s.square_length.result in
-    ap not (c.less.ensures ∙ (λ i. ltb (s.product-given.ensures i) (c.times-wanted.ensures i)))
+    let x = c.args in
+    let n = value_of c.square_length.result in
+    ap not (c.less.ensures ∙ (λ i. ltb (c.product-given.ensures i) (c.times-wanted.ensures i)))
     ∙ not_less (n * (x.g * x.g)) (x.x * x.x)
-    ∙ ap (λ m. leb m (x.x * x.x)) (mul_comm n (x.g * x.g) ∙ ap (λ n. x.g * x.g * n) s.square_length.ensures)
+    ∙ ap (λ m. leb m (x.x * x.x)) (mul_comm n (x.g * x.g) ∙ ap (λ n. x.g * x.g * n) c.square_length.ensures)

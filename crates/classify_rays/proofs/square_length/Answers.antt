@@ -13,13 +13,9 @@ sum-requires c = lt_of_le_of_lt (add-le-add c.squared.ensures.1 c.squared-2.ensu
 
 pub returns : goal.returns
 returns c =
-    let a = c.before.before.before in
-    let y = a.before in
-    let x = y.before.before in
-    let s = x in
     let square : ℤ → ℕ = λ v. nat_abs v * nat_abs v in
-    let ex = x.squared.ensures.0 ∙ ap square (held s.requires.x tt).eq in
-    let ey = y.squared-2.ensures.0 ∙ ap square (held s.requires.y tt).eq in
-    let ez = c.squared-3.ensures.0 ∙ ap square (held s.requires.z tt).eq in
-    let exy = a.sum.ensures ∙ (λ i. ex i + ey i) in
-    c.sum-2.ensures ∙ (λ i. exy i + ez i) ∙ sym (ap nat_abs (dot_self s.args.r))
+    let ex = c.squared.ensures.0 ∙ ap square (held c.requires.x tt).eq in
+    let ey = c.squared-2.ensures.0 ∙ ap square (held c.requires.y tt).eq in
+    let ez = c.squared-3.ensures.0 ∙ ap square (held c.requires.z tt).eq in
+    let exy = c.sum.ensures ∙ (λ i. ex i + ey i) in
+    c.sum-2.ensures ∙ (λ i. exy i + ez i) ∙ sym (ap nat_abs (dot_self c.args.r))

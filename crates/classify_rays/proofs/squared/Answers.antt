@@ -12,7 +12,6 @@ size-n-requires c = upto_held (upto_mono (lit≤ tt) c.requires) tt
 
 pub returns : goal.returns
 returns c =
-    let s = c in
-    let n = c.size-n.ensures ∙ ap nat_abs (held s.requires tt).eq in
-    let e : _ ≡ nat_abs s.args.a * nat_abs s.args.a = c.product.ensures ∙ (λ i. n i * n i) in
-    (e, subst (λ m. m ≤ 2 ^ 82) (sym e) (mul-le-mul s.requires.le s.requires.le))
+    let n = c.size-n.ensures ∙ ap nat_abs (held c.requires tt).eq in
+    let e : _ ≡ nat_abs c.args.a * nat_abs c.args.a = c.product.ensures ∙ (λ i. n i * n i) in
+    (e, subst (λ m. m ≤ 2 ^ 82) (sym e) (mul-le-mul c.requires.le c.requires.le))

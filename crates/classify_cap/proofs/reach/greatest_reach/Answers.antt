@@ -33,11 +33,10 @@ on_axes-requires c = c.requires.rays
 
 pub returns-then-on_axes : goal.returns-then-on_axes
 returns-then-on_axes c =
-    let x = c in
-    let a = x.args in
+    let a = c.args in
     let e : c.lesser-then-on_axes.result ≡ min (min a.x0 a.x1) a.x2 = c.lesser-then-on_axes.ensures ∙ (λ i. min (c.lesser.ensures i) a.x2) in
     let both = at_most_K a.x0 a.x1 a.x2 a.s
-    (c.lesser-then-on_axes-2.ensures ∙ (λ i. min Kℕ (e i / 2 ^ 40)) ∙ axes_reach a.x0 a.x1 a.x2 a.s (x.on_axes.ensures c.if-on_axes.true)) in record {
+    (c.lesser-then-on_axes-2.ensures ∙ (λ i. min Kℕ (e i / 2 ^ 40)) ∙ axes_reach a.x0 a.x1 a.x2 a.s (c.on_axes.ensures c.if-on_axes.true)) in record {
       value = both.0;
       upper_bound = both.1;
     }
