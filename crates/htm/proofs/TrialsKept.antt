@@ -1,6 +1,6 @@
 -- A trial counts the same frames under both settings: what is delivered, unchecked or after a test, is what the region holds, whatever depth and budget are
 -- (FramesKept). The part handed back is the outer list of the chosen setting, which stands at the front of its buffer (`outer_front`). Assumes nothing.
-use Prim.Native.Nat.{ℕ, suc, ◌+◌, ◌*◌, ◌-◌, ◌≤◌, ◌<◌}
+use Prim.Native.Nat.{ℕ, suc, ◌+◌, ◌*◌, ◌≤◌, ◌<◌}
 use native.Mathlib.Omega.{arith}
 use mathlib.Core.Path.{◌≡◌, refl, sym, ap, subst, ◌∙◌}
 use mathlib.Core.Bool.{Bool, true, false, cond}
