@@ -17,6 +17,8 @@ use Rattle.index_entries.specs.Steps.{leading}
 use Rattle.index_entries.proofs.SearchLaws.{search_ends, counted_more}
 use Rattle.index_entries.proofs.find.Given as goal
 
+-- ---- of a list l and a key k
+
 module _ (l : List ℤ) (k : Key) where
   abbrev pub at : ℕ → Bool
   at j = is_keyed k (entry_at l (1 + Width * j))
