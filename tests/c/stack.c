@@ -153,7 +153,7 @@ static const struct {
     {"htm_to_grouped", do_to_grouped, 11000},
     {"htm_to_plain", do_to_plain, 11000},
     {"htm_holds", do_holds, 11000},
-    {"htm_cover", do_cover, 86 * 1024},
+    {"htm_cover", do_cover, 86000},
     {"htm_index_begin", do_begin, 1000},
     {"htm_add", do_add, 4000},
     {"htm_index_count", do_count, 1000},
