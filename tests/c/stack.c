@@ -158,8 +158,8 @@ static const struct {
     {"htm_add", do_add, 4000},
     {"htm_index_count", do_count, 1000},
     {"htm_index_entry", do_entry, 1000},
-    {"htm_frames", do_frames, 86 * 1024},
-    {"htm_trial", do_trial, 90 * 1024},
+    {"htm_frames", do_frames, 86000},
+    {"htm_trial", do_trial, 90000},
     {"htm_chosen", do_chosen, 1000},
     {"htm_remove", do_remove, 1000},
 };

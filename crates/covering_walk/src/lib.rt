@@ -293,7 +293,7 @@ fn children_by_active(
     );
 }
 
-// The four children of a trixel of a level, one after the other.
+// The four children of a trixel of a level, one after the other. The trixel is read anew for each, so that no level keeps it on the stack.
 #[cycle(children_children_by_active_visit)]
 fn children(
     trixel: &TrixelNumbers,
@@ -312,13 +312,11 @@ fn children(
         (found_below level (trixel_in trixel.now)) (tally_in tally.old) out.old (tally_in tally.new)
         out.new }
 {
-    let parent = trixel_in(trixel);
-    let cut = mesh_trixels::cut(parent);
-    let ray = first_ray_in(trixel);
+    let cut = mesh_trixels::cut(trixel_in(trixel));
     let mut child = [0i64; TRIXEL];
     let mut k: u64 = 0;
     while k < 4 {
-        store_child(&mut child, k, parent, cut, ray, classified);
+        store_child(&mut child, k, trixel_in(trixel), cut, first_ray_in(trixel), classified);
         visit(
             &child,
             child_level(level, k),
