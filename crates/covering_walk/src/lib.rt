@@ -316,7 +316,14 @@ fn children(
     let mut child = [0i64; TRIXEL];
     let mut k: u64 = 0;
     while k < 4 {
-        store_child(&mut child, k, trixel_in(trixel), cut, first_ray_in(trixel), classified);
+        store_child(
+            &mut child,
+            k,
+            trixel_in(trixel),
+            cut,
+            first_ray_in(trixel),
+            classified,
+        );
         visit(
             &child,
             child_level(level, k),
