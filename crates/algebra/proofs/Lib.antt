@@ -4,6 +4,7 @@ pub mod Cheapest
 pub mod Claim
 pub mod Cone
 pub mod Containment
+pub mod Costs
 pub mod Counting
 pub mod Facts
 pub mod Filters

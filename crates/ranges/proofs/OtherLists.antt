@@ -14,7 +14,8 @@ use borrow.Author.Tests.{leb-true, le-leb}
 use Rattle.algebra.specs.Lists.{some, tally, numbers_from}
 use Rattle.algebra.proofs.Tests.{split, or_cases, or_left, or_right, or_none}
 use Rattle.algebra.proofs.Counting.{tally_pass, tally_fail, tally_length, tally_some, tally_step, tally_more, count, count_parts, count_all}
-use Rattle.algebra.proofs.Cheapest.{Costs, costs_taken, costs_left}
+use Rattle.algebra.proofs.Cheapest.{costs_taken, costs_left}
+use Rattle.algebra.proofs.Costs.{Costs}
 use Rattle.ranges.specs.Ranges.{Range, is_in, in_some}
 use Rattle.ranges.specs.Lists.{gap, gaps}
 use Rattle.ranges.specs.Contents.{identifiers}
