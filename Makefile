@@ -120,7 +120,8 @@ MAJOR := $(basename $(MINOR))
 CALLS = sed -n 's/^[a-z][a-z0-9_ ]*[ *]\([a-z0-9_]*\)(.*/\1/p'
 EXPORTS = { echo '$(1) {'; echo 'global:'; $(CALLS) $< | sed 's/$$/;/'; echo 'local: *;'; echo '};'; } > $@
 SHARED = $(CC) -shared -o $@ -Wl,-soname,$(basename $(@F)) -Wl,-Bsymbolic -Wl,-z,defs -Wl,-z,noexecstack
-LINKS = cd $(@D) && ln -sf $(@F) $(basename $(@F)) && ln -sf $(basename $(@F)) $(basename $(basename $(@F)))
+# The names that a loader and a linker look for. They are copies here, since `rt ci` takes no checkout with links in it; make install makes links.
+NAMES = cd $(@D) && cp -f $(@F) $(basename $(@F)) && cp -f $(@F) $(basename $(basename $(@F)))
 
 SKY = hosts/sky
 SKY_SOURCES := $(wildcard $(SKY)/htm_sky*.c)
@@ -138,7 +139,7 @@ target/lib/htm_sky.map: $(SKY)/htm_sky.h Makefile
 
 target/lib/libhtm.so.$(MINOR): $(LIB) target/lib/htm.map
 	$(SHARED) -Wl,--version-script,target/lib/htm.map -Wl,--whole-archive $(LIB) -Wl,--no-whole-archive
-	$(LINKS)
+	$(NAMES)
 
 target/lib/%.o: $(SKY)/%.c $(SKY)/htm_sky.h $(INCLUDE)/htm.h
 	@mkdir -p $(@D)
@@ -151,7 +152,7 @@ target/lib/libhtm_sky.a: $(SKY_OBJECTS)
 # libhtm.so.1 is found beside it, wherever the two are put.
 target/lib/libhtm_sky.so.$(MINOR): $(SKY_OBJECTS) target/lib/htm_sky.map target/lib/libhtm.so.$(MINOR)
 	$(SHARED) -Wl,--version-script,target/lib/htm_sky.map -Wl,-rpath,'$$ORIGIN' $(SKY_OBJECTS) target/lib/libhtm.so.$(MINOR) -lm
-	$(LINKS)
+	$(NAMES)
 
 # The manual: pages of the programs from docs/man, pages of the calls from the headers' comments.
 PAGES := $(wildcard docs/man/*.1)
