@@ -127,10 +127,6 @@ pub no_sign : (z : ℤ) → lt_z z (pos 0) ≡ false → T (non_neg z)
 no_sign (pos n) e = tt
 no_sign (negsuc n) e = absurd (true≢false e)
 
-pub taken_from_zero : (z : ℤ) → lt_z z (pos 0) ≡ true → T (non_neg (pos 0 -ℤ z))
-taken_from_zero (pos n) e = absurd (omega (arith, ltb-true n 0 e))
-taken_from_zero (negsuc n) e = tt
-
 -- the sign of a number that is tested by its bits
 sign_tested : (z : ℤ) → non_neg z ≡ not (lt_z z (pos 0))
 sign_tested (pos n) = rw (leb-suc-zero n)

@@ -4,9 +4,10 @@ use Prim.Native.Nat.{ℕ}
 use mathlib.Core.Path.{◌≡◌, refl, sym, ap}
 use mathlib.Core.Bool.{Bool, true, false}
 use native.Mathlib.Omega.{arith}
-use Rattle.answer.specs.declared.Number.{Number}
+use Rattle.std.specs.Prelude.{Result, Ok, Err}
+use Rattle.answer.specs.declared.Refusal.{Refusal}
 use Rattle.answer.specs.Answer.{Answer, refused, gives, check, then, with_value}
-use Rattle.answer.specs.Calls.{number_of}
+use Rattle.answer.specs.Calls.{number, answer_of}
 
 module _ {A : Type 0} where
   pub refused_gives {ℓ} : {X : Type ℓ} (n : ℕ) (x : A) → ◌≡◌ {A = Answer A} (refused n) (gives x) → X
@@ -37,7 +38,8 @@ module _ {A B : Type 0} where
   value_refused f (refused m) n e = cc
   value_refused f (gives x) n e = refused_gives n (f x) (sym e)
 
--- a call that answers a number, by the number
-pub number_is : (r : Number) (i : ℕ) → number_of r ≡ gives i → r ≡ Number.Gives i
-number_is (Number.Gives n) i e = ap Number.Gives (same_value n i e)
-number_is (Number.Refused n) i e = refused_gives n i e
+-- a call whose answer is known gave it
+module _ {A : Type 0} where
+  pub given_is : (r : Result A Refusal) (a : A) → answer_of r ≡ gives a → r ≡ Ok a
+  given_is (Ok x) a e = ap Ok (same_value x a e)
+  given_is (Err n) a e = refused_gives (number n) a e

@@ -1,12 +1,10 @@
--- Lists that are put into a lent list one after the other stand there as one list, since what follows them is still as it was; so does a list that is
--- copied element by element. Assumes nothing.
+-- Lists that are put into a lent list one after the other stand there as one list, since what follows them is still as it was. Assumes nothing.
 use Prim.Native.Nat.{ℕ, suc, ◌+◌, ◌≤◌, ◌<◌}
 use native.Mathlib.Omega.{arith}
-use native.Mathlib.Numerals.{add-one}
 use mathlib.Core.Path.{◌≡◌, refl, sym, ap, ap₂, ◌∙◌}
 use mathlib.Core.List.{List, [], ◌∷◌, ◌++◌, append_assoc, append-nil}
-use lib.ListN.{length, take, drop, set, get_or, length-append, length-drop, take-append-drop}
-use lib.Seq.{length-take-le, take_at, drop_at, drop-drop, sets-eq, paste, paste-zero, paste-suc}
+use lib.ListN.{length, take, drop, set, length-append, length-drop, take-append-drop}
+use lib.Seq.{length-take-le, take_at, drop_at, drop-drop, sets-eq}
 use Rattle.answer.specs.Lent.{put}
 
 module _ {X : Type 0} where
@@ -92,19 +90,3 @@ module _ {X : Type 0} where
   pub stored_put : (k : ℕ) (xs before : List X) → k + length xs ≤ length before → stored_at k xs before ≡ put k xs before
   stored_put k [] before h = sym (put_none k before)
   stored_put k (x ∷ xs) before h = stored_from_law k xs (x ∷ []) before (set before k x) (set_put k x before (omega arith)) (omega arith)
-
-  -- ---- a copy, element by element: the first elements of `from` at the beginning of `before`
-
-  module _ (from before : List X) where
-    pub copied_none : before ≡ paste before 0 from 0
-    copied_none = paste-zero before 0 from
-
-    pub copied_more : (none : X) (i : ℕ) → i < length from → i < length before → set (paste before 0 from i) i (get_or from i none) ≡ paste before 0 from (i + 1)
-    copied_more none i h l =
-        let e : 0 + i ≡ i = omega arith in
-        ap (λ n. set (paste before 0 from i) n (get_or from i none)) (sym e)
-        ∙ paste-suc before 0 from i none (omega arith) h
-        ∙ ap (paste before 0 from) (sym (add-one i))
-
-    pub copied_all : (n : ℕ) → n ≤ length from → paste before 0 from n ≡ put 0 (take n from) before
-    copied_all n h = ap (λ k. take n from ++ drop (0 + k) before) (sym (length-take-le n from h))

@@ -21,11 +21,7 @@
 use streams::Streams;
 
 fn main(rt: HostRuntime) {
-    let streams = Streams {
-        input: rt.stdin(),
-        output: rt.stdout(),
-        errors: rt.stderr(),
-    };
+    let streams = Streams::of(&rt);
     if streams::has_no_argument(&rt, streams, b"usage: archive < LINES\n") {
         archive_commands::answer_lines(streams);
     }

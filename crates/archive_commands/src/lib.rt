@@ -1,12 +1,12 @@
 // Lines of input over one index, each answered as it ends: the commands add, remove, list, frames and trial.
 #![tactic(auto)]
 
-use answer::OWNER;
-use check::same;
-use command_words::lines::{LINES, NextLine};
-use command_words::{NaturalAt, PointAt, lines};
-use index::{Change, Entry, EntryOf, INDEX_CAPACITY, INDEX_LENGTH, OWNERS};
-use print::Buffer;
+use answer::Refusal;
+use command_words::{Words, lines};
+use index::{Entry, INDEX_CAPACITY, INDEX_LENGTH, OWNERS};
+use print::{Fault, Output, Point};
+use std::fmt;
+use std::fmt::Write;
 use streams::Streams;
 
 pub mod frame_search;
@@ -14,186 +14,87 @@ pub mod setting_trial;
 
 type Index = [i64; INDEX_LENGTH];
 
-// Between two entries of a list: whether one is printed, and the end of what is printed.
-#[derive(Clone, Copy)]
-struct ListState {
-    some: bool,
-    at: usize,
-}
-
 // Answers the lines of the input, over an index that begins empty.
 pub fn answer_lines(streams: Streams) {
     let mut index = [0i64; INDEX_LENGTH];
-    let mut block = io::large_buffer();
-    let mut store = io::large_buffer();
-    let mut out = io::large_buffer();
-    let mut state = lines::begin();
-    for _ in 0..LINES {
-        let NextLine::Line(line, after) = lines::next(streams, &mut block, &mut store, state, &out)
-        else {
-            return;
-        };
-        state = after;
-        state.at = answer(
-            &mut index,
-            lines::text(&block, &store, line),
-            streams,
-            &mut out,
-            after.at,
-        );
-    }
+    lines::answer_lines(streams, |line, out| answer(&mut index, line.text, out));
 }
 
 // The answer to a line, by its first word.
-fn answer(index: &mut Index, line: &[u8], streams: Streams, out: &mut Buffer, at: usize) -> usize {
-    let word = command_words::word(line, 0);
-    let next = command_words::after(line, 0);
-    if same(word, b"add") {
-        return add(index, line, next, streams, out, at);
+fn answer(index: &mut Index, line: &[u8], out: &mut Output) -> Result<(), Fault> {
+    let mut words = Words::of(line);
+    match words.word()? {
+        b"add" => add(index, words, out),
+        b"remove" => remove(index, words, out),
+        b"list" => list(index, words, out),
+        b"frames" => frame_search::frames(index, words, out),
+        b"trial" => setting_trial::trial(index, words, out),
+        _ => Err(Fault::Malformed),
     }
-    if same(word, b"remove") {
-        return remove(index, line, next, streams, out, at);
-    }
-    if same(line, b"list") {
-        return list(index, OWNERS, streams, out, at);
-    }
-    if same(word, b"list") {
-        return list_owner(index, line, next, streams, out, at);
-    }
-    if same(word, b"frames") {
-        return crate::frame_search::frames(index, line, next, streams, out, at);
-    }
-    if same(word, b"trial") {
-        return crate::setting_trial::trial(index, line, next, streams, out, at);
-    }
-    print::usage(streams, out, at)
 }
 
 // add OWNER NUMBER X Y Z
-fn add(
-    index: &mut [i64],
-    line: &[u8],
-    next: usize,
-    streams: Streams,
-    out: &mut Buffer,
-    at: usize,
-) -> usize {
-    let NaturalAt::Is(owner, number_at) = command_words::natural_at(line, next) else {
-        return print::usage(streams, out, at);
-    };
-    let NaturalAt::Is(number, point_at) = command_words::natural_at(line, number_at) else {
-        return print::usage(streams, out, at);
-    };
-    let PointAt::Is { x, y, z, next: end } = command_words::point_at(line, point_at) else {
-        return print::usage(streams, out, at);
-    };
-    if !command_words::is_over(line, end) {
-        return print::usage(streams, out, at);
-    }
-    changed(streams, out, at, htm::add(index, owner, number, x, y, z))
+fn add(index: &mut [i64], mut words: Words<'_>, out: &mut Output) -> Result<(), Fault> {
+    let owner = words.natural()?;
+    let number = words.natural()?;
+    let (x, y, z) = words.point()?;
+    words.end()?;
+    htm::add(index, owner, number, x, y, z)?;
+    out.write_str("ok\n")?;
+    Ok(())
 }
 
 // remove OWNER NUMBER
-fn remove(
-    index: &mut [i64],
-    line: &[u8],
-    next: usize,
-    streams: Streams,
-    out: &mut Buffer,
-    at: usize,
-) -> usize {
-    let NaturalAt::Is(owner, number_at) = command_words::natural_at(line, next) else {
-        return print::usage(streams, out, at);
-    };
-    let NaturalAt::Is(number, end) = command_words::natural_at(line, number_at) else {
-        return print::usage(streams, out, at);
-    };
-    if !command_words::is_over(line, end) {
-        return print::usage(streams, out, at);
-    }
-    changed(streams, out, at, htm::remove(index, owner, number))
+fn remove(index: &mut [i64], mut words: Words<'_>, out: &mut Output) -> Result<(), Fault> {
+    let owner = words.natural()?;
+    let number = words.natural()?;
+    words.end()?;
+    htm::remove(index, owner, number)?;
+    out.write_str("ok\n")?;
+    Ok(())
 }
 
-fn changed(streams: Streams, out: &mut Buffer, at: usize, answer: Change) -> usize {
-    match answer {
-        Change::Made => print::text(streams, out, at, b"ok\n"),
-        Change::Refused(n) => print::refused(streams, out, at, n),
+// list, list OWNER
+fn list(index: &[i64], mut words: Words<'_>, out: &mut Output) -> Result<(), Fault> {
+    if words.is_over() {
+        entries(index, None, out)?;
+        return Ok(());
     }
-}
-
-// list OWNER
-fn list_owner(
-    index: &[i64],
-    line: &[u8],
-    next: usize,
-    streams: Streams,
-    out: &mut Buffer,
-    at: usize,
-) -> usize {
-    let NaturalAt::Is(owner, end) = command_words::natural_at(line, next) else {
-        return print::usage(streams, out, at);
-    };
-    if !command_words::is_over(line, end) {
-        return print::usage(streams, out, at);
-    }
+    let owner = words.natural()?;
+    words.end()?;
     if OWNERS <= owner {
-        return print::refused(streams, out, at, OWNER);
+        return Err(Fault::Refused(Refusal::Owner));
     }
-    list(index, owner, streams, out, at)
+    entries(index, Some(owner), out)?;
+    Ok(())
 }
 
-// The entries of an owner in their order; those of both for OWNERS, which is no owner.
-fn list(index: &[i64], owner: u32, streams: Streams, out: &mut Buffer, at: usize) -> usize {
-    let mut listed = ListState {
-        some: false,
-        at: at,
-    };
+// The entries of an owner in their order, or those of both; `-` where there is none.
+fn entries(index: &[i64], owner: Option<u32>, out: &mut Output) -> fmt::Result {
+    let mut is_first = true;
+    // Kept: by place, as `index_entry` of the library gives an entry by its place, for C too.
     for place in 0..INDEX_CAPACITY {
-        let EntryOf::Gives(e) = htm::index_entry(index, place as u32) else {
-            return ended(streams, out, listed);
+        let Ok(Some(e)) = htm::index_entry(index, place as u32) else {
+            break;
         };
-        listed = list_entry(listed, e, owner, streams, out);
+        if owner.is_none_or(|o| o as i64 == e.owner) {
+            if !is_first {
+                out.write_str("|")?;
+            }
+            is_first = false;
+            entry(out, e)?;
+        }
     }
-    ended(streams, out, listed)
+    out.write_str(if is_first { "-\n" } else { "\n" })
 }
 
-// Prints an entry where it is one of the owner's.
-fn list_entry(
-    listed: ListState,
-    e: Entry,
-    owner: u32,
-    streams: Streams,
-    out: &mut Buffer,
-) -> ListState {
-    if owner < OWNERS && e.owner != owner as i64 {
-        return listed;
-    }
-    let at = if listed.some {
-        print::byte(streams, out, listed.at, b'|')
-    } else {
-        listed.at
-    };
-    ListState {
-        some: true,
-        at: entry(streams, out, at, e),
-    }
-}
-
-fn entry(streams: Streams, out: &mut Buffer, at: usize, e: Entry) -> usize {
-    let p = e.pointing;
-    let end = print::whole(streams, out, at, e.id, b' ');
-    let end = print::whole(streams, out, end, e.number, b' ');
-    let end = print::whole(streams, out, end, e.owner, b' ');
-    let end = print::whole(streams, out, end, p.x, b' ');
-    let end = print::whole(streams, out, end, p.y, b' ');
-    print::integer(streams, out, end, p.z)
-}
-
-// The end of a list: a line feed, after `-` where it has no entry.
-fn ended(streams: Streams, out: &mut Buffer, listed: ListState) -> usize {
-    if listed.some {
-        print::byte(streams, out, listed.at, b'\n')
-    } else {
-        print::text(streams, out, listed.at, b"-\n")
-    }
+fn entry(out: &mut Output, e: Entry) -> fmt::Result {
+    write!(
+        out,
+        "{} {} {} {}",
+        e.id,
+        e.number,
+        e.owner,
+        Point(e.pointing)
+    )
 }

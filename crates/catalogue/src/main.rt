@@ -3,21 +3,17 @@
 // feed is malformed. DEPTH is a decimal number from 1 to 12; where it is missing, is none or is not alone, one line says how to call it.
 #![tactic(auto)]
 
-use catalogue_stream::Argument;
 use streams::{Streams, WORD_BYTES};
 
 fn main(rt: HostRuntime) {
-    let streams = Streams {
-        input: rt.stdin(),
-        output: rt.stdout(),
-        errors: rt.stderr(),
-    };
+    let streams = Streams::of(&rt);
     let mut word = [0u8; WORD_BYTES];
-    let length = streams::argument(&rt, 1, &mut word);
-    let arguments = streams::argument_count(&rt);
-    let Argument::Depth(depth) = catalogue_stream::depth_in(&word[..length], arguments) else {
-        catalogue_stream::usage(streams);
-        return;
-    };
-    catalogue_stream::answer_lines(streams, depth);
+    let depth = streams::argument(&rt, 1, &mut word).and_then(|word| catalogue_stream::depth_in(
+        word,
+        streams::argument_count(&rt),
+    ));
+    match depth {
+        Some(depth) => catalogue_stream::answer_lines(streams, depth),
+        None => catalogue_stream::usage(streams),
+    }
 }

@@ -11,8 +11,8 @@ use lib.Dec.{leb, eqb, lit<}
 use lib.IntN.{ℤ}
 use lib.ListN.{length, drop, get_or, length-drop}
 use lib.Seq.{drop-cons, drop-drop, get_or-drop}
-use borrow.Author.Tests.{leb-true, leb-false, le-leb, lt-leb, eqb-true, eq-eqb, ne_eqb}
-use Rattle.algebra.proofs.Tests.{split, and_left, and_right, and_both, and_no_right}
+use borrow.Author.Tests.{leb-true, le-leb, eqb-true, eq-eqb, ne_eqb}
+use Rattle.algebra.proofs.Tests.{split, and_left, and_right, and_no_right}
 use Rattle.answer.specs.Answer as answer
 use Rattle.answer.specs.Answer.{Answer, refused, gives, check, then, with_value}
 use Rattle.vector.specs.declared.Vec3.{Vec3}
@@ -39,12 +39,6 @@ digit_inside n l k e =
     let b = get_or l k 0 in
     let low = leb-true digit0 b (and_left (leb digit0 b) (leb b (digit0 + n)) e) in
     (inside l k (omega arith), low, leb-true b (digit0 + n) (and_right (leb digit0 b) (leb b (digit0 + n)) e))
-
--- a digit by its value
-pub by_value : (n b : ℕ) → digit0 ≤ b → leb (b - digit0) n ≡ is_digit_to n b
-by_value n b h = split (leb (b - digit0) n)
-    (λ t. t ∙ sym (and_both (le-leb digit0 b h) (le-leb b (digit0 + n) (omega (arith, leb-true (b - digit0) n t)))))
-    (λ t. t ∙ sym (and_no_right (leb digit0 b) (lt-leb b (digit0 + n) (omega (arith, leb-false (b - digit0) n t)))))
 
 -- ---- the end
 
@@ -83,9 +77,6 @@ pub record Reading (w k : ℕ) (l : List ℕ) (n p at left : ℕ) : Type 0 where
   pub most : p * 10 ^ left ≤ 10 ^ 7
   pub some : 1 ≤ p
   pub size : n < 2 * p
-
-pub none_read : (w k : ℕ) (l : List ℕ) → w ≤ 1 → Reading w k l w 1 k 7
-none_read w k l h = record { digits = refl; power = omega arith; place = refl; most = omega arith; some = omega arith; size = omega arith }
 
 module _ (w k : ℕ) (l : List ℕ) (n p at left : ℕ) (r : Reading w k l n p at left) where
   pub power_small : p ≤ 10 ^ 7
@@ -140,10 +131,9 @@ module _ (w k : ℕ) (l : List ℕ) (n p at : ℕ) where
         size = omega (arith, r.size, b.1, b.2);
       }
 
-  pub one_more : (left : ℕ) → 0 < left → Reading w k l n p at left → is_digit_to 9 (get_or l at 0) ≡ true
-      → Reading w k l (n * 10 + (get_or l at 0 - digit0)) (p * 10) (at + 1) (left - 1)
-  one_more zero h r e = absurd (omega arith)
-  one_more (suc left) h r e = subst (Reading w k l (n * 10 + (get_or l at 0 - digit0)) (p * 10) (at + 1)) (omega arith) (digit_more left r e)
+  pub one_more : (left rest : ℕ) → left ≡ rest + 1 → Reading w k l n p at left → is_digit_to 9 (get_or l at 0) ≡ true
+      → Reading w k l (n * 10 + (get_or l at 0 - digit0)) (p * 10) (at + 1) rest
+  one_more left rest h r e = digit_more rest (subst (Reading w k l n p at) (omega arith) r) e
 
 -- ---- a decimal, by the bytes at its beginning
 

@@ -3,24 +3,24 @@
 #![tactic(auto)]
 
 ghost use Rattle.std.specs.Prelude.{◌≡◌, ◌*◌, ◌/◌, ◌^◌, ◌≤◌, ◌<◌, get_or, drop};
+ghost use Rattle.answer.specs.Calls.{answer_of};
 ghost use Rattle.algebra.proofs.Sizes.{Upto};
 ghost use Rattle.vector.specs.Numbers.{Kℕ, signed};
-ghost use Rattle.vector.specs.Answers.{vector_given};
 ghost use Rattle.catalogue_line.specs.Lines.{is_digit_to, unsigned_in, decimal_in, next_in, is_end, pointing_in};
 ghost use Rattle.catalogue_line.specs.Reading.{Reads, read_given, valued};
 
-use answer::LINE;
+use answer::Refusal;
 use limits::UNSIGNED_K;
-use vector::{Vec3, VectorOf};
+use vector::Vec3;
 
 // The most digits of a decimal.
 const DIGITS: u32 = 7;
 
-// The value of a decimal times K, and the position after it; or there is no decimal.
+// The value of a decimal times K, and the position after it.
 #[derive(Clone, Copy)]
-pub enum ReadAt {
-    Is(i64, usize),
-    Not,
+pub struct ReadAt {
+    pub value: i64,
+    pub next: usize,
 }
 
 // The number of a decimal's digits, with the whole part before them, their power of ten, and the position after them.
@@ -35,7 +35,7 @@ pub struct Fraction {
 fn byte_at(line: &[u8], at: usize) -> u8
     ensures { result ≡ get_or line.now at 0 }
 {
-    if at < line.len() { line[at] } else { 0 }
+    line.get(at).copied().unwrap_or(0)
 }
 
 // Whether a byte is a digit from 0 to `most`.
@@ -53,8 +53,7 @@ fn digits(line: &[u8], at: usize, whole: u64) -> Fraction
     let mut number = whole;
     let mut power: u64 = 1;
     let mut next = at;
-    let mut left = DIGITS;
-    while 0 < left {
+    for _ in 0..DIGITS {
         let b = byte_at(line, next);
         if !is_digit(b, 9) {
             break;
@@ -62,12 +61,11 @@ fn digits(line: &[u8], at: usize, whole: u64) -> Fraction
         number = number * 10 + (b - b'0') as u64;
         power *= 10;
         next += 1;
-        left -= 1;
     }
     Fraction {
-        number: number,
-        power: power,
-        next: next,
+        number,
+        power,
+        next,
     }
 }
 
@@ -81,25 +79,28 @@ fn scaled(negative: bool, number: u64, power: u64) -> i64
 }
 
 // The decimal at a position, after its sign: a 0 or 1, a point, one to seven digits.
-fn unsigned_at(line: &[u8], at: usize, negative: bool) -> ReadAt
+fn unsigned_at(line: &[u8], at: usize, negative: bool) -> Option<ReadAt>
     ensures { read_given line.now result ≡ valued (unsigned_in negative (drop at line.now)) }
 {
     let b = byte_at(line, at);
     if !is_digit(b, 1) {
-        return ReadAt::Not;
+        return None;
     }
     if byte_at(line, at + 1) != b'.' {
-        return ReadAt::Not;
+        return None;
     }
     let d = digits(line, at + 2, (b - b'0') as u64);
     if d.next == at + 2 {
-        return ReadAt::Not;
+        return None;
     }
-    ReadAt::Is(scaled(negative, d.number, d.power), d.next)
+    Some(ReadAt {
+        value: scaled(negative, d.number, d.power),
+        next: d.next,
+    })
 }
 
 // The decimal at a position.
-fn decimal_at(line: &[u8], at: usize) -> ReadAt
+fn decimal_at(line: &[u8], at: usize) -> Option<ReadAt>
     ensures { read_given line.now result ≡ valued (decimal_in (drop at line.now)) }
 {
     if byte_at(line, at) == b'-' {
@@ -109,13 +110,13 @@ fn decimal_at(line: &[u8], at: usize) -> ReadAt
 }
 
 // A blank at a position, and the decimal after it.
-fn next_at(line: &[u8], at: usize) -> ReadAt
+fn next_at(line: &[u8], at: usize) -> Option<ReadAt>
     ensures { read_given line.now result ≡ valued (next_in (drop at line.now)) }
 {
     if byte_at(line, at) == b' ' {
         return decimal_at(line, at + 1);
     }
-    ReadAt::Not
+    None
 }
 
 // Whether one line feed is all that is left.
@@ -129,20 +130,24 @@ fn ends_at(line: &[u8], at: usize) -> bool
 }
 
 // The vector of whole numbers that a line stands for, its line feed included, or the refusal 13.
-pub fn pointing_in(line: &[u8]) -> VectorOf
-    ensures { vector_given result ≡ pointing_in line.now }
+pub fn pointing_in(line: &[u8]) -> Result<Vec3, Refusal>
+    ensures { answer_of result ≡ pointing_in line.now }
 {
-    let ReadAt::Is(x, after_x) = decimal_at(line, 0) else {
-        return VectorOf::Refused(LINE);
+    let Some(x) = decimal_at(line, 0) else {
+        return Err(Refusal::Line);
     };
-    let ReadAt::Is(y, after_y) = next_at(line, after_x) else {
-        return VectorOf::Refused(LINE);
+    let Some(y) = next_at(line, x.next) else {
+        return Err(Refusal::Line);
     };
-    let ReadAt::Is(z, after_z) = next_at(line, after_y) else {
-        return VectorOf::Refused(LINE);
+    let Some(z) = next_at(line, y.next) else {
+        return Err(Refusal::Line);
     };
-    if !ends_at(line, after_z) {
-        return VectorOf::Refused(LINE);
+    if !ends_at(line, z.next) {
+        return Err(Refusal::Line);
     }
-    VectorOf::Gives(Vec3 { x: x, y: y, z: z })
+    Ok(Vec3 {
+        x: x.value,
+        y: y.value,
+        z: z.value,
+    })
 }

@@ -3,65 +3,33 @@
 
 ghost use Rattle.catalogue_stream.specs.Argument.{DepthInRange};
 
-use command_words::lines::{LINES, NextLine};
-use command_words::{NaturalAt, lines};
-use print::Buffer;
+use command_words::{Words, lines};
 use streams::Streams;
 
-// The program's argument: a depth, or no depth.
-#[derive(Clone, Copy)]
-pub enum Argument {
-    Depth(u32),
-    Not,
-}
-
 // The depth in the first argument: a number from 1 to 12, alone in its word. The program's name is counted with the arguments, and no other may follow.
-pub fn depth_in(word: &[u8], arguments: usize) -> Argument
+pub fn depth_in(word: &[u8], arguments: usize) -> Option<u32>
     ensures { DepthInRange result }
 {
-    let NaturalAt::Is(depth, end) = command_words::natural_at(word, 0) else {
-        return Argument::Not;
-    };
-    if !command_words::is_over(word, end) {
-        return Argument::Not;
+    let mut words = Words::of(word);
+    let depth = words.natural().ok()?;
+    words.end().ok()?;
+    if arguments == 2 && limits::is_depth(depth) {
+        Some(depth)
+    } else {
+        None
     }
-    if arguments != 2 {
-        return Argument::Not;
-    }
-    if limits::is_depth(depth) {
-        return Argument::Depth(depth);
-    }
-    Argument::Not
 }
 
 // How the program is called.
 pub fn usage(streams: Streams) {
-    streams::write(streams, b"usage: catalogue DEPTH < LINES\n");
+    streams.write(b"usage: catalogue DEPTH < LINES\n");
 }
 
-// Answers the lines of the input.
+// Answers the lines of the input, each with its line feed.
 pub fn answer_lines(streams: Streams, depth: u32) {
-    let mut block = io::large_buffer();
-    let mut store = io::large_buffer();
-    let mut out = io::large_buffer();
-    let mut state = lines::begin();
-    for _ in 0..LINES {
-        let NextLine::Line(line, after) = lines::next(streams, &mut block, &mut store, state, &out)
-        else {
-            return;
-        };
-        state = after;
-        state.at = answer(
-            lines::with_feed(&block, &store, line),
-            depth,
-            streams,
-            &mut out,
-            after.at,
-        );
-    }
-}
-
-// The answer to a line, its line feed included.
-fn answer(line: &[u8], depth: u32, streams: Streams, out: &mut Buffer, at: usize) -> usize {
-    print::located(streams, out, at, htm::locate_line(line, depth))
+    lines::answer_lines(streams, |line, out| {
+        let id = htm::locate_line(line.with_feed, depth)?;
+        out.located(id)?;
+        Ok(())
+    });
 }

@@ -1,12 +1,13 @@
 // Anchors: a halfspace may be settled for every trixel close to a trixel's middle. specs/Anchor defines settled and close.
-ghost use Rattle.std.specs.Prelude.{◌≡◌, ◌+◌, ◌*◌, ◌≤◌, ◌^◌, length, nat_abs, ◌-ℤ◌};
-ghost use Rattle.classify_active.specs.Anchor.{IsAnchor, anchor_in, close_to, settled_by};
+ghost use Rattle.std.specs.Prelude.{◌≡◌, ◌+◌, ◌*◌, ◌≤◌, ◌^◌, nat_abs, ◌-ℤ◌};
+ghost use Rattle.classify_active.specs.Anchor.{close_to, settled_by};
 ghost use Rattle.algebra.proofs.Sizes.{Upto};
 ghost use Rattle.vector.specs.Numbers.{Kℕ};
 ghost use Rattle.vector.proofs.Sizes.{Small};
 ghost use Rattle.classify_prepared.specs.Measures.{SoundHalfspace};
 ghost use Rattle.classify_cap.specs.Middle.{IsBoundingCap};
 
+use crate::anchors::Anchor;
 use classify::Class;
 use classify_cap::BoundingCap;
 use classify_prepared::PreparedHalfspace;
@@ -20,70 +21,35 @@ const NEVER: i64 = 17592186044416;
 // Half of it: the margin of a clearance up to here is still below it.
 const WIDEST_CLEARANCE: i64 = NEVER / 2;
 
-// An anchor beside which halfspaces are settled: a middle b, E there as `reach`, and how far beyond it a halfspace must be.
-#[derive(Clone, Copy)]
-pub struct Anchor {
-    pub b: Vec3,
-    pub reach: i64,
-    pub margin: i64,
-}
-
 // The anchor at the middle of t. The margin is seven eighths of the clearance: a trixel below has half the clearance at most, and the rest is left for steps.
-pub fn anchor_of(t: Trixel, m: BoundingCap) -> Anchor
-    requires { IsBoundingCap t m }
-    ensures { IsAnchor result }
+pub fn anchor_of(t: &Trixel, m: BoundingCap) -> Anchor
+    requires { IsBoundingCap t.now m }
 {
     let b = m.b;
-    if !m.ahead {
+    let Some(c) = m.ahead else {
         return Anchor {
-            b: b,
+            b,
             reach: 0,
             margin: NEVER,
         };
-    }
-    if m.clearance <= WIDEST_CLEARANCE {
+    };
+    if c.clearance <= WIDEST_CLEARANCE {
         return Anchor {
-            b: b,
-            reach: m.reach,
-            margin: m.clearance - m.clearance / 8,
+            b,
+            reach: c.reach,
+            margin: c.clearance - c.clearance / 8,
         };
     }
     Anchor {
-        b: b,
-        reach: m.reach,
+        b,
+        reach: c.reach,
         margin: NEVER,
     }
-}
-
-// The anchor of five numbers.
-pub fn anchor_in(numbers: &[i64]) -> Anchor
-    requires { length numbers.now ≡ 5 }
-    ensures { result ≡ anchor_in numbers.now }
-{
-    Anchor {
-        b: vector_products::vec_in(numbers, 0),
-        reach: numbers[3],
-        margin: numbers[4],
-    }
-}
-
-// Stores the five numbers of an anchor.
-pub fn store_anchor(numbers: &mut [i64], r: Anchor)
-    requires { length numbers.old ≡ 5 }
-    ensures { anchor_in numbers.new ≡ r }
-{
-    let b = r.b;
-    let reach = r.reach;
-    let margin = r.margin;
-    vector_products::store(numbers, 0, b);
-    numbers[3] = reach;
-    numbers[4] = margin;
 }
 
 // The class beside r for the halfspace that q was prepared from; partial where it is active.
 pub fn settled_class(q: PreparedHalfspace, r: Anchor) -> Class
     requires sound_halfspace { SoundHalfspace q }
-    requires anchor { IsAnchor r }
     ensures { result ≡ settled_by q r }
 {
     let f = q.f;
@@ -118,16 +84,13 @@ fn steps(a: Vec3, b: Vec3) -> u64
 
 // Whether the middle of t is ahead of its rays and close to r: what is beyond the margin of r is beyond the clearance of m, by K for each step and 2K
 // for each of E.
-pub fn is_close(r: Anchor, t: Trixel, m: BoundingCap) -> bool
-    requires anchor { IsAnchor r }
-    requires bounding_cap { IsBoundingCap t m }
+pub fn is_close(r: Anchor, t: &Trixel, m: BoundingCap) -> bool
+    requires bounding_cap { IsBoundingCap t.now m }
     ensures { result ≡ close_to r m }
 {
-    if !m.ahead {
+    let Some(c) = m.ahead else {
         return false;
-    }
-    let b = m.b;
-    let p = r.b;
-    let n = steps(b, p) + 2 * step(m.reach, r.reach);
-    m.clearance + (K * n) as i64 <= r.margin
+    };
+    let n = steps(m.b, r.b) + 2 * step(c.reach, r.reach);
+    c.clearance + (K * n) as i64 <= r.margin
 }

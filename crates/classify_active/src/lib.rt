@@ -1,58 +1,42 @@
-// The active halfspaces of a region beside a trixel, in two lists of their own, and the class of a trixel by them. specs/Active defines them.
+// The active halfspaces of a region beside a trixel, in lists of their own, and the class of a trixel by them. specs/Active defines them.
 #![tactic(auto)]
 
-ghost use Rattle.std.specs.Prelude.{◌≡◌, true, ◌+◌, ◌*◌, ◌≤◌, ◌<◌, length, get_or, drop};
+ghost use Rattle.std.specs.Prelude.{◌≡◌, true, ◌≤◌, ◌<◌, length, IfOk};
 ghost use Rattle.mesh_trixels.specs.Corners.{SmallTrixel};
 ghost use Rattle.classify_prepared.specs.Measures.{RaysOf};
 ghost use Rattle.classify_cap.specs.Middle.{IsBoundingCap};
-ghost use Rattle.classify_halfspace.specs.Halfspaces.{NormalsIn};
-ghost use Rattle.classify_active.specs.Anchor.{IsAnchor, anchor_in};
-ghost use Rattle.classify_prepared.specs.PreparedLists.{count_in, Ready, Classed};
-ghost use Rattle.classify_active.specs.Active.{ActivePrepared, ActiveListsIn, ByActive, active_count, SomeConvex, ActiveConvex, active_stored_count, active_stored_list, SomeRegionSearch, RegionSearchOn};
+ghost use Rattle.classify_prepared.specs.PreparedLists.{Ready, ReadyConvex};
+ghost use Rattle.classify_prepared.specs.PreparedRegions.{halfspaces_in, ends_in, ReadyRegion, ClassedBy};
+ghost use Rattle.classify_active.specs.Active.{ActivePrepared, ActiveListsIn, ByActive, ActiveConvex, AddedConvex, active_stored_count, active_stored_list};
 
-use crate::anchor::Anchor;
+use crate::anchors::Anchor;
 use classify::Class;
 use classify_cap::BoundingCap;
-use classify_prepared::lists::{ConvexEnds, PreparedHalfspaces};
+use classify_prepared::prepared_region::{HalfspaceLists, PreparedRegion};
 use classify_prepared::{PreparedHalfspace, TrixelRays};
 use mesh::Trixel;
+use vector::Vec3;
 
 pub mod anchor;
+pub mod anchors;
 
-// Active halfspaces beside an anchor, at most 32: seven numbers each, with the anchor behind them, five numbers; and the ends of their convexes, with the count
-// behind them.
+// So many active halfspaces are stored at most.
 const ACTIVE_CAPACITY: usize = 32;
 
-pub const ACTIVE_NUMBERS: usize = 7 * ACTIVE_CAPACITY + 5;
-
-pub const ACTIVE_ENDS: usize = ACTIVE_CAPACITY + 1;
-
-// The anchor begins at this number of the list.
-const ANCHOR_AT: usize = 7 * ACTIVE_CAPACITY;
-
-pub type ActiveHalfspaces = [i64; ACTIVE_NUMBERS];
-
-pub type ActiveEnds = [u64; ACTIVE_ENDS];
-
-// The result for a convex: it is outside, or this many halfspaces are stored now, or there are too many.
-#[derive(Clone, Copy)]
-pub enum ActiveResult {
-    Outside,
-    Active(usize),
-    Crowded,
+// The halfspaces that are active beside an anchor; none where none are known.
+#[derive(Drop)]
+pub struct ActiveHalfspaces {
+    pub lists: HalfspaceLists<ACTIVE_CAPACITY, ACTIVE_CAPACITY>,
+    pub anchor: Anchor,
 }
 
-// The state of the search for active halfspaces: whether it goes on, and how many halfspaces and convexes are stored.
+// The active halfspaces of a convex are more than are stored, or there are none: it is full.
 #[derive(Clone, Copy)]
-pub struct ActiveCounts {
-    pub more: bool,
-    pub halfspaces: usize,
-    pub convexes: usize,
-}
+pub struct NotFew;
 
-// A halfspace of class c is stored as number w where it is active, that is partial.
-fn store_active(active: &mut [i64], w: usize, q: PreparedHalfspace, c: Class) -> usize
-    requires { 7 * w + 7 ≤ length active.old }
+// A halfspace of class c is stored as number w where it is active, that is partial. The result is how many are stored then.
+fn store_active(active: &mut [PreparedHalfspace], w: usize, q: PreparedHalfspace, c: Class) -> usize
+    requires { w < length active.old }
     ensures value { result ≡ active_stored_count c w }
     ensures active_after { active.new ≡ active_stored_list c w q active.old }
 {
@@ -60,308 +44,199 @@ fn store_active(active: &mut [i64], w: usize, q: PreparedHalfspace, c: Class) ->
         Class::Outside => w,
         Class::Full => w,
         Class::Partial => {
-            classify_prepared::lists::store(active, 7 * w, q);
+            active[w] = q;
             w + 1
         }
     }
 }
 
-// The active halfspaces of a convex, stored from number w on; `most` are the most that are stored.
+// The active halfspaces of a convex, stored from number w on; `most` are the most that are stored. The result is how many are stored then, or None where
+// the convex is outside.
 fn active_in_convex(
     r: Anchor,
-    prepared: &[i64],
-    from: usize,
-    end: usize,
-    active: &mut [i64],
+    convex: &[PreparedHalfspace],
+    active: &mut [PreparedHalfspace],
     w: usize,
     most: usize,
-) -> ActiveResult
-    requires anchor { IsAnchor r × (w ≤ 32) × (7 * 32 ≤ length active.old) × (most ≤ 32) }
-    requires some_convex { SomeConvex prepared.now from end }
-    ensures { ActiveConvex r prepared.now from end w active.old active.new result }
+) -> Result<Option<usize>, NotFew>
+    requires few { (w ≤ 32) × (length active.old ≡ 32) × (most ≤ 32) }
+    requires ready { ReadyConvex convex.now }
+    ensures { ActiveConvex r convex.now w active.old active.new result }
 {
-    let mut i = from;
     let mut m = w;
-    while i < end {
+    for q in convex {
         if most <= m {
-            return ActiveResult::Crowded;
+            return Err(NotFew);
         }
-        let q = classify_prepared::lists::prepared_at(prepared, 7 * i);
-        let c = crate::anchor::settled_class(q, r);
-        if classify_region::is_outside(c) {
-            return ActiveResult::Outside;
+        let c = crate::anchor::settled_class(*q, r);
+        if c == Class::Outside {
+            return Ok(None);
         }
-        m = store_active(active, m, q, c);
-        i += 1;
+        m = store_active(active, m, *q, c);
     }
-    ActiveResult::Active(m)
+    Ok(Some(m))
 }
 
-// Convex number k, whose first halfspace is number i: its active halfspaces and its end are stored, or nothing where it is outside. The search
-// goes on unless they are too many, or there are none.
+// The active halfspaces of a convex and its end are stored, or nothing where it is outside.
 fn add_convex(
     r: Anchor,
-    prepared: &[i64],
-    ends: &[u64],
-    i: usize,
-    k: usize,
-    active: &mut [i64],
-    stops: &mut [u64],
-    s: ActiveCounts,
+    convex: &[PreparedHalfspace],
+    active: &mut HalfspaceLists<ACTIVE_CAPACITY, ACTIVE_CAPACITY>,
     most: usize,
-) -> ActiveCounts
-    requires anchor { IsAnchor r × (most ≤ 32) }
-    requires some_region_search { SomeRegionSearch r prepared.now ends.now i k s active.old stops.old }
-    ensures { RegionSearchOn r prepared.now ends.now i k s active.old stops.old result
-        active.new stops.new }
+) -> Result<(), NotFew>
+    requires few { most ≤ 32 }
+    requires ready { ReadyConvex convex.now × ReadyRegion active.old }
+    ensures { IfOk result (λ _. AddedConvex r convex.now active.old active.new) }
 {
-    let w = s.halfspaces;
-    let c = s.convexes;
-    let o = active_in_convex(r, prepared, i, ends[k] as usize, active, w, most);
-    match o {
-        ActiveResult::Outside => ActiveCounts {
-            more: true,
-            halfspaces: w,
-            convexes: c,
-        },
-        ActiveResult::Crowded => ActiveCounts {
-            more: false,
-            halfspaces: 0,
-            convexes: 0,
-        },
-        ActiveResult::Active(m) => {
-            if m <= w {
-                return ActiveCounts {
-                    more: false,
-                    halfspaces: 0,
-                    convexes: 0,
-                };
-            }
-            stops[c] = m as u64;
-            ActiveCounts {
-                more: true,
-                halfspaces: m,
-                convexes: c + 1,
-            }
-        }
+    let w = active.count;
+    let Some(m) = active_in_convex(r, convex, &mut active.halfspaces, w, most)? else {
+        return Ok(());
+    };
+    if m <= w {
+        return Err(NotFew);
     }
+    active.ends[active.convexes] = m;
+    active.convexes += 1;
+    active.count = m;
+    Ok(())
 }
 
-// The active halfspaces of a region beside r, and the ends of their convexes; how many there are, or 0 where they are more than `most`.
+// The active halfspaces of a region beside r, where each convex has some or is outside, and they are at most `most`.
 fn active_in_region(
     r: Anchor,
-    prepared: &[i64],
-    ends: &[u64],
-    n: usize,
-    active: &mut [i64],
-    stops: &mut [u64],
+    halfspaces: &[PreparedHalfspace],
+    ends: &[usize],
+    active: &mut HalfspaceLists<ACTIVE_CAPACITY, ACTIVE_CAPACITY>,
     most: usize,
-) -> usize
-    requires anchor { IsAnchor r × (7 * 32 ≤ length active.old) × (32 ≤ length stops.old) × (most ≤ 32) }
-    requires ready { Ready prepared.now ends.now n }
-    ensures { 0 < result → ActivePrepared prepared.now ends.now n active.new stops.new result r }
+) -> Result<(), NotFew>
+    requires none { (active.old.count ≡ 0) × (active.old.convexes ≡ 0) × (most ≤ 32) }
+    requires ready { Ready halfspaces.now ends.now }
+    ensures { IfOk result (λ _. ActivePrepared halfspaces.now ends.now active.new r) }
 {
-    let mut s = ActiveCounts {
-        more: true,
-        halfspaces: 0,
-        convexes: 0,
-    };
-    let mut i: usize = 0;
-    let mut k: usize = 0;
-    while i < n {
-        s = add_convex(r, prepared, ends, i, k, active, stops, s, most);
-        if !s.more {
-            return 0;
-        }
-        i = ends[k] as usize;
-        k += 1;
+    let mut start = 0;
+    for &end in ends {
+        add_convex(r, &halfspaces[start..end], active, most)?;
+        start = end;
     }
-    s.halfspaces
+    Ok(())
 }
-
-// From this many halfspaces on, a third of them is the capacity or more.
-const THREE_CAPACITIES: usize = 3 * ACTIVE_CAPACITY;
 
 // How many active halfspaces of n are stored at most: a third, and at most 32. Where more are active it is better to look again below.
 fn active_limit(n: usize) -> usize
     ensures { result ≤ 32 }
 {
-    if n < THREE_CAPACITIES {
-        n / 3
-    } else {
-        ACTIVE_CAPACITY
+    (n / 3).min(ACTIVE_CAPACITY)
+}
+
+// No halfspaces are known to be active.
+pub fn none_active() -> ActiveHalfspaces
+    ensures { result.lists.count ≡ 0 }
+{
+    ActiveHalfspaces {
+        lists: HalfspaceLists {
+            halfspaces: [classify_prepared::NO_HALFSPACE; ACTIVE_CAPACITY],
+            ends: [0; ACTIVE_CAPACITY],
+            count: 0,
+            convexes: 0,
+        },
+        anchor: Anchor {
+            b: Vec3 { x: 0, y: 0, z: 0 },
+            reach: 0,
+            margin: 0,
+        },
     }
 }
 
-// Stores an anchor behind the numbers of active halfspaces.
-fn store_anchor_behind(active: &mut [i64], r: Anchor)
-    requires { length active.old ≡ 229 }
-    ensures { anchor_in (drop 224 active.new) ≡ r }
-{
-    crate::anchor::store_anchor(&mut active[ANCHOR_AT..], r);
-}
-
-// The active halfspaces of a region beside r, which stands behind them, and their count, which is 0 where none are known.
-fn active_beside(
-    r: Anchor,
-    prepared: &PreparedHalfspaces,
-    ends: &ConvexEnds,
-    n: usize,
-    active: &mut [i64],
-    stops: &mut [u64],
-)
-    requires anchor { IsAnchor r × (anchor_in (drop 224 active.old) ≡ r) × (length active.old ≡ 229) × (length stops.old ≡ 33)
-        × (n ≡ count_in ends.now) }
-    requires ready { Ready prepared.now ends.now (count_in ends.now) }
-    ensures { ActiveListsIn prepared.now ends.now active.new stops.new }
-{
-    let w = active_in_region(
-        r,
-        prepared,
-        ends,
-        n,
-        &mut active[..ANCHOR_AT],
-        &mut stops[..ACTIVE_CAPACITY],
-        active_limit(n),
-    );
-    stops[ACTIVE_CAPACITY] = w as u64;
-}
-
-// The active halfspaces beside the middle of t.
+// The active halfspaces beside the middle of t. They are stored where they are used, since a level of the cutting keeps them on the stack.
 pub fn find_active(
-    t: Trixel,
+    t: &Trixel,
     s: TrixelRays,
-    prepared: &PreparedHalfspaces,
-    ends: &ConvexEnds,
+    region: &PreparedRegion,
     active: &mut ActiveHalfspaces,
-    stops: &mut ActiveEnds,
 )
-    requires small_trixel { SmallTrixel t × RaysOf t s }
-    requires ready { Ready prepared.now ends.now (count_in ends.now) }
-    ensures { ActiveListsIn prepared.now ends.now active.new stops.new }
+    requires small_trixel { SmallTrixel t.now × RaysOf t.now s }
+    requires ready { ReadyRegion region.now }
+    ensures { ActiveListsIn region.now active.new }
 {
     let r = crate::anchor::anchor_of(t, classify_cap::cap_of(t, classify_cap::middle_of(t), s));
-    store_anchor_behind(active, r);
-    active_beside(
+    active.anchor = r;
+    active.lists.count = 0;
+    active.lists.convexes = 0;
+    let found = active_in_region(
         r,
-        prepared,
-        ends,
-        classify_prepared::lists::count(ends),
-        active,
-        stops,
+        region.halfspaces(),
+        region.ends(),
+        &mut active.lists,
+        active_limit(region.count),
     );
-}
-
-// How many halfspaces are known to be active.
-fn active_count(stops: &ActiveEnds) -> usize
-    ensures { result ≡ active_count stops.now }
-{
-    stops[ACTIVE_CAPACITY] as usize
-}
-
-// The anchor that stands behind the numbers of active halfspaces.
-fn anchor_behind(active: &[i64]) -> Anchor
-    requires { length active.now ≡ 229 }
-    ensures { result ≡ anchor_in (drop 224 active.now) }
-{
-    crate::anchor::anchor_in(&active[ANCHOR_AT..])
+    if found.is_err() {
+        active.lists.count = 0;
+        active.lists.convexes = 0;
+    }
 }
 
 // Whether the class of t is that by the active halfspaces: there are some, and t is close to their anchor.
-fn by_active(
-    t: Trixel,
-    s: TrixelRays,
-    m: BoundingCap,
-    active: &ActiveHalfspaces,
-    stops: &ActiveEnds,
-) -> bool
-    requires rays_of { RaysOf t s × IsBoundingCap t m }
-    requires anchor { IsAnchor (anchor_in (drop 224 active.now)) }
-    ensures { result ≡ true → ByActive t m active.now stops.now }
+fn by_active(t: &Trixel, s: TrixelRays, m: BoundingCap, active: &ActiveHalfspaces) -> bool
+    requires rays_of { RaysOf t.now s × IsBoundingCap t.now m }
+    ensures { result ≡ true → ByActive t.now m active.now }
 {
-    if active_count(stops) == 0 {
-        return false;
-    }
-    if !s.oriented {
-        return false;
-    }
-    crate::anchor::is_close(anchor_behind(active), t, m)
+    0 < active.lists.count && s.oriented && crate::anchor::is_close(active.anchor, t, m)
 }
 
-// The class of a trixel, whose numbers stand in `ps`, for the region that was prepared to `prepared` and `ends`: by the active halfspaces
-// beside an anchor where there are some and the trixel is close.
+// The class of a trixel for a region: by the active halfspaces beside an anchor where there are some and the trixel is close.
 fn class_by_caps(
-    t: Trixel,
+    t: &Trixel,
     s: TrixelRays,
-    ps: &[i64],
-    prepared: &PreparedHalfspaces,
-    ends: &ConvexEnds,
+    region: &PreparedRegion,
     active: &ActiveHalfspaces,
-    stops: &ActiveEnds,
 ) -> Class
-    requires rays_of { RaysOf t s × NormalsIn t ps.now }
-    requires ready { Ready prepared.now ends.now (count_in ends.now) }
-    requires active_lists_in { ActiveListsIn prepared.now ends.now active.now stops.now }
-    ensures { Classed t prepared.now ends.now (count_in ends.now) result }
+    requires rays_of { RaysOf t.now s × SmallTrixel t.now }
+    requires ready { ReadyRegion region.now }
+    requires active_lists_in { ActiveListsIn region.now active.now }
+    ensures { ClassedBy t.now region.now result }
 {
     let m = classify_cap::cap_of(t, classify_cap::middle_of(t), s);
-    if by_active(t, s, m, active, stops) {
-        return classify_region::classify_convexes(t, s, m, ps, active, stops, active_count(stops));
+    if by_active(t, s, m, active) {
+        return classify_region::classify_convexes(
+            t,
+            s,
+            m,
+            active.lists.halfspaces(),
+            active.lists.ends(),
+        );
     }
-    let n = classify_prepared::lists::count(ends);
-    classify_region::classify_convexes(t, s, m, ps, prepared, ends, n)
+    classify_region::classify_convexes(t, s, m, region.halfspaces(), region.ends())
 }
 
 // At most so many halfspaces are few; more are many.
 const FEW: usize = 8;
 
-// Whether a region of n halfspaces is one convex of few.
-fn are_few(ends: &ConvexEnds, n: usize) -> bool
-    ensures { result ≡ true → (0 < n) × (n ≡ get_or ends.now 0 0) }
+// Whether a region is one convex of few halfspaces.
+fn are_few(region: &PreparedRegion) -> bool
+    ensures { result ≡ true → length (ends_in region.now) ≡ 1 }
 {
-    if n == 0 {
-        return false;
-    }
-    if FEW < n {
-        return false;
-    }
-    if ends[0] as usize != n {
-        return false;
-    }
-    true
+    region.convexes == 1 && region.count <= FEW
 }
 
-// The same: by the rays first where the region is one convex of few halfspaces.
+// The class of a trixel for a region: by the rays first where the region is one convex of few halfspaces.
 pub fn class_beside(
-    t: Trixel,
+    t: &Trixel,
     s: TrixelRays,
-    ps: &[i64],
-    prepared: &PreparedHalfspaces,
-    ends: &ConvexEnds,
+    region: &PreparedRegion,
     active: &ActiveHalfspaces,
-    stops: &ActiveEnds,
 ) -> Class
-    requires rays_of { RaysOf t s × NormalsIn t ps.now }
-    requires ready { Ready prepared.now ends.now (count_in ends.now) }
-    requires active_lists_in { ActiveListsIn prepared.now ends.now active.now stops.now }
-    ensures { Classed t prepared.now ends.now (count_in ends.now) result }
+    requires rays_of { RaysOf t.now s × SmallTrixel t.now }
+    requires ready { ReadyRegion region.now }
+    requires active_lists_in { ActiveListsIn region.now active.now }
+    ensures { ClassedBy t.now region.now result }
 {
-    let n = classify_prepared::lists::count(ends);
-    if are_few(ends, n) {
-        return classify_region::classify_few(t, s, ps, prepared, ends, n);
+    if are_few(region) {
+        return classify_region::classify_few(t, s, region.halfspaces());
     }
-    class_by_caps(
-        t,
-        classify_prepared::copied(s),
-        ps,
-        prepared,
-        ends,
-        active,
-        stops,
-    )
+    class_by_caps(t, classify_prepared::copied(s), region, active)
 }
 
 // Whether to look for active halfspaces: the region has many halfspaces, and none is known to be active.
-pub fn wants_active(ends: &ConvexEnds, stops: &ActiveEnds) -> bool {
-    FEW < classify_prepared::lists::count(ends) && active_count(stops) == 0
+pub fn wants_active(region: &PreparedRegion, active: &ActiveHalfspaces) -> bool {
+    FEW < region.count && active.lists.count == 0
 }

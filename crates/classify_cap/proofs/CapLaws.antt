@@ -3,19 +3,20 @@
 -- that it reaches by E, so its length is at least E, by Cauchy and Schwarz. With them b, E and the rest are what a cap holds. Assumes nothing.
 use Prim.Native.Nat.{ℕ, ◌*◌, ◌/◌, ◌^◌, ◌≤◌}
 use native.Mathlib.Omega.{arith}
-use mathlib.Core.Path.{◌≡◌, refl, sym, ap, subst, ◌∙◌}
-use mathlib.Core.Bool.{Bool, true, false, cond, true≢false, false≢true}
+use mathlib.Core.Path.{◌≡◌, refl, sym, subst, ◌∙◌}
+use mathlib.Core.Bool.{Bool, true, false, cond, ◌&&◌}
 use mathlib.Core.List.{[], ◌∷◌}
+use Rattle.std.specs.Prelude.{Some}
 use lib.Dec.{T, le→leb, leb→le}
 use lib.IntN.{ℤ, pos, negsuc, nat_abs, ◌-ℤ◌, ◌*ℤ◌}
-use lib.Signed.{non_neg, le_z, ◌≤ℤ◌, le_z_yes, yes_non_neg}
+use lib.Signed.{non_neg, ◌≤ℤ◌, le_z_yes, yes_non_neg}
 use Rattle.algebra.proofs.Sizes.{Upto}
 use Rattle.algebra.proofs.Order.{≤ℤ-trans, nn_pos, nn_sq, gap_nn}
 use Rattle.algebra.proofs.Ring.{◌:-◌}
 use Rattle.algebra.proofs.Claim.{◌:≤◌, hyp, prove}
 use Rattle.algebra.proofs.Inequalities.{`0, sq_mono}
 use Rattle.algebra.proofs.Sized.{upto_high}
-use Rattle.algebra.proofs.Tests.{and_left, and_both, and_no_left, and_no_right, le_yes, lt_yes, yes_lt, no_lt, no_le}
+use Rattle.algebra.proofs.Tests.{and_left, le_yes, lt_yes}
 use Rattle.algebra.proofs.Vec.{reach_at_most}
 use Rattle.vector.specs.declared.Vec3.{Vec3}
 use Rattle.vector.specs.Numbers.{Kℕ}
@@ -31,12 +32,13 @@ use Rattle.region.specs.Building.{is_offset}
 use Rattle.classify_prepared.specs.declared.PreparedHalfspace.{PreparedHalfspace}
 use Rattle.classify_prepared.specs.declared.TrixelRays.{TrixelRays}
 use Rattle.classify_cap.specs.declared.BoundingCap.{BoundingCap}
-use Rattle.classify.specs.Shape.{square, positive, ray0, ray1, ray2, e_of, f_of, DOf, ahead, reaches_ray, reaches, b_of, EOf}
+use Rattle.classify_cap.specs.declared.CapReach.{CapReach}
+use Rattle.classify_cap.specs.declared.reach.RayProducts.{RayProducts}
+use Rattle.classify.specs.Shape.{square, positive, ray0, e_of, f_of, DOf, ahead, reaches_ray, reaches, b_of, EOf}
 use Rattle.classify_prepared.specs.Measures.{SoundHalfspace, RaysOf}
-use Rattle.classify_cap.specs.Reach.{greatest_reach, Bounded}
-use Rattle.classify_cap.specs.Middle.{IsBoundingCap, cap_ahead, cap_behind}
+use Rattle.classify_cap.specs.Reach.{greatest_reach, all_positive, ProductsOf}
+use Rattle.classify_cap.specs.Middle.{IsReach, IsBoundingCap, cap_ahead, cap_behind}
 use Rattle.classify.proofs.WithinApart.{E-reaches}
-use Rattle.classify_rays.proofs.RayLaws.{own_rays}
 use Rattle.classify_cap.proofs.ReachLaws.{reach_is_E}
 
 -- ---- what is left of v·v beside e²
@@ -108,54 +110,34 @@ E-beside t a = record {
 pub cap_small : {t : Trixel} {m : BoundingCap} → IsBoundingCap t m → Small m.b
 cap_small {t} h = subst Small (sym h.b) (b_small t)
 
-pub cap_beside : {t : Trixel} {m : BoundingCap} → IsBoundingCap t m → m.ahead ≡ true → Beside m.b m.reach m.rest
-cap_beside {t} {m} h a = rw (h.b, h.reach a, h.rest a) (E-beside t (rw h.ahead at a))
+pub reached : {t : Trixel} {m : BoundingCap} {c : CapReach} → IsBoundingCap t m → m.ahead ≡ Some c → IsReach t m.b c
+reached h e = rw e at h.ahead
 
--- ---- a product that is tested
-
-behind : {y z : ℤ} → z ≡ y → le_z z (pos 0) ≡ true → positive y ≡ false
-behind {y} {z} e l = ap positive (sym e) ∙ no_lt {a = pos 0} {b = z} (le_yes l)
-
-front : {y z : ℤ} → z ≡ y → le_z z (pos 0) ≡ false → positive y ≡ true
-front {y} {z} e l = ap positive (sym e) ∙ yes_lt (no_le {a = z} {b = pos 0} l)
-
-pub product_is : (z : ℤ) → le_z z (pos 0) ≡ false → z ≡ pos (nat_abs z)
-product_is (pos n) e = refl
-product_is (negsuc n) e = absurd (true≢false e)
+pub cap_beside : {t : Trixel} {b : Vec3} {m : CapReach} → IsReach t b m → Beside b m.reach m.rest
+cap_beside {t} h = rw (h.b, h.reach, h.rest) (E-beside t h.ahead)
 
 -- ---- the caps
 
-module _ (t : Trixel) {z : ℤ} where
-  pub behind_first : z ≡ dot (b_of t) (ray0 t) → le_z z (pos 0) ≡ true → ahead (b_of t) t ≡ false
-  behind_first e l = and_no_left _ (behind e l)
+module _ {t : Trixel} {s : TrixelRays} {b : Vec3} (h : RaysOf t s) (c : b ≡ b_of t) where
+  -- whether b is ahead of the rays of the trixel
+  pub ahead_is : all_positive b s ≡ ahead (b_of t) t
+  ahead_is = λ i. positive (dot (c i) (h.r0.r i)) && (positive (dot (c i) (h.r1.r i)) && positive (dot (c i) (h.r2.r i)))
 
-  pub behind_second : z ≡ dot (b_of t) (ray1 t) → le_z z (pos 0) ≡ true → ahead (b_of t) t ≡ false
-  behind_second e l = and_no_right (positive (dot (b_of t) (ray0 t))) (and_no_left _ (behind e l))
+  pub reach_of : (p : RayProducts) → (p.s.now ≡ s) → ProductsOf b s p.x0 p.x1 p.x2 → EOf t ≡ pos (greatest_reach p.x0 p.x1 p.x2 p.s.now)
+  reach_of p e q =
+      reach_is_E t s h p.x0 p.x1 p.x2 (sym (λ i. dot (c i) (h.r0.r i)) ∙ q.r0) (sym (λ i. dot (c i) (h.r1.r i)) ∙ q.r1) (sym (λ i. dot (c i) (h.r2.r i)) ∙ q.r2)
+      ∙ (λ i. pos (greatest_reach p.x0 p.x1 p.x2 (sym e i)))
 
-  pub behind_third : z ≡ dot (b_of t) (ray2 t) → le_z z (pos 0) ≡ true → ahead (b_of t) t ≡ false
-  behind_third e l = and_no_right (positive (dot (b_of t) (ray0 t))) (and_no_right (positive (dot (b_of t) (ray1 t))) (behind e l))
+  pub behind_bounds : all_positive b s ≡ false → {r : BoundingCap} → r ≡ cap_behind b → IsBoundingCap t r
+  behind_bounds e w = subst (IsBoundingCap t) (sym w)
+      (record { b = c; ahead = sym ahead_is ∙ e })
 
-pub all_ahead : (t : Trixel) {x y z : ℤ} → x ≡ dot (b_of t) (ray0 t) → y ≡ dot (b_of t) (ray1 t) → z ≡ dot (b_of t) (ray2 t)
-    → le_z x (pos 0) ≡ false → le_z y (pos 0) ≡ false → le_z z (pos 0) ≡ false → ahead (b_of t) t ≡ true
-all_ahead t e f g p q r = and_both (front e p) (and_both (front f q) (front g r))
-
-pub behind_bounds : (t : Trixel) {b : Vec3} → b ≡ b_of t → ahead (b_of t) t ≡ false → {r : BoundingCap} → r ≡ cap_behind b → IsBoundingCap t r
-behind_bounds t c e w = subst (IsBoundingCap t) (sym w) (record { b = c; ahead = sym e; reach = λ a. absurd (false≢true a); rest = λ a. absurd (false≢true a); clearance = λ a. absurd (false≢true a) })
-
-module _ (t : Trixel) (s : TrixelRays) (h : RaysOf t s) {x y z : ℤ} where
-  pub bounded : Upto (3 * 2 ^ 61) x → Upto (3 * 2 ^ 61) y → Upto (3 * 2 ^ 61) z → Bounded (nat_abs x) (nat_abs y) (nat_abs z) s
-  bounded p q r = record { p0 = p.le; p1 = q.le; p2 = r.le; rays = own_rays h }
-
-  pub ahead_bounds : {b : Vec3} → b ≡ b_of t → x ≡ dot (b_of t) (ray0 t) → y ≡ dot (b_of t) (ray1 t) → z ≡ dot (b_of t) (ray2 t)
-      → le_z x (pos 0) ≡ false → le_z y (pos 0) ≡ false → le_z z (pos 0) ≡ false
-      → {r : BoundingCap} → r ≡ cap_ahead b (greatest_reach (nat_abs x) (nat_abs y) (nat_abs z) s) → IsBoundingCap t r
-  ahead_bounds c e f g p q r w =
-      let E = reach_is_E t s h (nat_abs x) (nat_abs y) (nat_abs z) (sym e ∙ product_is x p) (sym f ∙ product_is y q) (sym g ∙ product_is z r) in
+  pub ahead_bounds : (p : RayProducts) → (all_positive b s ≡ true) × (p.s.now ≡ s) × ProductsOf b s p.x0 p.x1 p.x2
+      → {r : BoundingCap} → r ≡ cap_ahead b (greatest_reach p.x0 p.x1 p.x2 p.s.now) → IsBoundingCap t r
+  ahead_bounds p e w =
+      let E = reach_of p e.1 e.2 in
       subst (IsBoundingCap t) (sym w)
       (record {
         b = c;
-        ahead = sym (all_ahead t e f g p q r);
-        reach = λ _. sym E;
-        rest = λ _ i. dot (c i) (c i) -ℤ square (sym E i);
-        clearance = λ _. refl;
+        ahead = record { b = c; ahead = sym ahead_is ∙ e.0; reach = sym E; rest = λ i. dot (c i) (c i) -ℤ square (sym E i); clearance = refl };
       })

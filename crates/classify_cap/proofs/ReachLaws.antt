@@ -1,7 +1,7 @@
 -- E by numbers without a sign. The test n² (r·r) ≤ x² at all three rays passes at 0, and below whatever it passes, so it fails above
 -- whatever it fails; the low end of a span of length 1 is the greatest that passes; and with x = b·r at each ray that number is E. Where each ray is
 -- 2⁴⁰ long it is the least x over 2⁴⁰. Assumes nothing.
-use Prim.Native.Nat.{ℕ, min, max, ◌+◌, ◌*◌, ◌/◌, ◌^◌, ◌≤◌, ◌<◌}
+use Prim.Native.Nat.{ℕ, min, ◌+◌, ◌*◌, ◌/◌, ◌^◌, ◌≤◌, ◌<◌}
 use native.Mathlib.Nat.{le_refl, le_trans, mul_comm, mul-mul-mul_comm, mul-le-mul}
 use native.Mathlib.Omega.{arith}
 use mathlib.Core.Path.{◌≡◌, refl, sym, ap, subst, ◌∙◌}
@@ -130,12 +130,3 @@ module _ (x0 x1 x2 : ℕ) (s : TrixelRays) (a : OnAxes s) where
 
 squares : {a b c : ℕ} (x y z : ℕ) → a ≡ x → b ≡ y → c ≡ z → a * a + b * b + c * c ≡ x * x + y * y + z * z
 squares x y z p q r = λ i. p i * p i + q i * q i + r i * r i
-
-pub axis_square : (a b c : ℕ) → max (max a b) c ≡ 2 ^ 40 → a + b + c ≡ 2 ^ 40 → a * a + b * b + c * c ≡ 2 ^ 80
-axis_square a b c m e = split (leb (2 ^ 40) a)
-    (λ t. let h = leb-true (2 ^ 40) a t in squares (2 ^ 40) 0 0 (omega arith) (omega arith) (omega arith))
-    (λ f.
-    let k = leb-false (2 ^ 40) a f in
-    split (leb (2 ^ 40) b)
-    (λ t. let h = leb-true (2 ^ 40) b t in squares 0 (2 ^ 40) 0 (omega arith) (omega arith) (omega arith))
-    (λ g. let h = leb-false (2 ^ 40) b g in squares 0 0 (2 ^ 40) (omega arith) (omega arith) (omega arith)))

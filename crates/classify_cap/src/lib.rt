@@ -9,10 +9,11 @@ ghost use Rattle.vector.specs.Vectors as vectors;
 ghost use Rattle.mesh_trixels.specs.Corners.{SmallTrixel};
 ghost use Rattle.classify.specs.Shape.{b_of};
 ghost use Rattle.classify_prepared.specs.Measures.{RaysOf};
-ghost use Rattle.classify_cap.specs.Reach.{greatest_reach, Bounded};
+ghost use Rattle.classify_cap.specs.Reach.{greatest_reach};
 ghost use Rattle.classify_cap.specs.Middle.{root_above, clearance_of, IsBoundingCap, cap_ahead, cap_behind};
 
-use classify_prepared::{Ray, TrixelRays};
+use crate::reach::RayProducts;
+use classify_prepared::TrixelRays;
 use mesh::Trixel;
 use vector::Vec3;
 
@@ -23,38 +24,29 @@ const NEVER: i64 = 4611686018427387904;
 // Twice K: a clearance is so many times a number that is above the root of the rest.
 const TWO_K: u64 = 2 * limits::UNSIGNED_K;
 
-// The middle b of a trixel: whether it is ahead of the rays, and then E as `reach`, b·b − E² as `rest`, and the bound beyond which a halfspace is settled
-// as `clearance`.
+// How far a middle b reaches that is ahead of the rays: E as `reach`, b·b − E² as `rest`, and the bound beyond which a halfspace is settled as `clearance`.
 #[derive(Clone, Copy)]
-pub struct BoundingCap {
-    pub b: Vec3,
+pub struct CapReach {
     pub reach: i64,
     pub rest: i64,
     pub clearance: i64,
-    pub ahead: bool,
+}
+
+// The middle b of a trixel, and where it is ahead of the rays how far it reaches.
+// Kept: `IsBoundingCap` is a clause, as it is of the cap and of the trixel that is lent beside it.
+#[derive(Clone, Copy)]
+pub struct BoundingCap {
+    pub b: Vec3,
+    pub ahead: Option<CapReach>,
 }
 
 // b = Unit(v0 + v1 + v2)
-pub fn middle_of(t: Trixel) -> Vec3
-    requires { SmallTrixel t }
-    ensures value { result ≡ b_of t }
+pub fn middle_of(t: &Trixel) -> Vec3
+    requires { SmallTrixel t.now }
+    ensures value { result ≡ b_of t.now }
     ensures small { Small result }
 {
-    let v0 = t.v0;
-    let v1 = t.v1;
-    let v2 = t.v2;
-    vector_units::unit(vector_products::sum(vector_products::sum(v0, v1), v2))
-}
-
-// b·r for the ray r
-pub fn along(b: Vec3, y: Ray) -> i64
-    requires small { Small b }
-    requires at_most { AtMost (2 ^ 41) y.r }
-    ensures value { result ≡ vectors.dot b y.r }
-    ensures upto { Upto (3 * 2 ^ 61) result }
-{
-    let r = y.r;
-    vector_products::dot(b, r)
+    vector_units::unit(vector_products::sum(vector_products::sum(t.v0, t.v1), t.v2))
 }
 
 // A number whose square is not below s, for s up to 2^42: the first of 256, 512, 1024 and so on, or 2^21.
@@ -62,6 +54,7 @@ fn root_above(s: u64) -> u64
     ensures { result ≡ root_above s }
 {
     let mut r: u64 = 256;
+    // Kept: the numbers double, and `root_above` of specs/Middle counts them so; no library method does.
     while r < TWO_K {
         if s < r * r {
             return r;
@@ -91,53 +84,35 @@ fn clearance_of(rest: i64, reach: u64) -> i64
 fn cap_behind(b: Vec3) -> BoundingCap
     ensures { result ≡ cap_behind b }
 {
-    BoundingCap {
-        ahead: false,
-        b: b,
-        reach: 0,
-        rest: 0,
-        clearance: 0,
-    }
+    BoundingCap { b, ahead: None }
 }
 
 // The cap where b is ahead of every ray, with E.
-fn cap_ahead(b: Vec3, x0: u64, x1: u64, x2: u64, s: TrixelRays) -> BoundingCap
-    requires small { Small b }
-    requires bounded { Bounded x0 x1 x2 s }
-    ensures { result ≡ cap_ahead b (greatest_reach x0 x1 x2 s) }
+fn cap_ahead(b: Vec3, p: &RayProducts) -> BoundingCap
+    requires { Small b }
+    ensures { result ≡ cap_ahead b (greatest_reach p.now.x0 p.now.x1 p.now.x2 p.now.s.now) }
 {
-    let n = crate::reach::greatest_reach(x0, x1, x2, s);
+    let n = crate::reach::greatest_reach(p);
     let e = n as i64;
     let rest = vector_products::dot(b, b) - e * e;
     BoundingCap {
-        ahead: true,
-        b: b,
-        reach: e,
-        rest: rest,
-        clearance: clearance_of(rest, n),
+        b,
+        ahead: Some(CapReach {
+            reach: e,
+            rest,
+            clearance: clearance_of(rest, n),
+        }),
     }
 }
 
 // The middle b of a trixel with its E, and what is left of b·b beside E².
-pub fn cap_of(t: Trixel, b: Vec3, s: TrixelRays) -> BoundingCap
-    requires b_value { (b ≡ b_of t) × Small b }
-    requires rays_of { RaysOf t s }
-    ensures { IsBoundingCap t result }
+pub fn cap_of(t: &Trixel, b: Vec3, s: TrixelRays) -> BoundingCap
+    requires b_value { (b ≡ b_of t.now) × Small b }
+    requires rays_of { RaysOf t.now s }
+    ensures { IsBoundingCap t.now result }
 {
-    let r0 = s.r0;
-    let x0 = along(b, r0);
-    if x0 <= 0 {
-        return cap_behind(b);
+    match crate::reach::products_of(b, &s) {
+        Some(p) => cap_ahead(b, &p),
+        None => cap_behind(b),
     }
-    let r1 = s.r1;
-    let x1 = along(b, r1);
-    if x1 <= 0 {
-        return cap_behind(b);
-    }
-    let r2 = s.r2;
-    let x2 = along(b, r2);
-    if x2 <= 0 {
-        return cap_behind(b);
-    }
-    cap_ahead(b, x0 as u64, x1 as u64, x2 as u64, s)
 }

@@ -1,11 +1,12 @@
 // E, the reach of a trixel's middle b: near K by steps down from it, in a root by its rays, else by a number near it. The rule is `EOf` of
 // classify/specs/Shape, what is searched for stands in specs/Reach.
-ghost use Rattle.std.specs.Prelude.{◌≡◌, true, min, ◌*◌, ◌/◌, ◌^◌, ◌≤◌, ◌<◌, nat_abs};
+ghost use Rattle.std.specs.Prelude.{◌≡◌, true, false, MatchOption, pos, ◌*◌, ◌/◌, ◌^◌, ◌≤◌, ◌<◌, nat_abs};
 ghost use Rattle.vector.specs.Numbers.{Kℕ};
 ghost use Rattle.vector.specs.Vectors as vectors;
-ghost use Rattle.vector.proofs.Sizes.{AtMost};
+ghost use Rattle.vector.proofs.Sizes.{AtMost, Small};
+ghost use Rattle.classify.specs.Shape.{positive};
 ghost use Rattle.classify_prepared.specs.Measures.{IsRay, OwnRays};
-ghost use Rattle.classify_cap.specs.Reach.{reach_all, greatest_reach, Bounded, OnAxes, Spanned};
+ghost use Rattle.classify_cap.specs.Reach.{reach_all, greatest_reach, Bounded, OnAxes, Spanned, all_positive, ProductsOf};
 
 use classify_prepared::{Ray, TrixelRays};
 use limits::UNSIGNED_K as K;
@@ -26,80 +27,114 @@ const UP_TO_TWO_K: u64 = TWO_K - 1;
 // What a product with a ray is divided by before it is squared.
 const UPPER: u64 = 2147483648;
 
-// Where E lies: `low` is reached, and no number from `high` up to K is.
+// The products of a middle with the rays of a trixel, beside the rays.
 #[derive(Clone, Copy)]
-pub struct Span {
-    pub low: u64,
-    pub high: u64,
+pub struct RayProducts<'a> {
+    pub x0: u64,
+    pub x1: u64,
+    pub x2: u64,
+    pub s: &'a TrixelRays,
+    pub ghost bounded: { Bounded x0 x1 x2 s.now },
 }
 
-// Whether x² ≥ n² (r·r) for each ray r of s and its x.
-pub fn reaches_all(x0: u64, x1: u64, x2: u64, s: TrixelRays, n: u64) -> bool
-    requires bounded { Bounded x0 x1 x2 s }
-    requires n_bound { n ≤ Kℕ }
-    ensures { result ≡ reach_all x0 x1 x2 s n }
+// Where E lies: `low` is reached, and no number from `high` up to K is.
+#[derive(Clone, Copy)]
+struct Span {
+    low: u64,
+    high: u64,
+}
+
+// b·r for the ray r, where it is positive.
+fn along(b: Vec3, y: Ray) -> Option<u64>
+    requires small { Small b }
+    requires at_most { AtMost (2 ^ 41) y.r }
+    ensures { MatchOption result (positive (vectors.dot b y.r) ≡ false) (λ x. (positive (vectors.dot b y.r) ≡ true) × (vectors.dot b y.r ≡ pos x) × (x ≤ 3 * 2 ^ 61)) }
 {
-    let r0 = s.r0;
-    let r1 = s.r1;
-    let r2 = s.r2;
-    if !classify_rays::reaches(x0, r0, n) {
-        return false;
+    let x = vector_products::dot(b, y.r);
+    if x <= 0 {
+        return None;
     }
-    if !classify_rays::reaches(x1, r1, n) {
-        return false;
-    }
-    classify_rays::reaches(x2, r2, n)
+    Some(x as u64)
+}
+
+// The products of b with the rays of s, where all are positive.
+pub fn products_of(b: Vec3, s: &TrixelRays) -> Option<RayProducts<'_>>
+    requires small { Small b }
+    requires own_rays { OwnRays s.now }
+    ensures { MatchOption result (all_positive b s.now ≡ false) (λ p. (all_positive b s.now ≡ true) × (p.s.now ≡ s.now) × ProductsOf b s.now p.x0 p.x1 p.x2) }
+{
+    let x0 = along(b, s.r0)?;
+    let x1 = along(b, s.r1)?;
+    let x2 = along(b, s.r2)?;
+    Some(RayProducts { x0, x1, x2, s })
+}
+
+// Whether x² ≥ n² (r·r) for each ray r and its x.
+pub fn reaches_all(p: &RayProducts, n: u64) -> bool
+    requires { n ≤ Kℕ }
+    ensures { result ≡ reach_all p.now.x0 p.now.x1 p.now.x2 p.now.s.now n }
+{
+    let s = p.s;
+    classify_rays::reaches(p.x0, s.r0, n)
+        && classify_rays::reaches(p.x1, s.r1, n)
+        && classify_rays::reaches(p.x2, s.r2, n)
 }
 
 // A span of E by two steps down from K: E is that near K where the trixel is small. Else the span begins at 0.
-fn near_top(x0: u64, x1: u64, x2: u64, s: TrixelRays) -> Span
-    requires { Bounded x0 x1 x2 s }
-    ensures { Spanned x0 x1 x2 s result.low result.high }
+fn near_top(p: &RayProducts) -> Span
+    ensures { Spanned p.now.x0 p.now.x1 p.now.x2 p.now.s.now result.low result.high }
 {
-    let mut high = K + 1;
-    let mut step: u64 = 1;
-    while step < 4 {
-        let n = K - step;
-        if reaches_all(x0, x1, x2, s, n) {
-            return Span { low: n, high: high };
-        }
-        high = n;
-        step = 2 * step;
+    if reaches_all(p, K - 1) {
+        return Span {
+            low: K - 1,
+            high: K + 1,
+        };
     }
-    Span { low: 0, high: high }
+    if reaches_all(p, K - 2) {
+        return Span {
+            low: K - 2,
+            high: K - 1,
+        };
+    }
+    Span {
+        low: 0,
+        high: K - 2,
+    }
 }
 
 // A span, narrowed by a test at n where n is in it.
-fn tested(x0: u64, x1: u64, x2: u64, s: TrixelRays, p: Span, n: u64) -> Span
-    requires bounded { Bounded x0 x1 x2 s }
-    requires spanned { Spanned x0 x1 x2 s p.low p.high }
-    ensures { Spanned x0 x1 x2 s result.low result.high }
+fn tested(p: &RayProducts, span: Span, n: u64) -> Span
+    requires { Spanned p.now.x0 p.now.x1 p.now.x2 p.now.s.now span.low span.high }
+    ensures { Spanned p.now.x0 p.now.x1 p.now.x2 p.now.s.now result.low result.high }
 {
-    let low = p.low;
-    let high = p.high;
-    if n <= low {
-        return p;
+    if n <= span.low || span.high <= n {
+        return span;
     }
-    if high <= n {
-        return p;
+    if reaches_all(p, n) {
+        Span {
+            low: n,
+            high: span.high,
+        }
+    } else {
+        Span {
+            low: span.low,
+            high: n,
+        }
     }
-    if reaches_all(x0, x1, x2, s, n) {
-        return Span { low: n, high: high };
-    }
-    Span { low: low, high: n }
 }
 
 // E by bisection of a span.
-fn bisected(x0: u64, x1: u64, x2: u64, s: TrixelRays, p: Span) -> u64
-    requires bounded { Bounded x0 x1 x2 s }
-    requires spanned { Spanned x0 x1 x2 s p.low p.high }
-    ensures { result ≡ greatest_reach x0 x1 x2 s }
+fn bisected(p: &RayProducts, span: Span) -> u64
+    requires { Spanned p.now.x0 p.now.x1 p.now.x2 p.now.s.now span.low span.high }
+    ensures value { result ≡ greatest_reach p.now.x0 p.now.x1 p.now.x2 p.now.s.now }
+    ensures upper_bound { result ≤ Kℕ }
 {
-    let mut low = p.low;
-    let mut high = p.high;
+    let mut low = span.low;
+    let mut high = span.high;
+    // Kept: a bisection of numbers; the library has one of slices only (`partition_point`).
     while low + 1 < high {
         let middle = (low + high) / 2;
-        if reaches_all(x0, x1, x2, s, middle) {
+        if reaches_all(p, middle) {
             low = middle;
         } else {
             high = middle;
@@ -108,38 +143,21 @@ fn bisected(x0: u64, x1: u64, x2: u64, s: TrixelRays, p: Span) -> u64
     low
 }
 
-fn lesser(a: u64, b: u64) -> u64
-    ensures { result ≡ min a b }
-{
-    if a < b { a } else { b }
-}
-
 // Whether r lies on an axis and is 2^40 long, as a ray of a root: then its largest component is also the sum of all three.
 fn on_axis(r: Vec3) -> bool
     requires { AtMost (2 ^ 41) r }
     ensures { result ≡ true → nat_abs (vectors.dot r r) ≡ 2 ^ 80 }
 {
-    if vector_units::largest(r) != K_SQUARE {
-        return false;
-    }
-    vector_units::size(r.x) + vector_units::size(r.y) + vector_units::size(r.z) == K_SQUARE
+    vector_units::largest(r) == K_SQUARE
+        && vector_units::size(r.x) + vector_units::size(r.y) + vector_units::size(r.z) == K_SQUARE
 }
 
 // Whether all three rays do.
-fn on_axes(s: TrixelRays) -> bool
-    requires { OwnRays s }
-    ensures { result ≡ true → OnAxes s }
+fn on_axes(s: &TrixelRays) -> bool
+    requires { OwnRays s.now }
+    ensures { result ≡ true → OnAxes s.now }
 {
-    let y0 = s.r0;
-    let y1 = s.r1;
-    let y2 = s.r2;
-    if !on_axis(y0.r) {
-        return false;
-    }
-    if !on_axis(y1.r) {
-        return false;
-    }
-    on_axis(y2.r)
+    on_axis(s.r0.r) && on_axis(s.r1.r) && on_axis(s.r2.r)
 }
 
 // About E² / 2^10 by one ray, and not above it: (x / 2^31)² over its height, rounded up.
@@ -167,34 +185,28 @@ fn near_root(q: u64) -> u64
 }
 
 // A number near E: the root of the least of the squares by the three rays.
-fn near_reach(x0: u64, x1: u64, x2: u64, s: TrixelRays) -> u64
-    requires { Bounded x0 x1 x2 s }
+fn near_reach(p: &RayProducts) -> u64
     ensures { result < 2 ^ 46 }
 {
-    let r0 = s.r0;
-    let r1 = s.r1;
-    let r2 = s.r2;
-    let q = lesser(
-        lesser(square_by(x0, r0), square_by(x1, r1)),
-        square_by(x2, r2),
-    );
-    near_root(lesser(UPPER_K_SQUARE, q))
+    let s = p.s;
+    let q = square_by(p.x0, s.r0)
+        .min(square_by(p.x1, s.r1))
+        .min(square_by(p.x2, s.r2));
+    near_root(q.min(UPPER_K_SQUARE))
 }
 
 // E, where each x is b·r for its ray r, and positive. Where a ray is 2^40 long x² ≥ E² (r·r) is x ≥ 2^40 E.
-pub fn greatest_reach(x0: u64, x1: u64, x2: u64, s: TrixelRays) -> u64
-    requires { Bounded x0 x1 x2 s }
-    ensures value { result ≡ greatest_reach x0 x1 x2 s }
+pub fn greatest_reach(p: &RayProducts) -> u64
+    ensures value { result ≡ greatest_reach p.now.x0 p.now.x1 p.now.x2 p.now.s.now }
     ensures upper_bound { result ≤ Kℕ }
 {
-    let p = near_top(x0, x1, x2, s);
-    if 0 < p.low {
-        return bisected(x0, x1, x2, s, p);
+    let span = near_top(p);
+    if 0 < span.low {
+        return bisected(p, span);
     }
-    if on_axes(s) {
-        return lesser(K, lesser(lesser(x0, x1), x2) / K_SQUARE);
+    if on_axes(p.s) {
+        return K.min(p.x0.min(p.x1).min(p.x2) / K_SQUARE);
     }
-    let n = near_reach(x0, x1, x2, s);
-    let above = tested(x0, x1, x2, s, p, n + 1);
-    bisected(x0, x1, x2, s, tested(x0, x1, x2, s, above, n))
+    let n = near_reach(p);
+    bisected(p, tested(p, tested(p, span, n + 1), n))
 }

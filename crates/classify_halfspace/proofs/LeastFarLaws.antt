@@ -20,12 +20,17 @@ use Rattle.vector.proofs.GreatestLaws.{greatest_most}
 use Rattle.mesh.specs.declared.Trixel.{Trixel}
 use Rattle.classify_prepared.specs.declared.PreparedHalfspace.{PreparedHalfspace}
 use Rattle.classify_prepared.specs.declared.TrixelRays.{TrixelRays}
-use Rattle.classify.specs.Shape.{square, positive, ray0, ray1, ray2, reaches, b_of, EOf, far}
-use Rattle.classify_prepared.specs.Measures.{SoundHalfspace, Rest, RaysOf}
+use Rattle.classify.specs.Shape.{square, positive, reaches, b_of, EOf, far}
+use Rattle.classify_prepared.specs.Measures.{SoundHalfspace, Rest}
 use Rattle.classify_cap.specs.Reach.{reach_all, greatest_reach}
-use Rattle.classify_cap.proofs.ReachLaws.{reach_zero, reached_most, unreached_above, reach_is_E}
+use Rattle.classify_cap.proofs.ReachLaws.{reach_zero, reached_most, unreached_above}
 use Rattle.classify_cap.proofs.CapLaws.{sound_beside, unsigned_upto}
-use Rattle.classify_halfspace.specs.LeastFar.{far_by, LeastFar}
+use Rattle.vector.specs.declared.Vec3.{Vec3}
+use Rattle.vector.proofs.Sizes.{Small}
+use Rattle.vector.proofs.SizeLaws.{dot_upto}
+use Rattle.classify_halfspace.proofs.FarLaws.{rest_prepared}
+use Rattle.classify_halfspace.proofs.EdgeLaws.{normal_rest}
+use Rattle.classify_halfspace.specs.LeastFar.{far_by, FarBounds, LeastFar}
 
 -- ---- from a number on
 
@@ -116,30 +121,30 @@ by_squares D p c B n = refl
 low_sign : {q : PreparedHalfspace} → SoundHalfspace q → pos 0 ≤ℤ q.low
 low_sign h = subst (λ q. pos 0 ≤ℤ q.low) (sym h.is) (nn_pos (nat_abs h.halfspace.d * 1048576 / 1048578))
 
-pub sound_signs : {q : PreparedHalfspace} → SoundHalfspace q → (pos 0 ≤ℤ q.low) × (pos 0 ≤ℤ q.rest)
-sound_signs {q} h = (low_sign h, nonneg q.rest (sound_beside h).sign)
+pub rest_sign : {z : ℤ} → Rest z → pos 0 ≤ℤ z
+rest_sign {z} h = nonneg z h.sign
   where
     nonneg : (z : ℤ) → T (non_neg z) → pos 0 ≤ℤ z
     nonneg (pos n) t = nn_pos n
     nonneg (negsuc n) t = absurd t
 
-module _ {q : PreparedHalfspace} (h : SoundHalfspace q) (t : Trixel) (s : TrixelRays) (k : RaysOf t s) (x0 x1 x2 : ℕ)
-    (e0 : dot (b_of t) (ray0 t) ≡ pos x0) (e1 : dot (b_of t) (ray1 t) ≡ pos x1) (e2 : dot (b_of t) (ray2 t) ≡ pos x2) where
-  pub far_by_law : far_by q.low q.rest (dot q.f (b_of t)) (dot (b_of t) (b_of t)) (greatest_reach x0 x1 x2 s) ≡ far q.f q.low (b_of t) (EOf t)
-  unfolding far_by
-  far_by_law =
-      let E = reach_is_E t s k x0 x1 x2 e0 e1 e2 in
-      λ i. positive (q.low *ℤ sym E i -ℤ dot q.f (b_of t))
-      && lt_z ((sound_beside h).is i *ℤ (dot (b_of t) (b_of t) -ℤ square (sym E i))) (square (q.low *ℤ sym E i -ℤ dot q.f (b_of t)))
+pub far_bounds : {q : PreparedHalfspace} {b : Vec3} → SoundHalfspace q → Small b → FarBounds q.low q.rest (dot q.f b) (dot b b)
+far_bounds h s = record { low = (sound_beside h).size; sign = low_sign h; rest = rest_prepared h; along = dot_upto (sound_beside h).small s; square = normal_rest s }
+
+pub far_by_law : {q : PreparedHalfspace} → SoundHalfspace q → (t : Trixel) {n : ℕ} → EOf t ≡ pos n
+    → far_by q.low q.rest (dot q.f (b_of t)) (dot (b_of t) (b_of t)) n ≡ far q.f q.low (b_of t) (EOf t)
+unfolding far_by
+far_by_law {q} h t E =
+    λ i. positive (q.low *ℤ sym E i -ℤ dot q.f (b_of t))
+    && lt_z ((sound_beside h).is i *ℤ (dot (b_of t) (b_of t) -ℤ square (sym E i))) (square (q.low *ℤ sym E i -ℤ dot q.f (b_of t)))
 
 -- E is at most K
 pub near_at_K : {q : PreparedHalfspace} → SoundHalfspace q → (t : Trixel) → far_by q.low q.rest (dot q.f (b_of t)) (dot (b_of t) (b_of t)) Kℕ ≡ false
     → far q.f q.low (b_of t) (EOf t) ≡ false
 unfolding far_by EOf
 near_at_K {q} h t e =
-    let signs = sound_signs h in
     let c = dot q.f (b_of t) in
     let B = dot (b_of t) (b_of t) in
     let E : ℕ = greatest (λ n. reaches (b_of t) (pos n) t) Kℕ in
     (λ i. positive (q.low *ℤ pos E -ℤ c) && lt_z (sym (sound_beside h).is i *ℤ (B -ℤ square (pos E))) (square (q.low *ℤ pos E -ℤ c)))
-    ∙ near_down c B signs.0 signs.1 E Kℕ (greatest_most (λ n. reaches (b_of t) (pos n) t) Kℕ) e
+    ∙ near_down c B (low_sign h) (rest_sign (rest_prepared h)) E Kℕ (greatest_most (λ n. reaches (b_of t) (pos n) t) Kℕ) e

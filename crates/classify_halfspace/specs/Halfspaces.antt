@@ -5,14 +5,11 @@
 --   apart_class q t                   the class where within does not hold
 --   edges_class q t                   the class where within does not hold, nor apart by the bounding cap
 --   rays_class q t                    the class where apart does not hold by the bounding cap
---   NormalsIn t ps                   the normals of t stand in ps behind its corners, and are within ±K
-use Rattle.std.specs.Prelude.{◌*◌, ◌≤◌, ◌≡◌, Bool, cond, ◌&&◌, List, length, ℤ, ◌-ℤ◌, ◌*ℤ◌}
+use Rattle.std.specs.Prelude.{Bool, cond, ◌&&◌, ℤ, ◌-ℤ◌, ◌*ℤ◌}
 use Rattle.std.specs.Int.Signed.{non_neg, le_z, lt_z}
 use Rattle.vector.specs.declared.Vec3.{Vec3}
 use Rattle.vector.specs.Vectors.{dot}
-use Rattle.vector_products.specs.Stored.{vec_in}
 use Rattle.mesh.specs.declared.Trixel.{Trixel}
-use Rattle.mesh_trixels.specs.Corners.{SmallTrixel}
 use Rattle.classify.specs.declared.Class.{Class}
 use Rattle.classify.specs.declared.Class.TheVariants.{Outside, Partial, Full}
 use Rattle.classify_prepared.specs.declared.PreparedHalfspace.{PreparedHalfspace}
@@ -46,10 +43,3 @@ edges_class q t = cond (beyond q.f q.low t) (class_apart q.d) Partial
 
 unfoldable pub rays_class : PreparedHalfspace → Trixel → Class
 rays_class q t = cond (within_by q.f q.high t) (class_within q.d) (edges_class q t)
-
-pub record NormalsIn (t : Trixel) (ps : List ℤ) : Type 0 where
-  pub room : 18 ≤ length ps
-  pub p0 : vec_in ps 9 ≡ t.p0
-  pub p1 : vec_in ps 12 ≡ t.p1
-  pub p2 : vec_in ps 15 ≡ t.p2
-  pub small : SmallTrixel t

@@ -2,14 +2,14 @@
 // is `halfspace_class` of classify/specs/Classes, the tests on the way stand in specs/Halfspaces.
 #![tactic(auto)]
 
-ghost use Rattle.std.specs.Prelude.{◌≡◌, true, ◌&&◌, ◌+◌, ◌-◌, ◌*◌, ◌^◌, ◌≤◌, ltb, ◌*ℤ◌, length};
+ghost use Rattle.std.specs.Prelude.{◌≡◌, true, ◌&&◌, ◌+◌, ◌-◌, ◌*◌, ◌^◌, ◌≤◌, ltb, ◌*ℤ◌};
 ghost use Rattle.std.specs.Int.Signed.{lt_z};
 ghost use Rattle.algebra.proofs.Sizes.{Upto};
 ghost use Rattle.vector.proofs.Sizes.{Small};
-ghost use Rattle.vector_products.specs.Stored.{vec_in};
+ghost use Rattle.mesh_trixels.specs.Corners.{SmallTrixel};
 ghost use Rattle.classify.specs.Shape as rule;
 ghost use Rattle.classify.specs.Shape.{positive, ahead, b_of, EOf, volume};
-ghost use Rattle.classify_halfspace.specs.Halfspaces.{enclosed, prepared_class, class_within, class_apart, apart_class, edges_class, rays_class, NormalsIn};
+ghost use Rattle.classify_halfspace.specs.Halfspaces.{enclosed, prepared_class, class_within, class_apart, apart_class, edges_class, rays_class};
 ghost use Rattle.classify_prepared.specs.Measures.{SoundHalfspace, Rest, RaysOf};
 ghost use Rattle.classify_cap.specs.Middle.{IsBoundingCap};
 
@@ -18,6 +18,7 @@ use classify_cap::BoundingCap;
 use classify_prepared::{PreparedHalfspace, TrixelRays};
 use classify_rays::Passed;
 use mesh::Trixel;
+use vector::Vec3;
 
 pub mod least;
 
@@ -65,49 +66,43 @@ fn square_exceeds(x: i64, p: i64, q: i64) -> bool
 }
 
 // Whether b is ahead of the rays, D·E − c > 0 and (D·E − c)² > (f·f − D²)(b·b − E²), with c = f·b.
-fn far(q: PreparedHalfspace, t: Trixel, m: BoundingCap) -> bool
+fn far(q: PreparedHalfspace, t: &Trixel, m: BoundingCap) -> bool
     requires sound_halfspace { SoundHalfspace q }
-    requires bounding_cap { IsBoundingCap t m }
-    ensures { result ≡ ahead (b_of t) t && rule.far q.f q.low (b_of t) (EOf t) }
+    requires bounding_cap { IsBoundingCap t.now m }
+    ensures { result ≡ ahead (b_of t.now) t.now && rule.far q.f q.low (b_of t.now) (EOf t.now) }
 {
-    if !m.ahead {
+    let Some(c) = m.ahead else {
         return false;
-    }
-    let f = q.f;
-    let b = m.b;
-    let past = q.low * m.reach - vector_products::dot(f, b);
-    if m.clearance <= past {
-        return true;
-    }
-    square_exceeds(past, q.rest, m.rest)
+    };
+    let past = q.low * c.reach - vector_products::dot(q.f, m.b);
+    c.clearance <= past || square_exceeds(past, q.rest, c.rest)
 }
 
 // Whether b is ahead of the rays and its cap by E lies in that of f and G, by a test that is enough: with M = f·b − G·E and S = b·b − E² it asks that
 // both are positive, S·G ≤ M·E and (f·f − D²) S < M².
-fn encloses(q: PreparedHalfspace, t: Trixel, m: BoundingCap) -> bool
+fn encloses(q: PreparedHalfspace, t: &Trixel, m: BoundingCap) -> bool
     requires sound_halfspace { SoundHalfspace q }
-    requires bounding_cap { IsBoundingCap t m }
-    ensures { result ≡ ahead (b_of t) t && enclosed q.f q.low q.high (b_of t) (EOf t) }
+    requires bounding_cap { IsBoundingCap t.now m }
+    ensures { result ≡ ahead (b_of t.now) t.now && enclosed q.f q.low q.high (b_of t.now) (EOf t.now) }
 {
-    if !m.ahead {
+    let Some(c) = m.ahead else {
         return false;
-    }
-    let f = q.f;
-    let b = m.b;
-    let inward = vector_products::dot(f, b) - q.high * m.reach;
-    if m.clearance <= inward {
+    };
+    let inward = vector_products::dot(q.f, m.b) - q.high * c.reach;
+    if c.clearance <= inward {
         return true;
     }
-    if m.rest <= 0 {
+    if c.rest <= 0 {
         return false;
     }
-    if inward * m.reach < m.rest * q.high {
+    if inward * c.reach < c.rest * q.high {
         return false;
     }
-    square_exceeds(inward, q.rest, m.rest)
+    square_exceeds(inward, q.rest, c.rest)
 }
 
 // The class where within holds.
+// Kept: within and apart are two words of the rule, and one function of both would take the two classes beside d at each call.
 pub fn class_within(d: i64) -> Class
     ensures { result ≡ class_within d }
 {
@@ -127,87 +122,71 @@ pub fn class_apart(d: i64) -> Class
     Class::Outside
 }
 
-// Whether f·P < 0 and (P·P)(f·f − D²) < (f·P)², for the normal P of an edge, which stands in ps from number k on.
-fn beyond_edge(q: PreparedHalfspace, ps: &[i64], k: usize) -> bool
+// Whether f·P < 0 and (P·P)(f·f − D²) < (f·P)², for the normal P of an edge.
+fn beyond_edge(q: PreparedHalfspace, p: Vec3) -> bool
     requires sound_halfspace { SoundHalfspace q }
-    requires k_in_bounds { (k + 3 ≤ length ps.now) × Small (vec_in ps.now k) }
-    ensures { result ≡ rule.beyond_edge q.f q.low (vec_in ps.now k) }
+    requires small { Small p }
+    ensures { result ≡ rule.beyond_edge q.f q.low p }
 {
-    let f = q.f;
-    let p = vector_products::vec_in(ps, k);
-    let behind = -vector_products::dot(f, p);
+    let behind = -vector_products::dot(q.f, p);
     square_exceeds(behind, q.rest, vector_products::dot(p, p))
 }
 
-// The class by the edges, where within does not hold, nor apart by the bounding cap. The normals are read from the numbers of the trixel, so that these
-// stay where they lie.
-fn class_by_edges(t: Trixel, ps: &[i64], q: PreparedHalfspace) -> Class
-    requires normals_in { NormalsIn t ps.now }
+// The class by the edges, where within does not hold, nor apart by the bounding cap.
+fn class_by_edges(t: &Trixel, q: PreparedHalfspace) -> Class
+    requires small_trixel { SmallTrixel t.now }
     requires sound_halfspace { SoundHalfspace q }
-    ensures { result ≡ edges_class q t }
+    ensures { result ≡ edges_class q t.now }
 {
-    if beyond_edge(q, ps, 9) {
-        return class_apart(q.d);
-    }
-    if beyond_edge(q, ps, 12) {
-        return class_apart(q.d);
-    }
-    if beyond_edge(q, ps, 15) {
+    if beyond_edge(q, t.p0) || beyond_edge(q, t.p1) || beyond_edge(q, t.p2) {
         return class_apart(q.d);
     }
     Class::Partial
 }
 
 // The class by the rays, where apart does not hold by the bounding cap, and by the edges where not all rays pass. A great circle is beyond no edge.
-fn class_by_rays(t: Trixel, s: TrixelRays, ps: &[i64], q: PreparedHalfspace) -> Class
-    requires rays_of { RaysOf t s × (s.oriented ≡ true) }
-    requires normals_in { NormalsIn t ps.now }
+fn class_by_rays(t: &Trixel, s: TrixelRays, q: PreparedHalfspace) -> Class
+    requires rays_of { RaysOf t.now s × (s.oriented ≡ true) }
+    requires small_trixel { SmallTrixel t.now }
     requires sound_halfspace { SoundHalfspace q }
-    ensures { result ≡ rays_class q t }
+    ensures { result ≡ rays_class q t.now }
 {
-    let f = q.f;
-    let all = classify_rays::all_pass(f, q.high, s);
+    let all = classify_rays::all_pass(q.f, q.high, s);
     if all {
         return class_within(q.d);
     }
     if q.low <= 0 {
         return Class::Partial;
     }
-    class_by_edges(t, ps, q)
+    class_by_edges(t, q)
 }
 
 // The class by the middle, where within does not hold, and by the edges where f is not far.
-fn class_by_middle(t: Trixel, s: TrixelRays, ps: &[i64], q: PreparedHalfspace) -> Class
-    requires t_value { positive (volume t) ≡ true }
-    requires rays_of { RaysOf t s }
-    requires normals_in { NormalsIn t ps.now }
+fn class_by_middle(t: &Trixel, s: TrixelRays, q: PreparedHalfspace) -> Class
+    requires t_value { positive (volume t.now) ≡ true }
+    requires rays_of { RaysOf t.now s }
+    requires small_trixel { SmallTrixel t.now }
     requires sound_halfspace { SoundHalfspace q }
-    ensures { result ≡ apart_class q t }
+    ensures { result ≡ apart_class q t.now }
 {
     let apart = crate::least::far_from(t, s, q);
     if apart {
         class_apart(q.d)
     } else {
-        class_by_edges(t, ps, q)
+        class_by_edges(t, q)
     }
 }
 
 // The class of t for the halfspace that q was prepared from. Of many halfspaces most are far from the trixel or enclose it; rays and edges are for the others.
-pub fn classify_one(
-    t: Trixel,
-    s: TrixelRays,
-    m: BoundingCap,
-    ps: &[i64],
-    q: PreparedHalfspace,
-) -> Class
-    requires rays_of { RaysOf t s }
-    requires bounding_cap { IsBoundingCap t m }
-    requires normals_in { NormalsIn t ps.now }
+pub fn classify_one(t: &Trixel, s: TrixelRays, m: BoundingCap, q: PreparedHalfspace) -> Class
+    requires rays_of { RaysOf t.now s }
+    requires bounding_cap { IsBoundingCap t.now m }
+    requires small_trixel { SmallTrixel t.now }
     requires sound_halfspace { SoundHalfspace q }
-    ensures { result ≡ prepared_class q t }
+    ensures { result ≡ prepared_class q t.now }
 {
     if !s.oriented {
-        return class_by_edges(t, ps, q);
+        return class_by_edges(t, q);
     }
     if far(q, t, m) {
         return class_apart(q.d);
@@ -215,25 +194,24 @@ pub fn classify_one(
     if encloses(q, t, m) {
         return class_within(q.d);
     }
-    class_by_rays(t, s, ps, q)
+    class_by_rays(t, s, q)
 }
 
 // The same by the rays first: all pass is within, and one that passes and one that does not is partial; only where none passes b is found. No bounding cap
 // is needed.
-pub fn classify_by_rays(t: Trixel, s: TrixelRays, ps: &[i64], q: PreparedHalfspace) -> Class
-    requires rays_of { RaysOf t s }
-    requires normals_in { NormalsIn t ps.now }
+pub fn classify_by_rays(t: &Trixel, s: TrixelRays, q: PreparedHalfspace) -> Class
+    requires rays_of { RaysOf t.now s }
+    requires small_trixel { SmallTrixel t.now }
     requires sound_halfspace { SoundHalfspace q }
-    ensures { result ≡ prepared_class q t }
+    ensures { result ≡ prepared_class q t.now }
 {
     if !s.oriented {
-        return class_by_edges(t, ps, q);
+        return class_by_edges(t, q);
     }
-    let f = q.f;
-    let passed = classify_rays::count_passed(f, q.high, s);
+    let passed = classify_rays::count_passed(q.f, q.high, s);
     match passed {
         Passed::All => class_within(q.d),
         Passed::Some => Class::Partial,
-        Passed::None => class_by_middle(t, classify_prepared::copied(s), ps, q),
+        Passed::None => class_by_middle(t, s, q),
     }
 }

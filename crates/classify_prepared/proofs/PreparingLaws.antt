@@ -1,12 +1,12 @@
 -- Rows are prepared one after the other: what is stored so far, with the rows that are left, gives all that the rule stores. For the rows of a region the
--- two lists are the region's sevens and the ends of its convexes. Assumes nothing.
+-- two lists are the region's prepared halfspaces and the ends of its convexes. Assumes nothing.
 use Prim.Native.Nat.{ℕ, zero, suc, ◌+◌, ◌-◌, ◌*◌, ◌≤◌, ◌<◌}
 use native.Mathlib.Omega.{arith}
-use mathlib.Core.Path.{◌≡◌, refl, sym, ap, subst, subst₂, ◌∙◌}
+use mathlib.Core.Path.{◌≡◌, refl, sym, ap, subst, ◌∙◌}
 use mathlib.Core.Bool.{true}
 use mathlib.Core.List.{List, [], ◌∷◌, ◌++◌, append_assoc}
-use lib.ListN.{length, get_or, drop, set, length-set}
-use lib.Seq.{drop-drop}
+use lib.ListN.{length, get_or, take, drop, set, length-set, length-append}
+use lib.Seq.{drop-drop, take_at}
 use lib.IntN.{ℤ, pos, nat_abs}
 use Rattle.algebra.proofs.Tests.{and_left, and_right}
 use Rattle.answer.specs.Lent.{put}
@@ -20,14 +20,24 @@ use Rattle.region.proofs.FilledLaws.{Filled}
 use Rattle.region.specs.Rows.{convex_rows, rows_from, rows, halfspace_at}
 use Rattle.classify_prepared.specs.declared.PreparedHalfspace.{PreparedHalfspace}
 use Rattle.classify_prepared.specs.Measures.{prepared}
-use Rattle.classify_prepared.specs.PreparedLists.{seven, convex_sevens, sevens, ends_from, Prepared, stored, marked, FitRow, FitRows}
+use Rattle.classify_prepared.specs.PreparedLists.{convex_prepared, region_prepared, ends_from, Prepared, stored, marked, convexes_of, FitRow, FitRows}
 use Rattle.algebra.specs.Lists.{every}
 use Rattle.region.proofs.GoodRegions.{good_halfspace}
 
-pub length_sevens : (c : Convex) → length (convex_sevens c) ≡ 7 * length c
-unfolding convex_sevens
-length_sevens [] = refl
-length_sevens (h ∷ hs) = omega (arith, length_sevens hs)
+pub length_convex : (c : Convex) → length (convex_prepared c) ≡ length c
+unfolding convex_prepared
+length_convex [] = refl
+length_convex (h ∷ hs) = omega (arith, length_convex hs)
+
+pub length_region : (g : Region) → length (region_prepared g) ≡ total g
+unfolding region_prepared total
+length_region [] = refl
+length_region (c ∷ cs) = omega (arith, length-append (convex_prepared c) (region_prepared cs), length_convex c, length_region cs)
+
+pub length_ends : (m : ℕ) (g : Region) → length (ends_from m g) ≡ length g
+unfolding ends_from
+length_ends m [] = refl
+length_ends m (c ∷ cs) = omega (arith, length_ends (m + length c) cs)
 
 pub region_good : (c : Convex) (cs : Region) → good (c ∷ cs) ≡ true → (good_convex c ≡ true) × (good cs ≡ true)
 unfolding good every
@@ -39,48 +49,57 @@ convex_good h hs e = (and_left (good_halfspace h) (every good_halfspace hs) e, a
 
 -- ---- row by row
 
-module _ (rs : List ℤ) (n : ℕ) (before : List ℤ) (first : List ℕ) where
+module _ (rs : List ℤ) (n : ℕ) (before : List PreparedHalfspace) (first : List ℕ) where
   -- before row number i
-  pub record Preparing (i : ℕ) (xs : List ℤ) (es : List ℕ) : Type 0 where
+  pub record Preparing (i : ℕ) (xs : List PreparedHalfspace) (es : List ℕ) (c : ℕ) : Type 0 where
     pub upto : i ≤ n
     pub halfspaces : stored i (n - i) (drop (5 * i) rs) xs ≡ stored 0 n rs before
     pub ends : marked i (n - i) (drop (5 * i) rs) es ≡ marked 0 n rs first
-    pub long : length xs ≡ length before
-    pub wide : length es ≡ length first
+    pub convexes : convexes_of c (n - i) (drop (5 * i) rs) ≡ convexes_of 0 n rs
+    pub most : c ≤ 64
 
-  pub prepare_start : Preparing 0 before first
+  pub prepare_start : Preparing 0 before first 0
   prepare_start =
       let e : n - 0 ≡ n = omega arith in
-      record { upto = omega arith; halfspaces = ap (λ m. stored 0 m rs before) e; ends = ap (λ m. marked 0 m rs first) e; long = refl; wide = refl }
+      record {
+        upto = omega arith;
+        halfspaces = ap (λ m. stored 0 m rs before) e;
+        ends = ap (λ m. marked 0 m rs first) e;
+        convexes = ap (λ m. convexes_of 0 m rs) e;
+        most = omega arith;
+      }
 
-  taken : (i : ℕ) (xs : List ℤ) (es : List ℕ) → Preparing i xs es → i < n → 7 * n ≤ length before
-      → Preparing (i + 1) (put (7 * i) (seven (prepared (halfspace_at (drop (5 * i) rs)))) xs) (set es (nat_abs (get_or (drop (5 * i) rs) 0 (pos 0))) (i + 1))
-  unfolding stored marked
-  taken i xs es p h l =
+  taken : (i : ℕ) (xs : List PreparedHalfspace) (es : List ℕ) (c : ℕ) → Preparing i xs es c → i < n → {k : ℕ} → k ≡ nat_abs (get_or (drop (5 * i) rs) 0 (pos 0)) → k < 64
+      → Preparing (i + 1) (set xs i (prepared (halfspace_at (drop (5 * i) rs)))) (set es k (i + 1)) (k + 1)
+  unfolding stored marked convexes_of
+  taken i xs es c p h {k} ek few =
       let e : suc (n - (i + 1)) ≡ n - i = omega arith in
       let one : i + 1 ≡ suc i = omega arith in
       let five : 5 * (i + 1) ≡ 5 * i + 5 = omega arith in
       let further : drop (5 * (i + 1)) rs ≡ drop 5 (drop (5 * i) rs) = ap (λ m. drop m rs) five ∙ sym (drop-drop 5 (5 * i) rs) in
-      let q = seven (prepared (halfspace_at (drop (5 * i) rs))) in
-      let k = nat_abs (get_or (drop (5 * i) rs) 0 (pos 0)) in
+      let q = prepared (halfspace_at (drop (5 * i) rs)) in
       record {
         upto = omega arith;
-        halfspaces = (λ j. stored (one j) (n - (i + 1)) (further j) (put (7 * i) q xs)) ∙ ap (λ m. stored i m (drop (5 * i) rs) xs) e ∙ p.halfspaces;
-        ends = (λ j. marked (one j) (n - (i + 1)) (further j) (set es k (one j))) ∙ ap (λ m. marked i m (drop (5 * i) rs) es) e ∙ p.ends;
-        long = put_length (7 * i) q xs (omega (arith, p.long)) ∙ p.long;
-        wide = length-set es k (i + 1) ∙ p.wide;
+        halfspaces = (λ j. stored (one j) (n - (i + 1)) (further j) (set xs i q)) ∙ ap (λ m. stored i m (drop (5 * i) rs) xs) e ∙ p.halfspaces;
+        ends = (λ j. marked (one j) (n - (i + 1)) (further j) (set es (ek j) (one j))) ∙ ap (λ m. marked i m (drop (5 * i) rs) es) e ∙ p.ends;
+        convexes = (λ j. convexes_of (ek j + 1) (n - (i + 1)) (further j)) ∙ ap (λ m. convexes_of c m (drop (5 * i) rs)) e ∙ p.convexes;
+        most = omega arith;
       }
 
-  -- the next row: its seven numbers q are stored, and its convex, number k, ends behind it
-  pub prepare_more : (i : ℕ) (xs : List ℤ) (es : List ℕ) → Preparing i xs es → i < n → 7 * n ≤ length before → {q : PreparedHalfspace} {k : ℕ} {xs' : List ℤ}
-      → q ≡ prepared (halfspace_at (drop (5 * i) rs)) → k ≡ nat_abs (get_or (drop (5 * i) rs) 0 (pos 0)) → xs' ≡ put (7 * i) (seven q) xs → Preparing (i + 1) xs' (set es k (i + 1))
-  prepare_more i xs es p h l eq ek ex = subst₂ (λ m k. Preparing (i + 1) m (set es k (i + 1))) (sym (ex ∙ ap (λ q. put (7 * i) (seven q) xs) eq)) (sym ek) (taken i xs es p h l)
+  -- the next row: its halfspace q is stored, and its convex, number k, ends behind it
+  pub prepare_more : (i : ℕ) (xs : List PreparedHalfspace) (es : List ℕ) (c : ℕ) → Preparing i xs es c → i < n → {q : PreparedHalfspace} {k : ℕ}
+      → q ≡ prepared (halfspace_at (drop (5 * i) rs)) → k ≡ nat_abs (get_or (drop (5 * i) rs) 0 (pos 0)) → k < 64 → Preparing (i + 1) (set xs i q) (set es k (i + 1)) (k + 1)
+  prepare_more i xs es c p h {q} {k} eq ek few = subst (λ q. Preparing (i + 1) (set xs i q) (set es k (i + 1)) (k + 1)) (sym eq) (taken i xs es c p h ek few)
 
-  pub prepare_end : (i : ℕ) (xs : List ℤ) (es : List ℕ) → Preparing i xs es → n ≤ i → (xs ≡ stored 0 n rs before) × (es ≡ marked 0 n rs first)
-  unfolding stored marked
-  prepare_end i xs es p h =
-      let e : 0 ≡ n - i = omega (arith, p.upto) in
-      (ap (λ m. stored i m (drop (5 * i) rs) xs) e ∙ p.halfspaces, ap (λ m. marked i m (drop (5 * i) rs) es) e ∙ p.ends)
+  pub prepare_end : (i : ℕ) (xs : List PreparedHalfspace) (es : List ℕ) (c : ℕ) → Preparing i xs es c → n ≤ i
+      → (xs ≡ stored 0 n rs before) × (es ≡ marked 0 n rs first) × (c ≡ convexes_of 0 n rs)
+  unfolding stored marked convexes_of
+  prepare_end i xs es c p h =
+      let e : 0 ≡ n - i = omega (arith, p.upto) in (
+        ap (λ m. stored i m (drop (5 * i) rs) xs) e ∙ p.halfspaces,
+        ap (λ m. marked i m (drop (5 * i) rs) es) e ∙ p.ends,
+        ap (λ m. convexes_of c m (drop (5 * i) rs)) e ∙ p.convexes,
+      )
 
 -- ---- the rows of a region
 
@@ -88,34 +107,34 @@ region_rows : (k : ℕ) (c : Convex) (cs : Region) (l : List ℤ) → rows_from 
 unfolding rows_from
 region_rows k c cs l = append_assoc (convex_rows k c) (rows_from (suc k) cs) l
 
--- the sevens of a convex, then of the rest
-convex_stored : (i k n : ℕ) (c : Convex) (l xs : List ℤ) → 7 * (i + length c) ≤ length xs
-    → stored i (length c + n) (convex_rows k c ++ l) xs ≡ stored (i + length c) n l (put (7 * i) (convex_sevens c) xs)
-unfolding stored convex_sevens convex_rows
+-- the halfspaces of a convex, then those of the rest
+convex_stored : (i k n : ℕ) (c : Convex) (l : List ℤ) (xs : List PreparedHalfspace) → i + length c ≤ length xs
+    → stored i (length c + n) (convex_rows k c ++ l) xs ≡ stored (i + length c) n l (put i (convex_prepared c) xs)
+unfolding stored convex_prepared convex_rows
 convex_stored i k n [] l xs h =
     let a : 0 + n ≡ n = omega arith in
     let b : i ≡ i + 0 = omega arith in
-    λ j. stored (b j) (a j) l (sym (put_none (7 * i) xs) j)
+    λ j. stored (b j) (a j) l (sym (put_none i xs) j)
 convex_stored i k n (v ∷ vs) l xs h =
-    let q = seven (prepared v) in
+    let q = prepared v in
     let a : suc (length vs) + n ≡ suc (length vs + n) = omega arith in
     let b : suc i + length vs ≡ i + suc (length vs) = omega arith in
-    let m : 7 * suc i ≡ 7 * i + length q = omega arith in
-    let in_list : 7 * i + length q ≤ length xs = omega arith in
+    let m : suc i ≡ i + length (q ∷ []) = omega arith in
     ap (λ m. stored i m (convex_rows k (v ∷ vs) ++ l) xs) a
-    ∙ convex_stored (suc i) k n vs l (put (7 * i) q xs) (omega (arith, put_length (7 * i) q xs in_list))
-    ∙ (λ j. stored (b j) n l (put_put (7 * i) (7 * suc i) q (convex_sevens vs) xs m (omega arith) j))
+    ∙ convex_stored (suc i) k n vs l (set xs i q) (omega (arith, length-set xs i q))
+    ∙ ap (λ ys. stored (suc i + length vs) n l (put (suc i) (convex_prepared vs) ys)) (set_put i q xs (omega arith))
+    ∙ (λ j. stored (b j) n l (put_put i (suc i) (q ∷ []) (convex_prepared vs) xs m (omega arith) j))
 
-region_stored : (i k : ℕ) (g : Region) (l xs : List ℤ) → 7 * (i + total g) ≤ length xs → stored i (total g) (rows_from k g ++ l) xs ≡ put (7 * i) (sevens g) xs
-unfolding stored sevens total
-region_stored i k [] l xs h = sym (put_none (7 * i) xs)
+region_stored : (i k : ℕ) (g : Region) (l : List ℤ) (xs : List PreparedHalfspace) → i + total g ≤ length xs → stored i (total g) (rows_from k g ++ l) xs ≡ put i (region_prepared g) xs
+unfolding stored region_prepared total
+region_stored i k [] l xs h = sym (put_none i xs)
 region_stored i k (c ∷ cs) l xs h =
-    let m : 7 * (i + length c) ≡ 7 * i + length (convex_sevens c) = omega (arith, length_sevens c) in
-    let in_list : 7 * i + length (convex_sevens c) ≤ length xs = omega (arith, length_sevens c) in
+    let m : i + length c ≡ i + length (convex_prepared c) = omega (arith, length_convex c) in
+    let in_list : i + length (convex_prepared c) ≤ length xs = omega (arith, length_convex c) in
     ap (λ r. stored i (length c + total cs) r xs) (region_rows k c cs l)
     ∙ convex_stored i k (total cs) c (rows_from (suc k) cs ++ l) xs (omega arith)
-    ∙ region_stored (i + length c) (suc k) cs l (put (7 * i) (convex_sevens c) xs) (omega (arith, put_length (7 * i) (convex_sevens c) xs in_list))
-    ∙ put_put (7 * i) (7 * (i + length c)) (convex_sevens c) (sevens cs) xs m (omega arith)
+    ∙ region_stored (i + length c) (suc k) cs l (put i (convex_prepared c) xs) (omega (arith, put_length i (convex_prepared c) xs in_list))
+    ∙ put_put i (i + length c) (convex_prepared c) (region_prepared cs) xs m (omega arith)
 
 set_set : (es : List ℕ) (k a b : ℕ) → set (set es k a) k b ≡ set es k b
 set_set [] k a b = refl
@@ -151,6 +170,28 @@ region_marked i k ((v ∷ vs) ∷ cs) l es f h =
     ∙ ap (put (suc k) (ends_from (i + n) cs)) (set_put k (i + n) es (omega arith))
     ∙ put_put k (suc k) ((i + n) ∷ []) (ends_from (i + n) cs) es e (omega arith)
 
+-- the number of a convex and 1, then those of the rest
+convex_counted : (b k n : ℕ) (v : Halfspace) (vs : Convex) (l : List ℤ) → convexes_of b (suc (length vs) + n) (convex_rows k (v ∷ vs) ++ l) ≡ convexes_of (k + 1) n l
+unfolding convexes_of convex_rows
+convex_counted b k n v [] l = let a : 1 + n ≡ suc n = omega arith in ap (λ m. convexes_of b m (convex_rows k (v ∷ []) ++ l)) a
+convex_counted b k n v (w ∷ vs) l =
+    let a : suc (suc (length vs)) + n ≡ suc (suc (length vs) + n) = omega arith in
+    ap (λ m. convexes_of b m (convex_rows k (v ∷ w ∷ vs) ++ l)) a ∙ convex_counted (k + 1) k n w vs l
+
+region_counted : (k : ℕ) (g : Region) (l : List ℤ) → Filled g → convexes_of k (total g) (rows_from k g ++ l) ≡ k + length g
+unfolding convexes_of total
+region_counted k [] l f = omega arith
+region_counted k ([] ∷ cs) l f = absurd (omega (arith, f.0))
+region_counted k ((v ∷ vs) ∷ cs) l f =
+    let n = length (v ∷ vs) in
+    let one : k + 1 ≡ suc k = omega arith in
+    let all : suc k + length cs ≡ k + length ((v ∷ vs) ∷ cs) = omega arith in
+    ap (λ r. convexes_of k (n + total cs) r) (region_rows k (v ∷ vs) cs l)
+    ∙ convex_counted k k (total cs) v vs (rows_from (suc k) cs ++ l)
+    ∙ ap (λ m. convexes_of m (total cs) (rows_from (suc k) cs ++ l)) one
+    ∙ region_counted (suc k) cs l f.1
+    ∙ all
+
 -- ---- the rows of a region that is good, and has no more than 64 convexes, fit
 
 convex_fits : (k : ℕ) (c : Convex) (l : List ℤ) → k < 64 → good_convex c ≡ true → (n : ℕ) → FitRows n l → FitRows (length c + n) (convex_rows k c ++ l)
@@ -183,15 +224,19 @@ module _ (g : Region) (l : List ℤ) (is-good : good g ≡ true) (filled : Fille
   unfolding rows
   rows_fit = region_fits 0 g l (omega arith) is-good
 
-  pub rows_prepared : {n : ℕ} (before : List ℤ) {xs : List ℤ} (first : List ℕ) {es : List ℕ} → n ≡ total g → 7 * n ≤ length before → 64 ≤ length first
-      → xs ≡ stored 0 n (rows g ++ l) before → es ≡ marked 0 n (rows g ++ l) first → Prepared g xs es n
+  pub rows_prepared : {n c : ℕ} (before : List PreparedHalfspace) {xs : List PreparedHalfspace} (first : List ℕ) {es : List ℕ} → n ≡ total g → n ≤ length before → 64 ≤ length first
+      → xs ≡ stored 0 n (rows g ++ l) before → es ≡ marked 0 n (rows g ++ l) first → c ≡ convexes_of 0 n (rows g ++ l) → Prepared g (take n xs) (take c es)
   unfolding rows
-  rows_prepared {n} before {xs} first {es} e h m x y = record {
-    count = e;
-    filled = filled;
-    good = is-good;
-    more = drop (0 + length (sevens g)) before;
-    halfspaces = x ∙ ap (λ k. stored 0 k (rows g ++ l) before) e ∙ region_stored 0 0 g l before (omega (arith, e));
-    further = drop (0 + length (ends_from 0 g)) first;
-    ends = y ∙ ap (λ k. marked 0 k (rows g ++ l) first) e ∙ region_marked 0 0 g l first filled (omega arith);
-  }
+  rows_prepared {n} {c} before {xs} first {es} e h m x y z =
+      let from : 0 + length g ≡ length g = omega arith in
+      let count : c ≡ length g = z ∙ ap (λ k. convexes_of 0 k (rows g ++ l)) e ∙ region_counted 0 g l filled ∙ from in
+      record {
+        filled = filled;
+        good = is-good;
+        halfspaces =
+            ap (take n) (x ∙ ap (λ k. stored 0 k (rows g ++ l) before) e ∙ region_stored 0 0 g l before (omega (arith, e)))
+            ∙ take_at (region_prepared g) (drop (0 + length (region_prepared g)) before) n (length_region g ∙ sym e);
+        ends =
+            ap (take c) (y ∙ ap (λ k. marked 0 k (rows g ++ l) first) e ∙ region_marked 0 0 g l first filled (omega arith))
+            ∙ take_at (ends_from 0 g) (drop (0 + length (ends_from 0 g)) first) c (length_ends 0 g ∙ sym count);
+      }

@@ -1,2 +1,3 @@
 pub mod Measures
 pub mod PreparedLists
+pub mod PreparedRegions

@@ -19,8 +19,10 @@ use mesh::Trixel;
 use vector::Vec3;
 
 pub mod lists;
+pub mod prepared_region;
 
 // A halfspace prepared for classifying: f and d, D as `low`, G as `high`, and f·f − D² as `rest`.
+// Kept: `SoundHalfspace` is a clause and no invariant: the rule `prepared` makes one of any halfspace, good or not, and the lists begin with NO_HALFSPACE.
 #[derive(Clone, Copy)]
 pub struct PreparedHalfspace {
     pub f: Vec3,
@@ -30,6 +32,15 @@ pub struct PreparedHalfspace {
     pub rest: i64,
 }
 
+// What stands in the places of a list that are not used.
+pub const NO_HALFSPACE: PreparedHalfspace = PreparedHalfspace {
+    f: Vec3 { x: 0, y: 0, z: 0 },
+    d: 0,
+    low: 0,
+    high: 0,
+    rest: 0,
+};
+
 // A ray r, and its height, which is near (r·r) / 2^52.
 #[derive(Clone, Copy)]
 pub struct Ray {
@@ -38,6 +49,7 @@ pub struct Ray {
 }
 
 // The rays of a trixel, and whether V > 0.
+// Kept: `RaysOf` is a clause, as it is of the rays and of the trixel that is lent beside them.
 #[derive(Clone, Copy)]
 pub struct TrixelRays {
     pub r0: Ray,
@@ -132,34 +144,30 @@ fn cross_ray(a: Vec3, b: Vec3) -> Ray
 }
 
 // The first ray of a trixel: P1 × P2.
-pub fn first_ray(t: Trixel) -> Vec3
-    requires { SmallTrixel t }
-    ensures { result ≡ ray0 t }
+pub fn first_ray(t: &Trixel) -> Vec3
+    requires { SmallTrixel t.now }
+    ensures { result ≡ ray0 t.now }
 {
-    let p1 = t.p1;
-    let p2 = t.p2;
-    vector_products::cross(p1, p2)
+    vector_products::cross(t.p1, t.p2)
 }
 
 // The rays of a trixel whose first ray is r: a child has its first ray from the trixel that was cut.
-pub fn measured(t: Trixel, r: Vec3) -> TrixelRays
-    requires small_trixel { SmallTrixel t }
-    requires r_value { r ≡ ray0 t }
-    ensures { RaysOf t result }
+pub fn measured(t: &Trixel, r: Vec3) -> TrixelRays
+    requires small_trixel { SmallTrixel t.now }
+    requires r_value { r ≡ ray0 t.now }
+    ensures { RaysOf t.now result }
 {
-    let p0 = t.p0;
-    let p1 = t.p1;
-    let p2 = t.p2;
     TrixelRays {
         r0: ray_of(r),
-        r1: cross_ray(p2, p0),
-        r2: cross_ray(p0, p1),
-        oriented: 0 < vector_products::dot(p0, r),
+        r1: cross_ray(t.p2, t.p0),
+        r2: cross_ray(t.p0, t.p1),
+        oriented: 0 < vector_products::dot(t.p0, r),
     }
 }
 
 // What belongs to a trixel, put together anew. What is handed to a function that stands apart goes through memory: so it is the copy that does, and only
 // where it is made.
+// Kept: tried without this copy and those of covering_walk, and a cover of 100 halfspaces in one convex takes 12 % longer, and 384 bytes more of stack.
 pub fn copied(s: TrixelRays) -> TrixelRays
     ensures { result ≡ s }
 {

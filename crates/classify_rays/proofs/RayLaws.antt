@@ -7,9 +7,6 @@ use borrow.Author.Tests.{le-leb, lt-leb, leb-true}
 use lib.Dec.{leb}
 use lib.IntN.{ℤ, nat_abs}
 use Rattle.algebra.proofs.Filters as filters
-use mir.Syntax.{w64}
-use mir.Val.{SFits, to_z, of_z}
-use mir.Facts.{to_z-of_z}
 use Rattle.vector.specs.declared.Vec3.{Vec3}
 use Rattle.vector.specs.Vectors.{dot}
 use Rattle.vector.proofs.Sizes.{AtMost}
@@ -18,8 +15,7 @@ use Rattle.mesh.specs.declared.Trixel.{Trixel}
 use Rattle.classify_prepared.specs.declared.Ray.{Ray}
 use Rattle.classify_prepared.specs.declared.TrixelRays.{TrixelRays}
 use Rattle.classify_rays.specs.declared.Passed.{Passed}
-use Rattle.classify_rays.specs.declared.FilterResult.{FilterResult}
-use Rattle.classify_rays.specs.declared.FilterResult.TheVariants.{Yes, No, Unsure}
+use Rattle.std.specs.Prelude.{Option, Some, None}
 use Rattle.classify_prepared.specs.Measures.{height_of, square_of, IsRay, RaysOf, OwnRays}
 use Rattle.classify.proofs.RaysFirst.{passes, all_pass}
 use Rattle.classify_rays.specs.Rays.{filter_reach, passed_of, rays_passed}
@@ -36,10 +32,6 @@ rays_passed_law f h e q = q ∙ (λ i. passed_of (passes f (e i) (h.r0.r i)) (pa
 
 pub rays_all : (f : Vec3) {g k : ℤ} {t : Trixel} {s : TrixelRays} {a : Bool} → RaysOf t s → g ≡ k → a ≡ passes f g s.r0.r && (passes f g s.r1.r && passes f g s.r2.r) → a ≡ all_pass f k t
 rays_all f h e q = q ∙ (λ i. passes f (e i) (h.r0.r i) && (passes f (e i) (h.r1.r i) && passes f (e i) (h.r2.r i)))
-
--- a ray that was tested, with a number that was handed on by its bits
-pub tested : (f : Vec3) {g : ℤ} (v : Vec3) → SFits w64 g → {b t : Bool} → b ≡ passes f (to_z w64 (of_z w64 g)) v → b ≡ t → passes f g v ≡ t
-tested f v h e k = sym (e ∙ ap (λ g. passes f g v) (to_z-of_z h)) ∙ k
 
 -- ---- the height
 
@@ -61,16 +53,11 @@ ray_most i = subst (λ h. h ≤ 3 * 2 ^ 30) (sym i.height) (height_most i.size)
 
 -- ---- the filter
 
--- what the filter says of a test is right
-abbrev pub Right : FilterResult → Bool → Type 0
-Right Yes t = true ≡ t
-Right No t = false ≡ t
-Right Unsure t = Unit {0}
-
-right_by : {a b t : Bool} → (a ≡ true → true ≡ t) → (b ≡ true → false ≡ t) → Right (cond a Yes (cond b No Unsure)) t
-right_by {a = true} f g = f refl
-right_by {a = false} {b = true} f g = g refl
-right_by {a = false} {b = false} f g = tt
+-- what two tests say of a third, where the first proves it and the second refutes it
+told_by : {a b t d : Bool} → (a ≡ true → true ≡ t) → (b ≡ true → false ≡ t) → Some d ≡ cond a (Some true) (cond b (Some false) None) → d ≡ t
+told_by {a = true} f g e = cc (f refl, e)
+told_by {a = false} {b = true} f g e = cc (g refl, e)
+told_by {a = false} {b = false} f g e = cc (e)
 
 module _ (x g : ℕ) {y : Ray} (i : IsRay y.r y) where
   sure : leb ((g * g / 1024 + 1) * (y.height + 5)) (x / 2 ^ 31 * (x / 2 ^ 31)) ≡ true → true ≡ leb (g * g * square_of y) (x * x)
@@ -79,5 +66,6 @@ module _ (x g : ℕ) {y : Ray} (i : IsRay y.r y) where
   sure_not : leb ((x / 2 ^ 31 + 1) * (x / 2 ^ 31 + 1)) (g * g / 1024 * y.height) ≡ true → false ≡ leb (g * g * square_of y) (x * x)
   sure_not e = sym (lt-leb _ _ (filters.reach_surely_not x g (square_of y) y.height (subst (λ h. 2 ^ 52 * h ≤ square_of y) (sym i.height) (height_low i.size)) (leb-true _ _ e)))
 
-  pub filter_right : {r t : FilterResult} → r ≡ filter_reach x y.height g → r ≡ t → Right t (leb (g * g * square_of y) (x * x))
-  filter_right e k = subst (λ t. Right t (leb (g * g * square_of y) (x * x))) (sym e ∙ k) (right_by sure sure_not)
+  -- where the filter is sure it is right
+  pub filter_right : {r : Option Bool} {d : Bool} → r ≡ filter_reach x y.height g → r ≡ Some d → d ≡ leb (g * g * square_of y) (x * x)
+  filter_right e k = told_by sure sure_not (sym k ∙ e)

@@ -2,7 +2,7 @@
 // is `passes` of classify/proofs/RaysFirst; what the filter decides stands in specs/Rays.
 #![tactic(auto)]
 
-ghost use Rattle.std.specs.Prelude.{◌≡◌, cond, not, ◌&&◌, ◌+◌, ◌*◌, ◌^◌, ◌≤◌, ◌<◌, leb, nat_abs};
+ghost use Rattle.std.specs.Prelude.{◌≡◌, ◌&&◌, ◌+◌, ◌*◌, ◌^◌, ◌≤◌, ◌<◌, leb, nat_abs};
 ghost use Rattle.algebra.proofs.Sizes.{Upto};
 ghost use Rattle.wide.specs.Value.{value_of};
 ghost use Rattle.vector.proofs.Sizes.{AtMost, Small};
@@ -21,14 +21,6 @@ pub enum Passed {
     None,
     Some,
     All,
-}
-
-// What a filter says of a test.
-#[derive(Clone, Copy)]
-pub enum FilterResult {
-    Yes,
-    No,
-    Unsure,
 }
 
 // Whether a·b ≤ s².
@@ -64,7 +56,8 @@ fn square_length(r: Vec3) -> Wide
     wide::sum(wide::sum(squared(r.x), squared(r.y)), squared(r.z))
 }
 
-// Whether x² ≥ g² (r·r), in two words.
+// Whether x² ≥ g² (r·r), in two words. It is rarely asked.
+#[inline(never)]
 fn reaches_exactly(x: u64, r: Vec3, g: u64) -> bool
     requires { (x ≤ 3 * 2 ^ 61) × (g ≤ 2 ^ 21) × AtMost (2 ^ 41) r }
     ensures { result ≡ leb (g * g * nat_abs (vectors.dot r r)) (x * x) }
@@ -74,73 +67,50 @@ fn reaches_exactly(x: u64, r: Vec3, g: u64) -> bool
     !wide::less(given, wanted)
 }
 
-// r, put together anew. What is handed to a function that stands apart goes through memory: so it is the copy that does, and only where it is made.
-fn copied(r: Vec3) -> Vec3
-    requires { AtMost (2 ^ 41) r }
-    ensures { result ≡ r }
-{
-    Vec3 {
-        x: r.x,
-        y: r.y,
-        z: r.z,
-    }
-}
-
 // What a product with a ray is divided by in the filter.
 const UPPER: u64 = 2147483648;
 
-// Whether x² ≥ g² (r·r) for the ray r of height h, by a filter. With p = g² / 2^10 and q = x / 2^31 it is sure where (p + 1)(h + 5) ≤ q², and sure not
-// to be where (q + 1)² ≤ p h.
-fn filtered(x: u64, h: u64, g: u64) -> FilterResult
+// Whether x² ≥ g² (r·r) for the ray r of height h, where a filter is sure. With p = g² / 2^10 and q = x / 2^31 it is so where (p + 1)(h + 5) ≤ q², and not so
+// where (q + 1)² ≤ p h.
+fn filtered(x: u64, h: u64, g: u64) -> Option<bool>
     requires { (x ≤ 3 * 2 ^ 61) × (g ≤ 2 ^ 21) × (h + 5 < 2 ^ 32) }
     ensures { result ≡ filter_reach x h g }
 {
     let p = g * g / 1024;
     let q = x / UPPER;
     if product_within(p + 1, h + 5, q) {
-        return FilterResult::Yes;
+        return Some(true);
     }
     if square_within(q + 1, p, h) {
-        return FilterResult::No;
+        return Some(false);
     }
-    FilterResult::Unsure
+    None
 }
 
 // Whether x² ≥ g² (r·r) for the ray r: by the filter, and in two words where it is not sure.
+#[inline(always)]
 pub fn reaches(x: u64, y: Ray, g: u64) -> bool
     requires { (x ≤ 3 * 2 ^ 61) × (g ≤ 2 ^ 21) × IsRay y.r y }
     ensures { result ≡ leb (g * g * square_of y) (x * x) }
 {
-    let r = y.r;
-    let decided = filtered(x, y.height, g);
-    match decided {
-        FilterResult::Yes => true,
-        FilterResult::No => false,
-        FilterResult::Unsure => reaches_exactly(x, copied(r), g),
+    match filtered(x, y.height, g) {
+        Some(reached) => reached,
+        None => reaches_exactly(x, y.r, g),
     }
 }
 
-// Whether f·r > 0 and (f·r)² ≥ g² (r·r) for the ray r. The same two tests as in `reaches`, so that the filter stands in the scan itself and the test in
-// two words does not.
+// Whether f·r > 0 and (f·r)² ≥ g² (r·r) for the ray r.
 fn passes(f: Vec3, g: i64, y: Ray) -> bool
     requires small { Small f }
     requires upto { Upto (2 ^ 21) g }
     requires ray { IsRay y.r y }
     ensures { result ≡ rule.passes f g y.r }
 {
-    let r = y.r;
-    let x = vector_products::dot(f, r);
+    let x = vector_products::dot(f, y.r);
     if x <= 0 {
         return false;
     }
-    let n = x as u64;
-    let k = vector_units::size(g);
-    let decided = filtered(n, y.height, k);
-    match decided {
-        FilterResult::Yes => true,
-        FilterResult::No => false,
-        FilterResult::Unsure => reaches_exactly(n, copied(r), k),
-    }
+    reaches(x as u64, y, vector_units::size(g))
 }
 
 // Whether all rays of a trixel pass: the next is tried where those before it do.
@@ -150,23 +120,7 @@ pub fn all_pass(f: Vec3, g: i64, s: TrixelRays) -> bool
     requires own_rays { OwnRays s }
     ensures { result ≡ rule.passes f g s.r0.r && (rule.passes f g s.r1.r && rule.passes f g s.r2.r) }
 {
-    let r0 = s.r0;
-    let r1 = s.r1;
-    let r2 = s.r2;
-    if !passes(f, g, r0) {
-        return false;
-    }
-    if !passes(f, g, r1) {
-        return false;
-    }
-    passes(f, g, r2)
-}
-
-// Whether both hold, or neither does.
-fn agree(a: bool, b: bool) -> bool
-    ensures { result ≡ cond a b (not b) }
-{
-    if a { b } else { !b }
+    passes(f, g, s.r0) && passes(f, g, s.r1) && passes(f, g, s.r2)
 }
 
 // How many rays of a trixel pass: the third is tried where the other two agree.
@@ -176,18 +130,9 @@ pub fn count_passed(f: Vec3, g: i64, s: TrixelRays) -> Passed
     requires own_rays { OwnRays s }
     ensures { result ≡ passed_of (rule.passes f g s.r0.r) (rule.passes f g s.r1.r) (rule.passes f g s.r2.r) }
 {
-    let r0 = s.r0;
-    let r1 = s.r1;
-    let r2 = s.r2;
-    let first = passes(f, g, r0);
-    if !agree(first, passes(f, g, r1)) {
+    let first = passes(f, g, s.r0);
+    if passes(f, g, s.r1) != first || passes(f, g, s.r2) != first {
         return Passed::Some;
     }
-    if !agree(first, passes(f, g, r2)) {
-        return Passed::Some;
-    }
-    if first {
-        return Passed::All;
-    }
-    Passed::None
+    if first { Passed::All } else { Passed::None }
 }

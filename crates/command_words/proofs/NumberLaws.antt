@@ -1,22 +1,20 @@
 -- Laws of the numbers in digits: what the next digit does to a number that is being read, and that a number that was read is at most the
 -- bound. A number never falls as digits follow it, so one that has passed the bound stays none. Assumes nothing.
-use Prim.Native.Nat.{ℕ, zero, suc, ◌+◌, ◌-◌, ◌*◌, ◌≤◌, ◌<◌}
+use Prim.Native.Nat.{ℕ, suc, ◌+◌, ◌-◌, ◌*◌, ◌≤◌, ◌<◌}
 use native.Mathlib.Omega.{arith}
 use native.Mathlib.Numerals.{add-one}
 use native.Mathlib.Nat.{le_trans, le_refl}
 use mathlib.Core.Path.{◌≡◌, refl, sym, ap, ◌∙◌}
 use mathlib.Core.Bool.{Bool, true, false, ◌&&◌}
 use mathlib.Core.List.{List, [], ◌∷◌}
-use borrow.Author.Tests.{leb-true, leb-false, lt-leb, le-leb, eq-eqb, ne_eqb}
-use lib.Dec.{leb, lit<}
-use lib.ListN.{length, get_or, take, drop, length-drop}
-use lib.IntN.{pos, neg_ℤ}
-use lib.Signed.{mag}
-use lib.Seq.{drop-cons, drop-length, take_all}
-use Rattle.command_words.specs.declared.Natural.{Natural}
-use Rattle.command_words.specs.declared.Natural.TheVariants.{Is, Not}
-use Rattle.command_words.specs.declared.Whole.TheVariants as WV
-use Rattle.command_words.specs.Numbers.{is_digit, digits, value_from, provided, natural_from, natural_in, whole_in, plain, negated, UpTo}
+use borrow.Author.Tests.{leb-true, leb-false, lt-leb, le-leb}
+use lib.Dec.{leb}
+use lib.ListN.{length, get_or, drop}
+use lib.Seq.{drop-cons, drop-length}
+use Rattle.std.specs.Prelude.{Option, Some, None}
+use Rattle.std.specs.Int.{IsInRange, IsOutOfRange}
+use Rattle.std.proofs.lemmas.Bool.Decides.{nat_tests}
+use Rattle.command_words.specs.Numbers.{is_digit, digits, value_from, provided, natural_from, UpTo}
 
 -- a number never falls
 grows : (n : ℕ) (w : List ℕ) → n ≤ value_from n w
@@ -29,9 +27,9 @@ and_false true = refl
 and_false false = refl
 
 -- what is read after a first digit, by what the first digit gave
-abbrev after : Natural → (ℕ → Natural) → Natural
-after (Is n) f = f n
-after Not f = Not
+abbrev after : Option ℕ → (ℕ → Option ℕ) → Option ℕ
+after (Some n) f = f n
+after None f = None
 
 module _ (m n b : ℕ) (w : List ℕ) where
   step_by : (d t : Bool) → is_digit b ≡ d → leb (n * 10 + (b - 48)) m ≡ t
@@ -52,25 +50,34 @@ module _ (m n : ℕ) (w : List ℕ) (i : ℕ) (here : i < length w) where
   at = rw (add-one, drop-cons w i 0) (step m n (get_or w i 0) (drop (suc i) w))
 
   -- the next digit
-  pub goes_on : {k : ℕ} → Is k ≡ natural_from m n (get_or w i 0 ∷ []) → natural_from m n (drop i w) ≡ natural_from m k (drop (i + 1) w)
+  pub goes_on : {k : ℕ} → Some k ≡ natural_from m n (get_or w i 0 ∷ []) → natural_from m n (drop i w) ≡ natural_from m k (drop (i + 1) w)
   goes_on e = at ∙ ap (λ r. after r (λ k. natural_from m k (drop (i + 1) w))) (sym e)
 
-  pub stops : Not ≡ natural_from m n (get_or w i 0 ∷ []) → natural_from m n (drop i w) ≡ Not
+  pub stops : None ≡ natural_from m n (get_or w i 0 ∷ []) → natural_from m n (drop i w) ≡ None
   stops e = at ∙ ap (λ r. after r (λ k. natural_from m k (drop (i + 1) w))) (sym e)
 
--- the first digit, and none
-pub begins : (m : ℕ) (w : List ℕ) → (length w ≡ 0 → ⊥) → natural_from m 0 w ≡ natural_in m w
-begins m [] h = absurd (h refl)
-begins m (b ∷ w) h = refl
-
-pub nothing : (m : ℕ) (w : List ℕ) → length w ≡ 0 → Not ≡ natural_in m w
-nothing m [] e = refl
-nothing m (b ∷ w) e = absurd (omega arith)
-
 -- no digit is left
-pub ends : (m n : ℕ) (w : List ℕ) {i : ℕ} → i ≡ length w → n ≤ m → Is n ≡ natural_from m n (drop i w)
+pub ends : (m n : ℕ) (w : List ℕ) {i : ℕ} → i ≡ length w → n ≤ m → Some n ≡ natural_from m n (drop i w)
 unfolding digits value_from
 ends m n w e h = simp (e, drop-length w, le-leb n m h)
+
+-- one digit more
+module _ (m n b : ℕ) where
+  pub no_digit : IsOutOfRange 48 57 b → None ≡ natural_from m n (b ∷ [])
+  unfolding digits value_from
+  no_digit h = grind (arith, nat_tests)
+
+  module _ (digit : IsInRange 48 57 b) where
+    pub past : m < n * 10 + (b - 48) → None ≡ natural_from m n (b ∷ [])
+    unfolding digits value_from
+    past h = simp (lt-leb _ _ h, and_false)
+
+    pub fits : n * 10 + (b - 48) ≤ m → Some (n * 10 + (b - 48)) ≡ natural_from m n (b ∷ [])
+    unfolding digits value_from
+    fits h =
+        let low : 48 ≤ b = omega (arith, digit) in
+        let high : b ≤ 57 = omega (arith, digit) in
+        simp (le-leb _ _ low, le-leb _ _ high, le-leb _ _ h)
 
 -- what was read is at most the bound
 provided_most : (m v : ℕ) (a t : Bool) → leb v m ≡ t → UpTo m (provided (a && t) v)
@@ -80,20 +87,3 @@ provided_most m v false t p = tt
 
 pub up_to_from : (m n : ℕ) (w : List ℕ) → UpTo m (natural_from m n w)
 up_to_from m n w = provided_most m (value_from n w) (digits w) (leb (value_from n w) m) refl
-
--- ---- words with a sign
-
-pub no_bytes : (w : List ℕ) → length w ≡ 0 → WV.Not ≡ whole_in w
-no_bytes [] e = refl
-no_bytes (b ∷ w) e = absurd (omega arith)
-
-pub with_minus : (w : List ℕ) → get_or w 0 0 ≡ 45 → negated (natural_in 2147483648 (take (length w - 1) (drop 1 w))) ≡ whole_in w
-with_minus w e = simp (eq-eqb _ _ e, take_all (length w - 1) (drop 1 w) (simp length-drop (le_refl _)))
-
-pub with_no_minus : (w : List ℕ) → (get_or w 0 0 ≡ 45 → ⊥) → plain (natural_in 2147483647 w) ≡ whole_in w
-with_no_minus w n = simp (ne_eqb _ _ n)
-
--- the size of a negative number of 32 bits
-pub mag_negated : (n : ℕ) → n ≤ 2147483648 → mag (neg_ℤ (pos n)) < 2147483648
-mag_negated zero h = lit< tt
-mag_negated (suc k) h = h

@@ -1,12 +1,15 @@
 // A command line as it is stored, and its words: numbers, pointings, files and floats in hexadecimal digits, lists of numbers.
 #![tactic(auto)]
 
-ghost use Rattle.std.specs.Prelude.{◌≡◌, [], ◌∷◌, ◌+◌, ◌-◌, ◌^◌, ◌≤◌, length};
-ghost use Rattle.command_words.specs.Numbers.{UpTo, natural_from, natural_in, whole_in, plain, negated};
-ghost use Rattle.command_words.specs.Files.{FileDigits, hex_value, letter_value, bytes_in, length_of, file_place, BytePushed, ByteStored};
+ghost use Rattle.std.specs.Prelude.{◌≡◌, [], ◌∷◌, ◌+◌, ◌-◌, ◌<◌, ◌≤◌, length, IfSome};
+ghost use Rattle.std.specs.Iterator.{at_most};
+ghost use Rattle.std.specs.Option.{option_map_or};
+ghost use Rattle.command_words.specs.Numbers.{UpTo, natural_from, natural_in, whole_in};
+ghost use Rattle.command_words.specs.Files.{FileDigits, hex_value, bytes_in, file_length, file_place, BytePushed, ByteStored};
 
-use check::same;
 use limits::MAX_FILE_BYTES;
+use lines::{LINE_FEED, Line};
+use print::{Buffer, Fault};
 
 pub mod lines;
 
@@ -15,9 +18,6 @@ pub const FILE_CAPACITY: usize = MAX_FILE_BYTES + 1;
 
 // A line of 65536 bytes has no more numbers.
 pub const WORD_CAPACITY: usize = 32768;
-
-// No length: more than the arrays hold.
-const NONE: usize = WORD_CAPACITY + 1;
 
 const BLANK: u8 = b' ';
 
@@ -31,379 +31,322 @@ const LARGEST_NEGATIVE: u64 = LARGEST + 1;
 // One digit less than a file of FILE_CAPACITY bytes has.
 const FILE_DIGITS: usize = 2 * FILE_CAPACITY - 1;
 
-// Past every place of a line.
-const NO_FILE: usize = usize::MAX;
-
 // What is stored of a line while it comes: how many bytes, and the place where its file begins while that comes.
-#[derive(Clone, Copy)]
+#[derive(Drop)]
 pub struct StoredLine {
-    pub bytes: usize,
-    pub file: usize,
+    line: Buffer,
+    bytes: usize,
+    file: Option<usize>,
 }
 
-#[derive(Clone, Copy)]
-pub enum NaturalAt {
-    Is(u32, usize),
-    Not,
-}
-
-#[derive(Clone, Copy)]
-pub enum WholeAt {
-    Is(i32, usize),
-    Not,
-}
-
-#[derive(Clone, Copy)]
-pub enum PointAt {
-    Is { x: i32, y: i32, z: i32, next: usize },
-    Not,
-}
-
-#[derive(Clone, Copy)]
-pub enum Natural {
-    Is(u64),
-    Not,
-}
-
-#[derive(Clone, Copy)]
-pub enum Whole {
-    Is(i32),
-    Not,
-}
-
-// A line of which nothing has come.
-pub fn empty_line() -> StoredLine {
-    StoredLine {
-        bytes: 0,
-        file: NO_FILE,
+impl StoredLine {
+    // A line of which nothing has come.
+    fn empty() -> StoredLine {
+        StoredLine {
+            line: io::large_buffer(),
+            bytes: 0,
+            file: None,
+        }
     }
-}
 
-// Appends a byte to a line. Of a file only as many digits are stored as show that it is too long for a region file, so a line with a file may have
-// any length. A line that is too long otherwise counts as more bytes than `line` can hold.
-pub fn append_byte(line: &mut [u8], stored: StoredLine, b: u8) -> StoredLine
-    ensures { ByteStored (file_place b stored.file) stored.bytes b line.old line.new result.bytes }
-{
-    let n = stored.bytes;
-    if b == BLANK {
-        let file = file_after(line, n);
-        let bytes = store(line, n, NO_FILE, b);
-        return StoredLine { bytes, file };
+    // The next line: nothing has come of it.
+    fn clear(&mut self) {
+        self.bytes = 0;
+        self.file = None;
     }
-    let file = stored.file;
-    let bytes = store(line, n, file, b);
-    StoredLine { bytes, file }
-}
 
-// Where a file begins that follows the first n bytes of a line and a blank.
-fn file_after(line: &[u8], n: usize) -> usize {
-    if line.len() <= n {
-        return NO_FILE;
+    // Appends a byte. Of a file only as many digits are stored as show that it is too long for a region file, so a line with a file may have any
+    // length. A line that is too long otherwise counts as more bytes than can be stored.
+    pub fn append(&mut self, b: u8)
+        ensures { ByteStored (file_place b self.old.file) self.old.bytes b self.old.line self.new.line self.new.bytes }
+    {
+        if b == BLANK {
+            let file = self.file_after();
+            self.store(None, b);
+            self.file = file;
+            return;
+        }
+        self.store(self.file, b);
     }
-    if is_before_file(&line[..n]) {
-        return n + 1;
+
+    // Where a file begins that follows the bytes so far and a blank.
+    fn file_after(&self) -> Option<usize> {
+        let n = self.bytes;
+        if n < self.line.len() && is_before_file(&self.line[..n]) {
+            Some(n + 1)
+        } else {
+            None
+        }
     }
-    NO_FILE
+
+    // Appends a byte, with a file from `file` on.
+    fn store(&mut self, file: Option<usize>, b: u8)
+        ensures { ByteStored file self.old.bytes b self.old.line self.new.line self.new.bytes }
+    {
+        if self.line.len() < self.bytes {
+            return;
+        }
+        match file {
+            Some(p) if FILE_DIGITS <= self.bytes.saturating_sub(p) => self.store_past(p, b),
+            _ => self.push(b),
+        }
+    }
+
+    // As above, where FILE_DIGITS of the file are stored: a digit is stored until a second one comes, and then both are dropped. Another byte takes the
+    // place of the first digit, so that there is no file.
+    fn store_past(&mut self, file: usize, b: u8)
+        requires file_bound { file + FileDigits ≤ self.old.bytes }
+        requires n_in_bounds { self.old.bytes ≤ length self.old.line }
+        ensures { ByteStored (Some file) self.old.bytes b self.old.line self.new.line self.new.bytes }
+    {
+        if digit(b).is_none() {
+            self.line[file] = b;
+            return;
+        }
+        if FILE_DIGITS < self.bytes - file {
+            self.bytes = file + FILE_DIGITS;
+            return;
+        }
+        self.push(b);
+    }
+
+    // Appends a byte as it comes.
+    fn push(&mut self, b: u8)
+        ensures { BytePushed self.old.bytes b self.old.line self.new.line self.new.bytes }
+    {
+        if self.bytes < self.line.len() {
+            self.line[self.bytes] = b;
+            self.bytes += 1;
+            return;
+        }
+        self.bytes = self.line.len() + 1;
+    }
+
+    // Appends bytes as they come, in which a file may begin.
+    fn extend(&mut self, part: &[u8]) {
+        for b in part {
+            self.append(*b);
+        }
+    }
+
+    // The line that ends with these bytes, the last of them its line feed: they are all of it, or stand behind what is stored.
+    fn ended<'a>(&'a mut self, rest: &'a [u8]) -> Line<'a> {
+        let (text, _) = rest.split_at(rest.len().saturating_sub(1));
+        if self.bytes == 0 {
+            return Line {
+                text,
+                with_feed: rest,
+            };
+        }
+        self.extend(text);
+        let to = self.bytes;
+        self.push(LINE_FEED);
+        let after = self.bytes;
+        Line {
+            text: self.first(to),
+            with_feed: self.first(after),
+        }
+    }
+
+    // The last line, which has no line feed, if something has come of it.
+    fn last(&self) -> Option<Line<'_>> {
+        if self.bytes == 0 {
+            return None;
+        }
+        let text = self.first(self.bytes);
+        Some(Line {
+            text,
+            with_feed: text,
+        })
+    }
+
+    // The first n bytes. A line that is too long to be stored has none.
+    fn first(&self, n: usize) -> &[u8] {
+        if self.line.len() < n {
+            return &self.line[..0];
+        }
+        &self.line[..n]
+    }
 }
 
 // Whether the word after these is a file, or a catalogue line, in digits: after the command's name or, for some commands, after the owner.
 fn is_before_file(line: &[u8]) -> bool {
-    let name = word(line, 0);
-    let owner_at = after(line, 0);
-    if is_over(line, owner_at) {
-        return takes_file(name);
+    let mut words = Words::of(line);
+    match (words.next(), words.next(), words.next()) {
+        (Some(b"rows" | b"togrouped" | b"toplain" | b"holds" | b"cover" | b"line"), None, _) => {
+            true
+        },
+        (Some(b"frames" | b"trial"), Some(_), None) => true,
+        _ => false,
     }
-    is_over(line, after(line, owner_at)) && takes_owner_and_file(name)
 }
 
-fn takes_file(name: &[u8]) -> bool {
-    same(name, b"rows")
-        || same(name, b"togrouped")
-        || same(name, b"toplain")
-        || same(name, b"holds")
-        || same(name, b"cover")
-        || same(name, b"line")
+// The words of a line that are left, parted by one blank each.
+#[derive(Clone, Copy)]
+pub struct Words<'a> {
+    rest: Option<&'a [u8]>,
 }
 
-fn takes_owner_and_file(name: &[u8]) -> bool {
-    same(name, b"frames") || same(name, b"trial")
+impl<'a> Iterator for Words<'a> {
+    type Item = &'a [u8];
+
+    ghost remaining = { λ w. at_most (option_map_or (λ rest. length rest.now + 1) w.rest 0) };
+
+    fn next(&mut self) -> Option<&'a [u8]> {
+        let rest = self.rest?;
+        match rest.iter().position(|b| *b == BLANK) {
+            Some(n) => {
+                self.rest = Some(&rest[n + 1..]);
+                Some(&rest[..n])
+            },
+            None => {
+                self.rest = None;
+                Some(rest)
+            },
+        }
+    }
 }
 
-// Appends a byte to a line of which n are stored, with a file from `file` on.
-fn store(line: &mut [u8], n: usize, file: usize, b: u8) -> usize
-    ensures { ByteStored file n b line.old line.new result }
-{
-    if line.len() < n {
-        return n;
+impl<'a> Words<'a> {
+    pub fn of(line: &'a [u8]) -> Words<'a> {
+        Words { rest: Some(line) }
     }
-    if n <= file {
-        return push(line, n, b);
-    }
-    if n - file < FILE_DIGITS {
-        return push(line, n, b);
-    }
-    store_past(line, n, file, b)
-}
 
-// As above, where FILE_DIGITS of the file are stored: a digit is stored until a second one comes, and then both are dropped. Another byte takes the
-// place of the first digit, so that there is no file.
-fn store_past(line: &mut [u8], n: usize, file: usize, b: u8) -> usize
-    requires file_bound { file + FileDigits ≤ n }
-    requires n_in_bounds { n ≤ length line.old }
-    ensures { ByteStored file n b line.old line.new result }
-{
-    if 15 < digit(b) {
-        line[file] = b;
-        return n;
+    // Whether no word is left.
+    pub fn is_over(&self) -> bool {
+        self.rest.is_none()
     }
-    if FILE_DIGITS < n - file {
-        return file + FILE_DIGITS;
+
+    // Malformed where a word is left.
+    pub fn end(self) -> Result<(), Fault> {
+        match self.rest {
+            None => Ok(()),
+            Some(_) => Err(Fault::Malformed),
+        }
     }
-    push(line, n, b)
-}
 
-// Appends a byte as it comes.
-fn push(line: &mut [u8], n: usize, b: u8) -> usize
-    ensures { BytePushed n b line.old line.new result }
-{
-    if n < line.len() {
-        line[n] = b;
-        return n + 1;
+    // The next word.
+    pub fn word(&mut self) -> Result<&'a [u8], Fault> {
+        self.next().ok_or(Fault::Malformed)
     }
-    line.len() + 1
-}
 
-// The word that begins at `at`.
-pub fn word(line: &[u8], at: usize) -> &[u8] {
-    let to = end(line, at);
-    if at < to {
-        return &line[at..to];
+    // A number of 32 bits with no sign.
+    pub fn natural(&mut self) -> Result<u32, Fault> {
+        let n = natural_of(self.word()?, LARGEST_NATURAL).ok_or(Fault::Malformed)?;
+        Ok(n as u32)
     }
-    &line[..0]
-}
 
-// Where the word after that begins.
-pub fn after(line: &[u8], at: usize) -> usize {
-    end(line, at) + 1
-}
-
-// The word that begins at `at`, if no other follows.
-pub fn last(line: &[u8], at: usize) -> &[u8] {
-    if is_over(line, after(line, at)) {
-        return word(line, at);
+    // A number of 32 bits with a minus or with no sign.
+    fn whole(&mut self) -> Result<i32, Fault> {
+        whole_of(self.word()?).ok_or(Fault::Malformed)
     }
-    &line[..0]
-}
 
-// Whether no word begins at `at`: the word before it was the last.
-pub fn is_over(line: &[u8], at: usize) -> bool {
-    line.len() < at
-}
-
-fn end(line: &[u8], at: usize) -> usize
-    ensures { result ≤ length line.now }
-{
-    if at < line.len() {
-        return match line[at..].iter().position(|b| *b == BLANK) {
-            Some(n) => at + n,
-            None => line.len(),
-        };
+    // Three whole numbers.
+    pub fn point(&mut self) -> Result<(i32, i32, i32), Fault> {
+        Ok((self.whole()?, self.whole()?, self.whole()?))
     }
-    line.len()
+
+    pub fn identifier(&mut self) -> Result<u64, Fault> {
+        natural_of(self.word()?, u64::MAX).ok_or(Fault::Malformed)
+    }
+
+    // The bits of a float: exactly `digits` hexadecimal digits, 16 at most.
+    pub fn bits(&mut self, digits: usize) -> Result<u64, Fault> {
+        bits_of(self.word()?, digits).ok_or(Fault::Malformed)
+    }
+
+    // The bytes of a file, stored in `to`.
+    pub fn file<'b>(&mut self, to: &'b mut [u8; FILE_CAPACITY]) -> Result<&'b [u8], Fault> {
+        file(self.word()?, to).ok_or(Fault::Malformed)
+    }
+
+    // The words that are left, each a whole number, stored in `to`.
+    pub fn numbers<'b>(self, to: &'b mut [i32; WORD_CAPACITY]) -> Result<&'b [i32], Fault> {
+        let mut n = 0;
+        for word in self {
+            if n == WORD_CAPACITY {
+                return Err(Fault::Malformed);
+            }
+            to[n] = whole_of(word).ok_or(Fault::Malformed)?;
+            n += 1;
+        }
+        Ok(&to[..n])
+    }
 }
 
 // A number up to `most`.
-fn natural_of(word: &[u8], most: u64) -> Natural
+fn natural_of(word: &[u8], most: u64) -> Option<u64>
     ensures value { result ≡ natural_in most word.now }
     ensures up_to { UpTo most result }
 {
-    if word.len() == 0 {
-        return Natural::Not;
+    if word.is_empty() {
+        return None;
     }
     let mut n: u64 = 0;
-    for i in 0..word.len() {
-        let Natural::Is(more) = with_digit(n, word[i], most) else {
-            return Natural::Not;
-        };
-        n = more;
+    for b in word {
+        n = with_digit(n, *b, most)?;
     }
-    Natural::Is(n)
+    Some(n)
 }
 
 // A number of 32 bits, with a minus or with no sign.
-fn whole_of(word: &[u8]) -> Whole
+fn whole_of(word: &[u8]) -> Option<i32>
     ensures { result ≡ whole_in word.now }
 {
-    if word.len() == 0 {
-        return Whole::Not;
+    match word {
+        [b'-', digits @ ..] => natural_of(digits, LARGEST_NEGATIVE).map(|n| (-(n as i64)) as i32),
+        _ => natural_of(word, LARGEST).map(|n| n as i32),
     }
-    if word[0] == b'-' {
-        return negative(natural_of(&word[1..], LARGEST_NEGATIVE));
-    }
-    positive(natural_of(word, LARGEST))
 }
 
 // Appends a digit to n.
-fn with_digit(n: u64, byte: u8, most: u64) -> Natural
+fn with_digit(n: u64, byte: u8, most: u64) -> Option<u64>
     ensures { result ≡ natural_from most n (byte ∷ []) }
 {
-    if byte < b'0' {
-        return Natural::Not;
+    if !byte.is_ascii_digit() {
+        return None;
     }
-    if b'9' < byte {
-        return Natural::Not;
+    let sum = n.checked_mul(10)?.checked_add((byte - b'0') as u64)?;
+    if most < sum {
+        return None;
     }
-    let digit = (byte - b'0') as u64;
-    if most < digit {
-        return Natural::Not;
-    }
-    if (most - digit) / 10 < n {
-        return Natural::Not;
-    }
-    Natural::Is(n * 10 + digit)
-}
-
-fn positive(n: Natural) -> Whole
-    requires { UpTo (2 ^ 31 - 1) n }
-    ensures { result ≡ plain n }
-{
-    match n {
-        Natural::Is(k) => Whole::Is(k as i32),
-        Natural::Not => Whole::Not,
-    }
-}
-
-fn negative(n: Natural) -> Whole
-    requires { UpTo (2 ^ 31) n }
-    ensures { result ≡ negated n }
-{
-    match n {
-        Natural::Is(k) => Whole::Is((-(k as i64)) as i32),
-        Natural::Not => Whole::Not,
-    }
-}
-
-// A number of 32 bits with no sign.
-pub fn natural_at(line: &[u8], at: usize) -> NaturalAt {
-    let Natural::Is(n) = natural_of(word(line, at), LARGEST_NATURAL) else {
-        return NaturalAt::Not;
-    };
-    NaturalAt::Is(n as u32, after(line, at))
-}
-
-// A number of 32 bits with a minus or with no sign.
-fn whole_at(line: &[u8], at: usize) -> WholeAt {
-    let Whole::Is(n) = whole_of(word(line, at)) else {
-        return WholeAt::Not;
-    };
-    WholeAt::Is(n, after(line, at))
-}
-
-// Three whole numbers.
-pub fn point_at(line: &[u8], at: usize) -> PointAt {
-    let WholeAt::Is(x, y_at) = whole_at(line, at) else {
-        return PointAt::Not;
-    };
-    let WholeAt::Is(y, z_at) = whole_at(line, y_at) else {
-        return PointAt::Not;
-    };
-    let WholeAt::Is(z, next) = whole_at(line, z_at) else {
-        return PointAt::Not;
-    };
-    PointAt::Is { x, y, z, next }
-}
-
-// An identifier that is the line's last word.
-pub fn identifier(line: &[u8], at: usize) -> Natural {
-    natural_of(last(line, at), u64::MAX)
+    Some(sum)
 }
 
 // The bytes of a file: two digits each, and `-` for a file with no bytes. Of a longer file the first FILE_CAPACITY bytes are stored.
-pub fn file(word: &[u8], to: &mut [u8; FILE_CAPACITY]) -> usize
-    ensures { result ≡ length_of (bytes_in word.now) }
+fn file<'a>(word: &[u8], to: &'a mut [u8; FILE_CAPACITY]) -> Option<&'a [u8]>
+    ensures { file_length result ≡ bytes_in word.now }
 {
-    if same(word, b"-") {
-        return 0;
+    if word == b"-".as_slice() {
+        return Some(&to[..0]);
     }
-    let n = word.len() / 2;
-    if n == 0 {
-        return NONE;
+    let (pairs, odd) = word.as_chunks::<2>();
+    if pairs.is_empty() || !odd.is_empty() {
+        return None;
     }
-    if n * 2 < word.len() {
-        return NONE;
-    }
-    for i in 0..n {
-        let value = digit(word[i * 2]) * 16 + digit(word[i * 2 + 1]);
-        if 255 < value {
-            return NONE;
-        }
-        if i < FILE_CAPACITY {
-            to[i] = value as u8;
+    let mut n = 0;
+    for [high, low] in pairs {
+        let value = digit(*high)? * 16 + digit(*low)?;
+        if n < FILE_CAPACITY {
+            to[n] = value as u8;
+            n += 1;
         }
     }
-    if n < FILE_CAPACITY {
-        return n;
-    }
-    FILE_CAPACITY
+    Some(&to[..n])
 }
 
-// The bits of a float: exactly `digits` hexadecimal digits, 16 at most.
-pub fn bits_of(word: &[u8], digits: usize) -> Natural {
+fn bits_of(word: &[u8], digits: usize) -> Option<u64> {
     if word.len() != digits {
-        return Natural::Not;
+        return None;
     }
-    let mut n: u64 = 0;
-    for i in 0..word.len() {
-        let value = digit(word[i]);
-        if 15 < value {
-            return Natural::Not;
-        }
-        n = n << 4 | value as u64;
-    }
-    Natural::Is(n)
+    word.iter()
+        .try_fold(0u64, |n, b| Some(n << 4 | digit(*b)? as u64))
 }
 
-// The value of a digit; 256 for another byte, so that two bytes give at most 255 only if both are digits.
-fn digit(byte: u8) -> u32
+// The value of a hexadecimal digit.
+fn digit(byte: u8) -> Option<u32>
     ensures value { result ≡ hex_value byte }
-    ensures upper_bound { result ≤ 256 }
+    ensures upper_bound { IfSome result (λ d. d < 16) }
 {
-    if byte < b'0' {
-        return 256;
-    }
-    if byte <= b'9' {
-        return (byte - b'0') as u32;
-    }
-    letter(byte, b'a', letter(byte, b'A', 256))
-}
-
-// The value of a letter from `first` on, or `other` for another byte.
-fn letter(byte: u8, first: u8, other: u32) -> u32
-    requires { other ≤ 256 }
-    ensures value { result ≡ letter_value byte first other }
-    ensures upper_bound { result ≤ 256 }
-{
-    if byte < first {
-        return other;
-    }
-    if 5 < byte - first {
-        return other;
-    }
-    (byte - first) as u32 + 10
-}
-
-// The words from `at` on to the line's end, each a whole number.
-pub fn numbers(line: &[u8], at: usize, to: &mut [i32; WORD_CAPACITY]) -> usize {
-    let mut next = at;
-    for i in 0..WORD_CAPACITY {
-        if is_over(line, next) {
-            return i;
-        }
-        let WholeAt::Is(n, after) = whole_at(line, next) else {
-            return NONE;
-        };
-        to[i] = n;
-        next = after;
-    }
-    NONE
+    (byte as char).to_digit(16)
 }

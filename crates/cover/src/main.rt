@@ -3,25 +3,23 @@
 #![tactic(auto)]
 
 use limits::MAX_FILE_BYTES;
-use streams::{Input, Streams};
+use print::Output;
+use streams::Streams;
 
 // A byte longer than the longest region file, so that a file that is too long is seen to be.
 const BYTES: usize = MAX_FILE_BYTES + 1;
 
 fn main(rt: HostRuntime) {
-    let streams = Streams {
-        input: rt.stdin(),
-        output: rt.stdout(),
-        errors: rt.stderr(),
-    };
+    let streams = Streams::of(&rt);
     if !streams::has_no_argument(&rt, streams, b"usage: cover < FILE\n") {
         return;
     }
     let mut file = [0u8; BYTES];
-    let Input::Bytes(n) = streams::read_all(streams, &mut file) else {
+    let Some(n) = streams.read_all(&mut file) else {
         return;
     };
-    let mut out = io::large_buffer();
-    let at = print::covers::lines(streams, &mut out, 0, &file[..n], b'\n');
-    print::flush(streams, &out, at);
+    let mut out = Output::new(streams);
+    let answer = print::covers::lines(&mut out, &file[..n], '\n');
+    let _ = out.ended(answer);
+    let _ = out.flush();
 }

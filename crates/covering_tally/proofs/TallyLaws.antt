@@ -1,53 +1,25 @@
--- The tally as thirteen numbers: a number that is stored changes its part and no other. And a range that is accepted: it is pushed onto the outer list, a full
--- one onto the inner list behind it too, and the trixel is counted as seen. Assumes nothing.
+-- A range that is accepted: it is pushed onto the outer list, a full one onto the inner list behind it too, and the trixel is counted as seen. Assumes nothing.
 use Prim.Native.Nat.{ℕ, ◌+◌, ◌-◌, ◌*◌, ◌≤◌}
 use native.Mathlib.Omega.{arith}
 use mathlib.Core.Path.{◌≡◌, refl, sym, ap, subst, subst₂, ◌∙◌}
 use mathlib.Core.List.{List}
-use lib.Dec.{ltb}
-use lib.ListN.{length, get_or, set}
-use Rattle.algebra.proofs.Cells.{all_cells}
+use lib.ListN.{length}
 use Rattle.ranges_stored.specs.declared.Pending.{Pending}
 use Rattle.ranges_lists.specs.declared.PushResult.{PushResult}
 use Rattle.ranges.specs.Ranges.{Range, ranges_in}
 use Rattle.ranges.specs.Lists.{gaps}
 use Rattle.ranges.proofs.Pushing.{outer_push}
-use Rattle.ranges_stored.specs.Stored.{Writes, differences_in, hint_of, Hinted}
+use Rattle.ranges_stored.specs.Stored.{Writes, differences_in, Hinted}
 use Rattle.covering.specs.Cover.{taken_full, taken_partial}
-use Rattle.covering_tally.specs.Tally.{Tally, tally_in, with_outer, with_inner, one_more, one_full, one_partial, OuterPushed, InnerNeeds, InnerPushed, InnerAdded, Countable, SmallRange, TallyInvariant, TrixelAccepted}
+use Rattle.covering_tally.specs.Tally.{with_outer, with_inner, one_full, one_partial, OuterPushed, InnerNeeds, InnerPushed, InnerAdded, Countable, SmallRange, TallyInvariant, TrixelAccepted}
+use Rattle.covering_tally.specs.declared.Tally.{Tally}
 use Rattle.covering_tally.proofs.WalkLaws.{taken_partial_law, taken_full_law, hinted_before, hinted_behind}
-
--- ---- the thirteen numbers
-
-module _ (xs : List ℕ) (long : length xs ≡ 13) where
-  pub noted_seen : tally_in (set xs 9 (get_or xs 9 0 + 1)) ≡ one_more (tally_in xs)
-  noted_seen = all_cells 13 (λ xs. tally_in (set xs 9 (get_or xs 9 0 + 1)) ≡ one_more (tally_in xs)) (λ a b c d e f g h i j k l m. refl) xs long
-
-  pub noted_full : (n : ℕ) → tally_in (set (set xs 9 (get_or xs 9 0 + 1)) 11 (get_or xs 11 0 + n)) ≡ one_full n (tally_in xs)
-  noted_full n =
-      all_cells 13 (λ xs. tally_in (set (set xs 9 (get_or xs 9 0 + 1)) 11 (get_or xs 11 0 + n)) ≡ one_full n (tally_in xs)) (λ a b c d e f g h i j k l m. refl) xs long
-
-  pub noted_partial : tally_in (set (set xs 9 (get_or xs 9 0 + 1)) 12 (get_or xs 12 0 + 1)) ≡ one_partial (tally_in xs)
-  noted_partial =
-      all_cells 13 (λ xs. tally_in (set (set xs 9 (get_or xs 9 0 + 1)) 12 (get_or xs 12 0 + 1)) ≡ one_partial (tally_in xs)) (λ a b c d e f g h i j k l m. refl) xs long
-
-  pub noted_outer : (m : PushResult) → tally_in (set (set (set xs 0 m.n) 1 m.hint.from) 2 m.hint.floor) ≡ with_outer m (tally_in xs)
-  noted_outer m =
-      all_cells 13 (λ xs. tally_in (set (set (set xs 0 m.n) 1 m.hint.from) 2 m.hint.floor) ≡ with_outer m (tally_in xs)) (λ a b c d e f g h i j k l m. refl) xs long
-
-  pub noted_inner : (p : Pending) (k : ℕ) → ltb 0 k ≡ p.some
-      → tally_in (set (set (set (set (set (set xs 3 p.n) 4 k) 5 p.low) 6 p.high) 7 p.hint.from) 8 p.hint.floor) ≡ with_inner p (tally_in xs)
-  noted_inner p n t =
-      all_cells 13 (λ xs. tally_in (set (set (set (set (set (set xs 3 p.n) 4 n) 5 p.low) 6 p.high) 7 p.hint.from) 8 p.hint.floor) ≡ with_inner p (tally_in xs))
-      (λ a b c d e f g h i j k l m z. record { outer = a; hint = hint_of b c; inner = record { n = p.n; some = t z; low = p.low; high = p.high; hint = p.hint }; seen = j; budget = k; full = l; partial = m }) xs long
 
 -- ---- a range that is accepted
 
-pub outer_pushed : (r : Range) {m : PushResult} {s s₁ : Tally} {out out₁ : List ℕ}
-    → Writes (outer_push s.budget (ranges_in s.outer out) r) out out₁ m.n × (((s.outer ≤ m.n) × (m.n ≤ s.budget)) × Hinted m.hint (gaps (ranges_in m.n out₁)))
-    → s₁ ≡ with_outer m s → OuterPushed r s out s₁ out₁
-outer_pushed r {m} {s} {s₁} {out} {out₁} h e =
-    subst (λ q. OuterPushed r s out q out₁) (sym e) (record { writes = h.0; few = h.1.0.1; hinted = h.1.1; inner = refl; seen = refl; budget = refl; full = refl; partial = refl })
+pub outer_pushed : (r : Range) (m : PushResult) (s : Tally) {out out₁ : List ℕ}
+    → Writes (outer_push s.budget (ranges_in s.outer out) r) out out₁ m.n → m.n ≤ s.budget → Hinted m.hint (gaps (ranges_in m.n out₁)) → OuterPushed r s out (with_outer m s) out₁
+outer_pushed r m s w few h = record { writes = w; few = few; hinted = h; inner = refl; seen = refl; budget = refl; full = refl; partial = refl }
 
 module _ {r : Range} {s s₁ : Tally} {out out₁ : List ℕ} (invariant : TallyInvariant s out) (o : OuterPushed r s out s₁ out₁) (same : length out₁ ≡ length out) where
   behind : Hinted s.inner.hint (differences_in (2 * s.budget) 0 s.inner.n out₁)
@@ -126,9 +98,5 @@ outer_counts o h = record {
 pub inner_added_counts : {r : Range} {s s₁ : Tally} {out out₁ : List ℕ} → InnerAdded r s out s₁ out₁ → Countable s → Countable s₁
 inner_added_counts k h = subst Countable (sym k.noted) (record { few = h.few; full = h.full; partial = h.partial })
 
--- what was read from the tally
-pub inner_known : {out : List ℕ} {b b₀ : ℕ} {p p₀ : Pending} → InnerNeeds b₀ p₀ out → b ≡ b₀ → p ≡ p₀ → InnerNeeds b p out
-inner_known {out = out} h u e = subst₂ (λ b p. InnerNeeds b p out) (sym u) (sym e) h
-
-pub inner_added : {r : Range} {s s' : Tally} {out out' : List ℕ} {b : ℕ} {p q : Pending} → InnerPushed b r p out q out' → b ≡ s.budget → p ≡ s.inner → s' ≡ with_inner q s → InnerAdded r s out s' out'
-inner_added {r} {s} {s'} {out} {out'} {q = q} h u e n = record { beside = q; pushed = subst₂ (λ b p. InnerPushed b r p out q out') u e h; noted = n }
+pub inner_added : {r : Range} {s : Tally} {out out' : List ℕ} {q : Pending} → InnerPushed s.budget r s.inner out q out' → InnerAdded r s out (with_inner q s) out'
+inner_added {q = q} h = record { beside = q; pushed = h; noted = refl }

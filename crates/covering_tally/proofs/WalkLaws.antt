@@ -21,7 +21,8 @@ use Rattle.ranges_stored.proofs.StoredLaws.{laid, laid_put, length_written}
 use Rattle.ranges_lists.proofs.Pushes.{writes_in, writes_none, writes_push, stores_none, stores_push, stores_end}
 use Rattle.covering.specs.Cover.{Found, left_out, taken_full, taken_partial, both, four, cut_into, visit_root, cutting, listed, counts_of, both_listed}
 use Rattle.covering.proofs.ContentsLaws.{outer_counted, counts_small}
-use Rattle.covering_tally.specs.Tally.{Tally, counts_in, nothing, inner_state, TallyHolds, Adds, InnerStored, InnerEnded, CountsContained, one_more}
+use Rattle.covering_tally.specs.declared.Tally.{Tally}
+use Rattle.covering_tally.specs.Tally.{counts_in, nothing, inner_state, TallyHolds, Adds, InnerStored, InnerEnded, CountsContained, one_more}
 
 -- ---- the front part of a list, and what is behind it
 

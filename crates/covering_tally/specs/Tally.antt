@@ -1,8 +1,6 @@
 -- What a cutting has found so far, with its two lists in one pass in the lent list. Document 01, 'The two lists'.
---   Tally              what was found so far: how many outer ranges are stored and what is known of their gaps, what stands beside the inner list, the
---                      trixels classified, the identifiers of full trixels and the partial trixels (document 02, F-4); and the budget, which stays
---   tally_in xs         the tally of thirteen numbers; no_tally: before the first trixel; with_outer, with_inner, one_more, one_full, one_partial: after a
---                      change of one part
+-- A `Tally` is what was found so far; its counts are those of document 02, F-4.
+--   no_tally            the tally before the first trixel; with_outer, with_inner, one_more, one_full, one_partial: after a change of one part
 --   counts_in s n m     the counts, where the inner list has n ranges and the outer list contains m identifiers
 --   nothing            before the first trixel
 --   TallyHolds ..      where a was found so far, s and the list `out` have it: the outer list at the front of what `start` had in its first 2 × b
@@ -17,38 +15,18 @@
 --   InnerStored ..     the inner list's writer was lent the list from element 2 × b on: the elements before it stay; InnerEnded: the same at the end
 --   TallyInvariant ..  the counts are at most the budget, the list has room for both lists, and what s knows of the gaps of the outer list and of the
 --                      sizes, less one, of the inner list's stored ranges is so; and the counts of identifiers are no more than the trixels seen can have
-use Rattle.std.specs.Prelude.{ℕ, ◌+◌, ◌-◌, ◌*◌, ◌^◌, ◌≤◌, ◌<◌, ◌≡◌, ltb, length, get_or, take, drop}
+use Rattle.std.specs.Prelude.{ℕ, ◌+◌, ◌-◌, ◌*◌, ◌^◌, ◌≤◌, ◌<◌, ◌≡◌, length, take, drop}
 use mathlib.Core.List.{List, [], ◌++◌, foldl}
-use Rattle.ranges_stored.specs.declared.MinHint.{MinHint}
 use Rattle.ranges_lists.specs.declared.PushResult.{PushResult}
 use Rattle.ranges_stored.specs.declared.Pending.{Pending}
 use Rattle.ranges.specs.Ranges.{Range, ranges_in}
 use Rattle.ranges.specs.Lists.{gaps}
 use Rattle.ranges.specs.Contents.{identifiers}
 use Rattle.ranges.proofs.Pushing.{outer_push, outer_pass, Inner, empty, inner_push}
-use Rattle.ranges_stored.specs.Stored.{differences_in, Writes, hint_of, no_hint, Hinted, nothing_yet, state_of, Stores}
+use Rattle.ranges_stored.specs.Stored.{differences_in, Writes, no_hint, Hinted, nothing_yet, state_of, Stores}
 use Rattle.covering.specs.declared.Counts.{Counts}
+use Rattle.covering_tally.specs.declared.Tally.{Tally}
 use Rattle.covering.specs.Cover.{Found, both}
-
-pub record Tally : Type 0 where
-  pub outer : ℕ
-  pub hint : MinHint
-  pub inner : Pending
-  pub seen : ℕ
-  pub budget : ℕ
-  pub full : ℕ
-  pub partial : ℕ
-
-abbrev pub tally_in : List ℕ → Tally
-tally_in xs = record {
-  outer = get_or xs 0 0;
-  hint = hint_of (get_or xs 1 0) (get_or xs 2 0);
-  inner = record { n = get_or xs 3 0; some = ltb 0 (get_or xs 4 0); low = get_or xs 5 0; high = get_or xs 6 0; hint = hint_of (get_or xs 7 0) (get_or xs 8 0) };
-  seen = get_or xs 9 0;
-  budget = get_or xs 10 0;
-  full = get_or xs 11 0;
-  partial = get_or xs 12 0;
-}
 
 abbrev pub no_tally : ℕ → Tally
 no_tally b = record { outer = 0; hint = no_hint; inner = nothing_yet; seen = 0; budget = b; full = 0; partial = 0 }

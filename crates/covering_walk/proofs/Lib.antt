@@ -1,3 +1,3 @@
-pub mod StoredTrixelLaws
+pub mod ChildLaws
 pub mod RowsLaws
 pub mod VisitLaws

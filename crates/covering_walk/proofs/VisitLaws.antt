@@ -8,7 +8,7 @@ use mathlib.Core.Bool.{Bool, true, false, false≢true}
 use mathlib.Core.List.{List}
 use lib.Dec.{lit<}
 use lib.ListN.{length}
-use lib.IntN.{ℤ, pos, nat_abs}
+use lib.IntN.{pos, nat_abs}
 use Rattle.algebra.proofs.Ring.{con, ◌:+◌, ◌:*◌}
 use Rattle.algebra.proofs.Claim.{◌:≡◌, ring}
 use Rattle.algebra.proofs.Inequalities.{`1}
@@ -16,25 +16,29 @@ use Rattle.vector.specs.declared.Vec3.{Vec3}
 use Rattle.mesh.specs.declared.Trixel.{Trixel}
 use Rattle.mesh.specs.declared.Cut.{Cut}
 use Rattle.mesh.specs.Trixels.{root_trixel, cut, child}
-use Rattle.mesh_trixels.specs.Corners.{SmallCut}
+use Rattle.mesh_trixels.specs.Corners.{SmallTrixel, SmallCut}
 use Rattle.region.specs.Regions.{Region}
 use Rattle.classify.specs.declared.Class.TheVariants.{Outside, Partial, Full}
-use Rattle.classify_prepared.specs.PreparedLists.{Prepared, count_in, Ready}
+use Rattle.classify.specs.Shape.{ray0}
+use Rattle.classify_prepared.specs.declared.prepared_region.HalfspaceLists.{HalfspaceLists}
+use Rattle.classify_prepared.specs.PreparedLists.{Prepared}
+use Rattle.classify_prepared.specs.PreparedRegions.{halfspaces_in, ends_in, ReadyRegion}
+use Rattle.classify_active.specs.declared.ActiveHalfspaces.{ActiveHalfspaces}
 use Rattle.classify_active.specs.Active.{ActiveListsIn}
 use Rattle.ranges.specs.Ranges.{range}
 use Rattle.ranges_stored.specs.Stored.{no_hint}
 use Rattle.ranges_stored.proofs.HintLaws.{hinted_any}
 use Rattle.covering.specs.declared.Counts.{Counts}
 use Rattle.covering.specs.Cover.{descendants, left_out, taken_full, taken_partial, both, visit, cutting, listed, counts_of, both_listed}
-use Rattle.covering_tally.specs.Tally.{Tally, nothing, no_tally, TallyHolds, Adds, TallyInvariant, Countable, SmallRange, CountsContained, TrixelAccepted, one_more}
+use Rattle.covering_tally.specs.declared.Tally.{Tally}
+use Rattle.covering_tally.specs.Tally.{nothing, no_tally, TallyHolds, Adds, TallyInvariant, Countable, SmallRange, CountsContained, TrixelAccepted, one_more}
 use Rattle.covering_walk.specs.declared.Level.{Level}
 use Rattle.covering_walk.specs.declared.ClassifiedTrixel.{ClassifiedTrixel}
-use Rattle.covering_walk.specs.StoredTrixels.{trixel_in, first_ray_in, StoredTrixel, ClassifiedOf, StoredChild}
+use Rattle.covering_walk.specs.Children.{ClassifiedOf}
 use Rattle.covering_walk.specs.Walk.{found_in, found_below, child_level, first_found, LevelFits, ChildrenFit, Needs, CutNeeds, Gives, Done, AcceptedOrCut, Dividing, RootNeeds, RootsGive, Finishes, Covers}
 use Rattle.covering.proofs.CoverLaws.{full_stretch, power, found_outside, found_full, found_last, found_cut}
 use Rattle.covering.proofs.ContentsLaws.{outer_counted}
 use Rattle.covering_tally.proofs.WalkLaws.{cutting_contained, left_out_law, none_adds, more_adds, four_adds, cut_adds, found_to, walk_start, walk_end, roots_done}
-use Rattle.covering_walk.proofs.StoredTrixelLaws.{cut_parts}
 
 -- ---- the range of a trixel
 
@@ -152,15 +156,15 @@ module _ {j : ClassifiedTrixel} {l : Level} {s r : Tally} {out out' : List ℕ} 
   pub to_be_cut : j.class ≡ Partial → 1 ≤ l.left → r ≡ one_more s → out' ≡ out → AcceptedOrCut false j l s out r out'
   to_be_cut d a q same = record { done = λ e. absurd (false≢true e); cut = λ e. record { partial = d; above = a; tally = q; list = same } }
 
-module _ {t : Trixel} {xs : List ℤ} {es : List ℕ} {j : ClassifiedTrixel} {l : Level} {b : Bool} {s s₁ : Tally} {out out₁ : List ℕ}
-    (k : ClassifiedOf t xs es j) (h : AcceptedOrCut b j l s out s₁ out₁) where
-  pub visited_done : Ready xs es (count_in es) → b ≡ true → Gives xs es 1 l.left (found_in l t) s out s₁ out₁
+module _ {t : Trixel} {rg : HalfspaceLists 512 64} {j : ClassifiedTrixel} {l : Level} {b : Bool} {s s₁ : Tally} {out out₁ : List ℕ}
+    (k : ClassifiedOf t rg j) (h : AcceptedOrCut b j l s out s₁ out₁) where
+  pub visited_done : ReadyRegion rg → b ≡ true → Gives rg 1 l.left (found_in l t) s out s₁ out₁
   visited_done r e =
-      let taken : (g : Region) → Prepared g xs es (count_in es) → TrixelAccepted (found_in l t g) s out s₁ out₁ = λ g p. h.done e g t (sym (k.class g p)) in
+      let taken : (g : Region) → Prepared g (halfspaces_in rg) (ends_in rg) → TrixelAccepted (found_in l t g) s out s₁ out₁ = λ g p. h.done e g t (sym (k.class g p)) in
       let one = taken r.0 r.1 in
       record { adds = λ g p. (taken g p).adds; invariant = one.invariant; budget = one.budget; seen = omega (arith, one.seen, at_least_four l.left) }
 
-  pub visited_cut : b ≡ false → {s' : Tally} {out' : List ℕ} → Gives xs es 4 (l.left - 1) (found_below l t) s₁ out₁ s' out' → Gives xs es 1 l.left (found_in l t) s out s' out'
+  pub visited_cut : b ≡ false → {s' : Tally} {out' : List ℕ} → Gives rg 4 (l.left - 1) (found_below l t) s₁ out₁ s' out' → Gives rg 1 l.left (found_in l t) s out s' out'
   visited_cut e {s'} {out'} v =
       let c = h.cut e in
       let z : l.left ≡ suc (l.left - 1) = omega (arith, c.above) in
@@ -173,14 +177,13 @@ module _ {t : Trixel} {xs : List ℤ} {es : List ℕ} {j : ClassifiedTrixel} {l 
         seen = omega (arith, v.seen, ap (λ q. q.seen) c.tally, levels z);
       }
 
-pub cut_needs : {ks xs : List ℤ} {es : List ℕ} {j : ClassifiedTrixel} {l : Level} {b : Bool} {s s₁ : Tally} {out out₁ : List ℕ} → ClassifiedOf (trixel_in ks) xs es j → AcceptedOrCut b j l s out s₁ out₁
-    → b ≡ false → Needs ks l xs es s out → CutNeeds ks j l xs es s₁ out₁
+pub cut_needs : {t : Trixel} {rg : HalfspaceLists 512 64} {j : ClassifiedTrixel} {l : Level} {b : Bool} {s s₁ : Tally} {out out₁ : List ℕ} → ClassifiedOf t rg j → AcceptedOrCut b j l s out s₁ out₁
+    → b ≡ false → Needs l rg s out → CutNeeds t j l rg s₁ out₁
 cut_needs {l = l} {s₁ = s₁} k h e n =
     let c = h.cut e in
     let z : l.left ≡ suc (l.left - 1) = omega (arith, c.above) in
     let f = down n.level z (ap (λ q. q.seen) c.tally) in
     record {
-      trixel = n.trixel;
       rays = k.rays;
       ready = n.ready;
       invariant = subst (TallyInvariant s₁) (sym c.list) (invariant_more n.invariant c.tally);
@@ -190,44 +193,41 @@ cut_needs {l = l} {s₁ = s₁} k h e n =
 
 -- ---- its four children
 
-module _ {ks : List ℤ} {j : ClassifiedTrixel} {l : Level} {xs : List ℤ} {es : List ℕ} {ys : List ℤ} {ms : List ℕ} {s₀ : Tally} {out₀ : List ℕ} {t : Trixel} {c : Cut} {r : Vec3} where
-  pub dividing_start : CutNeeds ks j l xs es s₀ out₀ → ActiveListsIn xs es ys ms → t ≡ trixel_in ks → (c ≡ cut t) × SmallCut c → r ≡ first_ray_in ks
-      → Dividing ks j l xs es ys ms s₀ out₀ t c r 0 s₀ out₀
+module _ {t : Trixel} {j : ClassifiedTrixel} {l : Level} {rg : HalfspaceLists 512 64} {ac : ActiveHalfspaces} {s₀ : Tally} {out₀ : List ℕ} {c : Cut} {r : Vec3} where
+  pub dividing_start : CutNeeds t j l rg s₀ out₀ → ActiveListsIn rg ac → SmallTrixel t → (c ≡ cut t) × SmallCut c → r ≡ ray0 t
+      → Dividing t j l rg ac s₀ out₀ c r 0 s₀ out₀
   unfolding first_found
-  dividing_start n b e h q = record {
+  dividing_start n b m h q = record {
     needs = n;
     active = b;
-    trixel = e;
-    parts = cut_parts e n.trixel n.rays h q;
+    parts = record { small = m; cut = h.0; small_cut = h.1; first = q; others = n.rays };
     few = omega arith;
     gives = record { adds = λ g p. none_adds; invariant = n.invariant; budget = refl; seen = omega arith };
   }
 
-  module _ {k : ℕ} {s : Tally} {out : List ℕ} {cs : List ℤ} {m : Level} (d : Dividing ks j l xs es ys ms s₀ out₀ t c r k s out) (few : k < 4) (h : StoredChild k t cs)
+  module _ {k : ℕ} {s : Tally} {out : List ℕ} {u : Trixel} {m : Level} (d : Dividing t j l rg ac s₀ out₀ c r k s out) (few : k < 4) (h : u ≡ child k t)
       (e : m ≡ child_level l k) where
-    pub child_needs : Needs cs m xs es s out
+    pub child_needs : Needs m rg s out
     child_needs = record {
-      trixel = h.stored;
       ready = d.needs.ready;
       invariant = d.gives.invariant;
       level = subst (λ m. LevelFits m.id m.left m.span s.seen) (sym e)
           (child_level_law d.needs.level k few (omega (arith, d.gives.seen, times k (4 ^ suc (l.left - 1)) (power (suc (l.left - 1))))));
     }
 
-    pub dividing_more : {s' : Tally} {out' : List ℕ} → Gives xs es 1 m.left (found_in m (trixel_in cs)) s out s' out'
-        → Dividing ks j l xs es ys ms s₀ out₀ t c r (k + 1) s' out'
+    pub dividing_more : {s' : Tally} {out' : List ℕ} → Gives rg 1 m.left (found_in m u) s out s' out'
+        → Dividing t j l rg ac s₀ out₀ c r (k + 1) s' out'
     unfolding first_found
     dividing_more {s'} {out'} v =
         let one : k + 1 ≡ suc k = omega arith in
-        let w = subst (λ m. Gives xs es 1 m.left (found_in m (trixel_in cs)) s out s' out') e v in
-        let x = subst (λ t. Gives xs es 1 (l.left - 1) (found_in (child_level l k) t) s out s' out') h.trixel w in
+        let w = subst (λ m. Gives rg 1 m.left (found_in m u) s out s' out') e v in
+        let x = subst (λ t. Gives rg 1 (l.left - 1) (found_in (child_level l k) t) s out s' out') h w in
         record {
           needs = d.needs;
           active = d.active;
-          trixel = d.trixel;
           parts = d.parts;
           few = omega arith;
-          gives = subst (λ n. Gives xs es n (l.left - 1) (first_found n l t) s₀ out₀ s' out') (sym one) (record {
+          gives = subst (λ n. Gives rg n (l.left - 1) (first_found n l t) s₀ out₀ s' out') (sym one) (record {
             adds = λ g p. more_adds (first_found k l t g) (found_in (child_level l k) (child k t) g) (d.gives.adds g p) (x.adds g p);
             invariant = x.invariant;
             budget = x.budget ∙ d.gives.budget;
@@ -235,15 +235,14 @@ module _ {ks : List ℤ} {j : ClassifiedTrixel} {l : Level} {xs : List ℤ} {es 
           });
         }
 
-  pub divided : {k : ℕ} {s : Tally} {out : List ℕ} → Dividing ks j l xs es ys ms s₀ out₀ t c r k s out → 4 ≤ k
-      → Gives xs es 4 (l.left - 1) (found_below l (trixel_in ks)) s₀ out₀ s out
+  pub divided : {k : ℕ} {s : Tally} {out : List ℕ} → Dividing t j l rg ac s₀ out₀ c r k s out → 4 ≤ k
+      → Gives rg 4 (l.left - 1) (found_below l t) s₀ out₀ s out
   unfolding first_found
   divided {k} {s} {out} d e =
       let four : k ≡ 4 = omega (arith, d.few) in
-      let v = subst (λ k. Gives xs es k (l.left - 1) (first_found k l t) s₀ out₀ s out) four d.gives in
+      let v = subst (λ k. Gives rg k (l.left - 1) (first_found k l t) s₀ out₀ s out) four d.gives in
       record {
-        adds = λ g p. subst (λ t. Adds (found_below l t g) s₀ out₀ s out) d.trixel
-            (four_adds (found_in (child_level l 0) (child 0 t) g) (found_in (child_level l 1) (child 1 t) g) (found_in (child_level l 2) (child 2 t) g) (found_in (child_level l 3) (child 3 t) g) (v.adds g p));
+        adds = λ g p. four_adds (found_in (child_level l 0) (child 0 t) g) (found_in (child_level l 1) (child 1 t) g) (found_in (child_level l 2) (child 2 t) g) (found_in (child_level l 3) (child 3 t) g) (v.adds g p);
         invariant = v.invariant;
         budget = v.budget;
         seen = v.seen;
@@ -264,19 +263,19 @@ root_seen left now seen k d h s =
     omega (arith, pow-suc 4 left, m)
 
 -- the first k roots are cut
-pub record Rooting (depth : ℕ) (xs : List ℤ) (es : List ℕ) (ys : List ℤ) (ms : List ℕ) (left span : ℕ) (s₀ : Tally) (out₀ : List ℕ) (k : ℕ) (s : Tally) (out : List ℕ) : Type 0 where
-  pub needs : RootNeeds depth xs es s₀ out₀
-  pub active : ActiveListsIn xs es ys ms
+pub record Rooting (depth : ℕ) (rg : HalfspaceLists 512 64) (ac : ActiveHalfspaces) (left span : ℕ) (s₀ : Tally) (out₀ : List ℕ) (k : ℕ) (s : Tally) (out : List ℕ) : Type 0 where
+  pub needs : RootNeeds depth rg s₀ out₀
+  pub active : ActiveListsIn rg ac
   pub above : left ≡ depth - 1
   pub power : span ≡ 4 ^ left
   pub few : k ≤ 8
   pub invariant : TallyInvariant s out
   pub budget : s.budget ≡ s₀.budget
   pub seen : 3 * s.seen ≤ k * 2 ^ 24
-  pub tally : (g : Region) → Prepared g xs es (count_in es) → TallyHolds s.budget out₀ (found_to (depth - 1) g k) s out
+  pub tally : (g : Region) → Prepared g (halfspaces_in rg) (ends_in rg) → TallyHolds s.budget out₀ (found_to (depth - 1) g k) s out
 
-module _ {depth : ℕ} {xs : List ℤ} {es : List ℕ} {ys : List ℤ} {ms : List ℕ} {left span : ℕ} {s₀ : Tally} {out₀ : List ℕ} where
-  pub rooting_start : RootNeeds depth xs es s₀ out₀ → ActiveListsIn xs es ys ms → left ≡ depth - 1 → span ≡ 4 ^ left → Rooting depth xs es ys ms left span s₀ out₀ 0 s₀ out₀
+module _ {depth : ℕ} {rg : HalfspaceLists 512 64} {ac : ActiveHalfspaces} {left span : ℕ} {s₀ : Tally} {out₀ : List ℕ} where
+  pub rooting_start : RootNeeds depth rg s₀ out₀ → ActiveListsIn rg ac → left ≡ depth - 1 → span ≡ 4 ^ left → Rooting depth rg ac left span s₀ out₀ 0 s₀ out₀
   unfolding found_to
   rooting_start n b e p = record {
     needs = n;
@@ -300,19 +299,18 @@ module _ {depth : ℕ} {xs : List ℤ} {es : List ℕ} {ys : List ℤ} {ms : Lis
     tally = λ g p. subst (λ q. TallyHolds q.budget out₀ nothing q out₀) (sym n.fresh) (walk_start s₀.budget out₀ n.list no_hint);
   }
 
-  module _ {k : ℕ} {s : Tally} {out : List ℕ} {ks : List ℤ} (d : Rooting depth xs es ys ms left span s₀ out₀ k s out) (few : k < 8) (h : StoredTrixel ks) where
-    pub root_needs : Needs ks (record { id = 8 + k; left = left; span = span }) xs es s out
+  module _ {k : ℕ} {s : Tally} {out : List ℕ} (d : Rooting depth rg ac left span s₀ out₀ k s out) (few : k < 8) where
+    pub root_needs : Needs (record { id = 8 + k; left = left; span = span }) rg s out
     root_needs = record {
-      trixel = h;
       ready = d.needs.ready;
       invariant = d.invariant;
       level = root_level k left span s.seen few (omega (arith, d.above, d.needs.high)) d.power d.seen;
     }
 
-    pub rooting_more : trixel_in ks ≡ root_trixel k → {s' : Tally} {out' : List ℕ}
-        → Gives xs es 1 left (found_in (record { id = 8 + k; left = left; span = span }) (trixel_in ks)) s out s' out' → Rooting depth xs es ys ms left span s₀ out₀ (k + 1) s' out'
+    pub rooting_more : {u : Trixel} → u ≡ root_trixel k → {s' : Tally} {out' : List ℕ}
+        → Gives rg 1 left (found_in (record { id = 8 + k; left = left; span = span }) u) s out s' out' → Rooting depth rg ac left span s₀ out₀ (k + 1) s' out'
     unfolding found_to
-    rooting_more e {s'} {out'} v =
+    rooting_more {u} e {s'} {out'} v =
         let one : suc k ≡ k + 1 = omega arith in
         record {
           needs = d.needs;
@@ -328,23 +326,23 @@ module _ {depth : ℕ} {xs : List ℤ} {es : List ℕ} {ys : List ℤ} {ms : Lis
               (subst₂ (λ m t. TallyHolds s'.budget out₀ (both (found_to (depth - 1) g k) (visit m g t (8 + k))) s' out') d.above e (v.adds g p out₀ (found_to (depth - 1) g k) (d.tally g p)));
         }
 
-  pub rooted : {k : ℕ} {s : Tally} {out : List ℕ} → Rooting depth xs es ys ms left span s₀ out₀ k s out → 8 ≤ k → RootsGive depth xs es s₀ out₀ s out
+  pub rooted : {k : ℕ} {s : Tally} {out : List ℕ} → Rooting depth rg ac left span s₀ out₀ k s out → 8 ≤ k → RootsGive depth rg s₀ out₀ s out
   rooted {k} d e = record { cut = λ g p. roots_done depth k g (omega (arith, d.few)) (d.tally g p); invariant = d.invariant; budget = d.budget }
 
 -- ---- the cover
 
-pub cover_start : {depth b : ℕ} {xs : List ℤ} {es : List ℕ} {s : Tally} {out : List ℕ} → (1 ≤ depth) × (depth ≤ 12) → Ready xs es (count_in es)
-    → (1 ≤ b) × (4 * b ≤ length out) → s ≡ no_tally b → RootNeeds depth xs es s out
-cover_start {depth} {xs = xs} {es = es} {out = out} d r h e =
-    subst (λ q. RootNeeds depth xs es q out) (sym e) (record { low = d.0; high = d.1; ready = r; fresh = refl; budget = h.0; list = h.1 })
+pub cover_start : {depth b : ℕ} {rg : HalfspaceLists 512 64} {s : Tally} {out : List ℕ} → (1 ≤ depth) × (depth ≤ 12) → ReadyRegion rg
+    → (1 ≤ b) × (4 * b ≤ length out) → s ≡ no_tally b → RootNeeds depth rg s out
+cover_start {depth} {rg = rg} {out = out} d r h e =
+    subst (λ q. RootNeeds depth rg q out) (sym e) (record { low = d.0; high = d.1; ready = r; fresh = refl; budget = h.0; list = h.1 })
 
 -- what the end of both lists needs
-pub cover_contained : {depth : ℕ} {xs : List ℤ} {es : List ℕ} {s₀ s : Tally} {out₀ out : List ℕ} → RootsGive depth xs es s₀ out₀ s out → Ready xs es (count_in es) → depth ≤ 12
+pub cover_contained : {depth : ℕ} {rg : HalfspaceLists 512 64} {s₀ s : Tally} {out₀ out : List ℕ} → RootsGive depth rg s₀ out₀ s out → ReadyRegion rg → depth ≤ 12
     → CountsContained s out
 cover_contained {depth} r h d = cutting_contained depth h.0 (r.cut h.0 h.1) r.invariant.budget r.invariant.outer d
 
-pub cover_end : {depth b : ℕ} {xs : List ℤ} {es : List ℕ} {s₀ s : Tally} {out₀ out out' : List ℕ} {c : Counts} → RootsGive depth xs es s₀ out₀ s out → s₀ ≡ no_tally b
-    → 4 * b ≤ length out₀ → Finishes s out c out' → Covers xs es b depth out₀ c out'
+pub cover_end : {depth b : ℕ} {rg : HalfspaceLists 512 64} {s₀ s : Tally} {out₀ out out' : List ℕ} {c : Counts} → RootsGive depth rg s₀ out₀ s out → s₀ ≡ no_tally b
+    → 4 * b ≤ length out₀ → Finishes s out c out' → Covers rg b depth out₀ c out'
 cover_end {depth} {b} {s = s} {out₀} {out} {out'} {c} r e long f g p =
     let same : s.budget ≡ b = r.budget ∙ ap (λ q. q.budget) e in
     let w = walk_end s.budget out₀ (omega (arith, same)) (cutting depth g) s out out' f.inner _ (r.cut g p) r.invariant.budget r.invariant.outer f.behind refl (outer_counted g depth s.budget r.invariant.budget) in

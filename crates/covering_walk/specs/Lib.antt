@@ -1,2 +1,2 @@
-pub mod StoredTrixels
+pub mod Children
 pub mod Walk

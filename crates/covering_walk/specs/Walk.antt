@@ -2,7 +2,7 @@
 -- covering_tally/specs/Tally.
 --   found_in l t        what is found in the trixel t of the level l; found_below l t: in its four children; first_found k l t: in the first k of them
 --   Gives ..           what the cutting of k trixels gives, each `left` levels above the depth: after whatever was found before there is `found`, for
---                      every region whose prepared halfspaces and ends of convexes these lists are
+--                      every region that was prepared to p
 --   Needs, CutNeeds    what the cutting of a trixel needs, and that of the children of a trixel which is seen already
 --   AcceptedOrCut ..   a trixel as it was classified: if b it is left out or accepted, else it is partial, and seen, and is to be cut
 --   Dividing ..        the first k children are cut
@@ -23,7 +23,10 @@ use Rattle.region.specs.Rows.{rows}
 use Rattle.classify.specs.declared.Class.{Class}
 use Rattle.classify.specs.declared.Class.TheVariants.{Partial}
 use Rattle.classify.specs.Classes.{region_class}
-use Rattle.classify_prepared.specs.PreparedLists.{Prepared, count_in, Ready}
+use Rattle.classify_prepared.specs.declared.prepared_region.HalfspaceLists.{HalfspaceLists}
+use Rattle.classify_prepared.specs.PreparedLists.{Prepared}
+use Rattle.classify_prepared.specs.PreparedRegions.{halfspaces_in, ends_in, ReadyRegion}
+use Rattle.classify_active.specs.declared.ActiveHalfspaces.{ActiveHalfspaces}
 use Rattle.classify_active.specs.Active.{ActiveListsIn}
 use Rattle.ranges.proofs.Pushing.{inner_end}
 use Rattle.ranges_stored.specs.Stored.{state_of}
@@ -31,10 +34,11 @@ use Rattle.ranges.specs.Ranges.{ranges_in}
 use Rattle.ranges.specs.Contents.{identifiers}
 use Rattle.covering.specs.declared.Counts.{Counts}
 use Rattle.covering.specs.Cover.{Found, both, parted, visit, cutting, listed, counts_of, both_listed}
-use Rattle.covering_tally.specs.Tally.{Tally, counts_in, nothing, no_tally, one_more, TallyHolds, Adds, InnerEnded, TallyInvariant, TrixelAccepted}
+use Rattle.covering_tally.specs.declared.Tally.{Tally}
+use Rattle.covering_tally.specs.Tally.{counts_in, nothing, no_tally, one_more, TallyHolds, Adds, InnerEnded, TallyInvariant, TrixelAccepted}
 use Rattle.covering_walk.specs.declared.Level.{Level}
 use Rattle.covering_walk.specs.declared.ClassifiedTrixel.{ClassifiedTrixel}
-use Rattle.covering_walk.specs.StoredTrixels.{trixel_in, StoredTrixel, OtherRays, CutParts}
+use Rattle.covering_walk.specs.Children.{OtherRays, CutParts}
 
 -- ---- what is found
 
@@ -68,24 +72,21 @@ pub record Divisible (l : Level) : Type 0 where
 
 -- ---- what a cutting needs, and what it gives
 
-pub record Needs (stored : List ℤ) (l : Level) (prepared : List ℤ) (ends : List ℕ) (s : Tally) (out : List ℕ) : Type 0 where
-  pub trixel : StoredTrixel stored
-  pub ready : Ready prepared ends (count_in ends)
+pub record Needs (l : Level) (p : HalfspaceLists 512 64) (s : Tally) (out : List ℕ) : Type 0 where
+  pub ready : ReadyRegion p
   pub invariant : TallyInvariant s out
   pub level : LevelFits l.id l.left l.span s.seen
 
-pub record CutNeeds (stored : List ℤ) (classified : ClassifiedTrixel) (l : Level) (prepared : List ℤ) (ends : List ℕ)
-    (s : Tally) (out : List ℕ) : Type 0 where
-  pub trixel : StoredTrixel stored
-  pub rays : OtherRays (trixel_in stored) classified
-  pub ready : Ready prepared ends (count_in ends)
+pub record CutNeeds (t : Trixel) (classified : ClassifiedTrixel) (l : Level) (p : HalfspaceLists 512 64) (s : Tally) (out : List ℕ) : Type 0 where
+  pub rays : OtherRays t classified
+  pub ready : ReadyRegion p
   pub invariant : TallyInvariant s out
   pub divisible : Divisible l
   pub level : ChildrenFit l.id (l.left - 1) (l.span / 4) s.seen
 
-pub record Gives (prepared : List ℤ) (ends : List ℕ) (k left : ℕ) (found : Region → Found)
+pub record Gives (p : HalfspaceLists 512 64) (k left : ℕ) (found : Region → Found)
     (s : Tally) (out : List ℕ) (s' : Tally) (out' : List ℕ) : Type 0 where
-  pub adds : (g : Region) → Prepared g prepared ends (count_in ends) → Adds (found g) s out s' out'
+  pub adds : (g : Region) → Prepared g (halfspaces_in p) (ends_in p) → Adds (found g) s out s' out'
   pub invariant : TallyInvariant s' out'
   pub budget : s'.budget ≡ s.budget
   pub seen : 3 * s'.seen + k ≤ 3 * s.seen + k * 4 ^ suc left
@@ -106,33 +107,31 @@ pub record AcceptedOrCut (b : Bool) (classified : ClassifiedTrixel) (l : Level)
   pub done : b ≡ true → Done classified.class l s out s' out'
   pub cut : b ≡ false → ToCut classified.class l s out s' out'
 
-pub record Dividing (stored : List ℤ) (classified : ClassifiedTrixel) (level : Level) (prepared : List ℤ) (ends : List ℕ)
-    (beside : List ℤ) (stops : List ℕ) (s₀ : Tally) (out₀ : List ℕ)
-    (t : Trixel) (c : Cut) (r : Vec3) (k : ℕ) (s : Tally) (out : List ℕ) : Type 0 where
-  pub needs : CutNeeds stored classified level prepared ends s₀ out₀
-  pub active : ActiveListsIn prepared ends beside stops
-  pub trixel : t ≡ trixel_in stored
+pub record Dividing (t : Trixel) (classified : ClassifiedTrixel) (level : Level) (p : HalfspaceLists 512 64) (a : ActiveHalfspaces)
+    (s₀ : Tally) (out₀ : List ℕ) (c : Cut) (r : Vec3) (k : ℕ) (s : Tally) (out : List ℕ) : Type 0 where
+  pub needs : CutNeeds t classified level p s₀ out₀
+  pub active : ActiveListsIn p a
   pub parts : CutParts t c r classified
   pub few : k ≤ 4
-  pub gives : Gives prepared ends k (level.left - 1) (first_found k level t) s₀ out₀ s out
+  pub gives : Gives p k (level.left - 1) (first_found k level t) s₀ out₀ s out
 
 -- ---- the roots, and the lists
 
 -- the roots are cut: all that the cutting finds is noted
-abbrev pub RootsCut : List ℤ → List ℕ → ℕ → List ℕ → Tally → List ℕ → Type 0
-RootsCut prepared ends depth before s after =
-    (g : Region) → Prepared g prepared ends (count_in ends) → TallyHolds s.budget before (cutting depth g) s after
+abbrev pub RootsCut : HalfspaceLists 512 64 → ℕ → List ℕ → Tally → List ℕ → Type 0
+RootsCut p depth before s after =
+    (g : Region) → Prepared g (halfspaces_in p) (ends_in p) → TallyHolds s.budget before (cutting depth g) s after
 
-pub record RootNeeds (depth : ℕ) (prepared : List ℤ) (ends : List ℕ) (s : Tally) (out : List ℕ) : Type 0 where
+pub record RootNeeds (depth : ℕ) (p : HalfspaceLists 512 64) (s : Tally) (out : List ℕ) : Type 0 where
   pub low : 1 ≤ depth
   pub high : depth ≤ 12
-  pub ready : Ready prepared ends (count_in ends)
+  pub ready : ReadyRegion p
   pub fresh : s ≡ no_tally s.budget
   pub budget : 1 ≤ s.budget
   pub list : 4 * s.budget ≤ length out
 
-pub record RootsGive (depth : ℕ) (prepared : List ℤ) (ends : List ℕ) (s : Tally) (out : List ℕ) (s' : Tally) (out' : List ℕ) : Type 0 where
-  pub cut : RootsCut prepared ends depth out s' out'
+pub record RootsGive (depth : ℕ) (p : HalfspaceLists 512 64) (s : Tally) (out : List ℕ) (s' : Tally) (out' : List ℕ) : Type 0 where
+  pub cut : RootsCut p depth out s' out'
   pub invariant : TallyInvariant s' out'
   pub budget : s'.budget ≡ s.budget
 
@@ -143,9 +142,9 @@ pub record Finishes (s : Tally) (out : List ℕ) (c : Counts) (out' : List ℕ) 
   pub counts : c ≡ counts_in s inner (identifiers (ranges_in s.outer out))
 
 -- the lists stand in the lent list, and the counts are theirs
-abbrev pub Covers : List ℤ → List ℕ → ℕ → ℕ → List ℕ → Counts → List ℕ → Type 0
-Covers prepared ends b depth before c after =
-    (g : Region) → Prepared g prepared ends (count_in ends)
+abbrev pub Covers : HalfspaceLists 512 64 → ℕ → ℕ → List ℕ → Counts → List ℕ → Type 0
+Covers p b depth before c after =
+    (g : Region) → Prepared g (halfspaces_in p) (ends_in p)
     → (c ≡ counts_of (listed b (cutting depth g))) × (after ≡ both_listed b (listed b (cutting depth g)) before)
 
 -- the list begins with the n rows of the region g, which is as the region of an accepted file is

@@ -7,10 +7,12 @@
 --   frames_answer        what the call answers: these counts, or the refusal
 --   ranges_after         the range list afterwards: as the cover leaves it
 --   numbers_after        the list of numbers afterwards: those delivered, from element 0 on; the other elements stay
---   frames_given r       what the call gave
 --   FramesCall ..       it gave r and left both lists, all by these definitions: the contract of the call
 use Rattle.std.specs.Prelude.{ℕ, ◌*◌, ◌≡◌, List, [], ◌∷◌, leb, length, ℤ}
-use Rattle.answer.specs.Answer.{Answer, refused, gives, check, then, with_value, Space, Owner}
+use Rattle.std.specs.Prelude.{Result}
+use Rattle.answer.specs.declared.Refusal.{Refusal}
+use Rattle.answer.specs.Calls.{answer_of}
+use Rattle.answer.specs.Answer.{Answer, gives, check, then, with_value, Space, Owner}
 use Rattle.answer.specs.Lent.{put, stored}
 use Rattle.region.specs.Regions.{holds}
 use Rattle.region.specs.Budgets.{budget_of}
@@ -19,7 +21,6 @@ use Rattle.covering.specs.Cover.{cover, both_listed}
 use Rattle.index.specs.Exposures.{OwnerCapacity, is_owner}
 use Rattle.index.specs.Answers.{in_list}
 use Rattle.frames.specs.declared.Frames.{Frames}
-use Rattle.frames.specs.declared.FramesOf.{FramesOf}
 use Rattle.frames.specs.Walk.{entries_of, WalkStep, walk, delivered_by, tests_of}
 
 abbrev pub frames_into : ℕ → List ℤ → List ℕ → List ℕ → List ℕ → Answer File
@@ -52,11 +53,7 @@ ranges_after o l f ranges numbers = stored (λ x before. both_listed (budget_of 
 unfoldable pub numbers_after : ℕ → List ℤ → List ℕ → List ℕ → List ℕ → List ℕ
 numbers_after o l f ranges numbers = stored (λ x before. put 0 (delivered_by (walk_of o l x)) before) (frames_into o l f ranges numbers) numbers
 
-abbrev pub frames_given : FramesOf → Answer Frames
-frames_given (FramesOf.Gives r) = gives r
-frames_given (FramesOf.Refused n) = refused n
-
-pub record FramesCall (o : ℕ) (l : List ℤ) (f ranges numbers : List ℕ) (r : FramesOf) (lists left : List ℕ) : Type 0 where
-  pub answer : frames_given r ≡ frames_answer o l f ranges numbers
+pub record FramesCall (o : ℕ) (l : List ℤ) (f ranges numbers : List ℕ) (r : Result Frames Refusal) (lists left : List ℕ) : Type 0 where
+  pub answer : answer_of r ≡ frames_answer o l f ranges numbers
   pub lists_left : lists ≡ ranges_after o l f ranges numbers
   pub numbers_left : left ≡ numbers_after o l f ranges numbers

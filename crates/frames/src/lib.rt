@@ -19,10 +19,3 @@ pub struct Frames {
     pub delivered: u64,
     pub tests: u64,
 }
-
-// These counts, or the number of the first check that failed.
-#[derive(Clone, Copy)]
-pub enum FramesOf {
-    Gives(Frames),
-    Refused(u32),
-}

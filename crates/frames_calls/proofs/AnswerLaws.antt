@@ -1,6 +1,7 @@
 -- The answer by its checks in their order: the owner, the file's, the two lent lists' lengths and the index's, then what a search of the file's rows delivers.
 -- Assumes nothing.
 use Prim.Native.Nat.{ℕ, ◌*◌, ◌≤◌, ◌<◌}
+use Rattle.std.specs.Prelude.{Ok, Err}
 use native.Mathlib.Omega.{arith}
 use mathlib.Core.Path.{◌≡◌, refl, sym, ap, ◌∙◌}
 use mathlib.Core.Bool.{Bool, true, false}
@@ -9,6 +10,8 @@ use lib.Dec.{leb}
 use lib.ListN.{length}
 use lib.IntN.{ℤ}
 use borrow.Author.Tests.{le-leb, lt-leb}
+use Rattle.answer.specs.declared.Refusal.{Refusal}
+use Rattle.answer.specs.Calls.{number}
 use Rattle.answer.specs.Answer.{Answer, refused, gives, check, then, with_value, Space, Owner}
 use Rattle.answer.specs.Lent.{put, stored}
 use Rattle.answer.proofs.AnswerLaws.{value_refused}
@@ -22,7 +25,6 @@ use Rattle.covering_calls.proofs.DecodedLaws.{budget_same, cover_same}
 use Rattle.index.specs.Exposures.{OwnerCapacity, is_owner}
 use Rattle.index.specs.Entries.{IndexLength}
 use Rattle.index.specs.Answers.{in_list}
-use Rattle.frames.specs.declared.FramesOf.{FramesOf}
 use Rattle.frames.specs.Walk.{WalkStep, delivered_by}
 use Rattle.frames.specs.Answers.{frames_into, walk_of, frames_by, frames_answer, ranges_after, numbers_after, FramesCall}
 use Rattle.frames_walk.specs.Steps.{counts_by}
@@ -35,9 +37,9 @@ counted : (ms : List WalkStep) → delivery_of (counts_by ms) ≡ frames_by ms
 counted ms i = record { delivered = sym (length_delivered ms) i; tests = sym (tests_counted ms) i }
 
 module _ (o : ℕ) (l : List ℤ) (f ranges numbers : List ℕ) where
-  refuses : (n : ℕ) → frames_into o l f ranges numbers ≡ refused n → FramesCall o l f ranges numbers (FramesOf.Refused n) ranges numbers
+  refuses : (r : Refusal) → frames_into o l f ranges numbers ≡ refused (number r) → FramesCall o l f ranges numbers (Err r) ranges numbers
   unfolding frames_answer ranges_after numbers_after
-  refuses n e = record {
+  refuses r e = record {
     answer = sym (ap (with_value (λ x. frames_by (walk_of o l x))) e);
     lists_left = sym (ap (λ a. stored (λ x before. both_listed (budget_of x.budget) (cover x) before) a ranges) e);
     numbers_left = sym (ap (λ a. stored (λ x before. put 0 (delivered_by (walk_of o l x)) before) a numbers) e);
@@ -47,12 +49,12 @@ module _ (o : ℕ) (l : List ℤ) (f ranges numbers : List ℕ) where
   abbrev rest : File → Answer File
   rest x = check Space (leb (4 * budget_of x.budget) (length ranges)) (check Space (leb OwnerCapacity (length numbers)) (in_list l (gives x)))
 
-  pub no_owner : is_owner o ≡ false → FramesCall o l f ranges numbers (FramesOf.Refused Owner) ranges numbers
-  no_owner e = refuses Owner (ap (λ t. check Owner t (then (read f) rest)) e)
+  pub no_owner : is_owner o ≡ false → FramesCall o l f ranges numbers (Err Refusal.Owner) ranges numbers
+  no_owner e = refuses Refusal.Owner (ap (λ t. check Owner t (then (read f) rest)) e)
 
   module _ (own : is_owner o ≡ true) where
-    pub file_refused : (n : ℕ) → refused n ≡ with_value header_of (read f) → FramesCall o l f ranges numbers (FramesOf.Refused n) ranges numbers
-    file_refused n e = refuses n (ap (λ t. check Owner t (then (read f) rest)) own ∙ ap (λ a. then a rest) (value_refused header_of (read f) n (sym e)))
+    pub file_refused : (r : Refusal) → refused (number r) ≡ with_value header_of (read f) → FramesCall o l f ranges numbers (Err r) ranges numbers
+    file_refused r e = refuses r (ap (λ t. check Owner t (then (read f) rest)) own ∙ ap (λ a. then a rest) (value_refused header_of (read f) (number r) (sym e)))
 
     module _ (h : Header) (rs : List ℤ) (k : Decoded f h rs) where
       abbrev x : File
@@ -68,22 +70,22 @@ module _ (o : ℕ) (l : List ℤ) (f ranges numbers : List ℕ) where
         checked : frames_into o l f ranges numbers ≡ check Space a (check Space b (check Space c (gives x)))
         checked = into ∙ (λ i. check Space (p i) (check Space (q i) (check Space (r i) (gives x))))
 
-      pub no_ranges : length ranges < 4 * budget_of h.budget → FramesCall o l f ranges numbers (FramesOf.Refused Space) ranges numbers
-      no_ranges s = refuses Space (checked (lt-leb (4 * B) (length ranges) (omega (arith, budget_same k))) refl refl)
+      pub no_ranges : length ranges < 4 * budget_of h.budget → FramesCall o l f ranges numbers (Err Refusal.Space) ranges numbers
+      no_ranges s = refuses Refusal.Space (checked (lt-leb (4 * B) (length ranges) (omega (arith, budget_same k))) refl refl)
 
       module _ (s : 4 * budget_of h.budget ≤ length ranges) where
         long_ranges : leb (4 * B) (length ranges) ≡ true
         long_ranges = le-leb (4 * B) (length ranges) (omega (arith, budget_same k))
 
-        pub no_numbers : length numbers < OwnerCapacity → FramesCall o l f ranges numbers (FramesOf.Refused Space) ranges numbers
-        no_numbers t = refuses Space (checked long_ranges (lt-leb OwnerCapacity (length numbers) t) refl)
+        pub no_numbers : length numbers < OwnerCapacity → FramesCall o l f ranges numbers (Err Refusal.Space) ranges numbers
+        no_numbers t = refuses Refusal.Space (checked long_ranges (lt-leb OwnerCapacity (length numbers) t) refl)
 
-        pub no_index : OwnerCapacity ≤ length numbers → length l < IndexLength → FramesCall o l f ranges numbers (FramesOf.Refused Space) ranges numbers
-        no_index t u = refuses Space (checked long_ranges (le-leb OwnerCapacity (length numbers) t) (lt-leb IndexLength (length l) u))
+        pub no_index : OwnerCapacity ≤ length numbers → length l < IndexLength → FramesCall o l f ranges numbers (Err Refusal.Space) ranges numbers
+        no_index t u = refuses Refusal.Space (checked long_ranges (le-leb OwnerCapacity (length numbers) t) (lt-leb IndexLength (length l) u))
 
         pub delivered : OwnerCapacity ≤ length numbers → IndexLength ≤ length l → (r : SearchResult) (lists left : List ℕ)
             → SearchesRows o l h.depth (budget_of h.budget) rs h.count ranges numbers r lists left
-            → FramesCall o l f ranges numbers (FramesOf.Gives (delivery_of r.dispositions)) lists left
+            → FramesCall o l f ranges numbers (Ok (delivery_of r.dispositions)) lists left
         unfolding frames_answer ranges_after numbers_after walk_of
         delivered t u r lists left w =
             let v = w x.region k.rows in

@@ -23,9 +23,12 @@ use Rattle.index.specs.declared.Entry.{Entry}
 use Rattle.index.specs.Exposures.{OwnerCapacity, only}
 use Rattle.index.specs.Entries.{is_owned, entries_in}
 use Rattle.frames.specs.Walk.{shortened, entries_of, ahead, walk, delivered_by}
-use Rattle.frames_walk.specs.declared.Lists.{Lists}
+use Rattle.frames_walk.specs.declared.lists.Lists.{Lists}
+use Rattle.frames_walk.specs.declared.lists.OwnedEntries.{OwnedEntries}
+use Rattle.frames_walk.specs.declared.lists.RegionRows.{RegionRows}
 use Rattle.frames_walk.specs.declared.DispositionCounts.{DispositionCounts}
-use Rattle.frames_walk.specs.Steps.{counts_by, Lent, Walks}
+use Rattle.frames_walk.specs.Lent.{Lent}
+use Rattle.frames_walk.specs.Steps.{counts_by, outer_in, inner_in, held, Walks}
 use Rattle.frames_walk.proofs.StepLaws.{few_counted}
 use Rattle.frames_calls.specs.Searches.{walk_beside, Searches}
 
@@ -52,9 +55,6 @@ held_rows {g} {n} {rs} k p = ap (λ m. rows_hold p m rs) k.count ∙ ap (rows_ho
 
 -- ---- the lists in the lent list
 
-abbrev pub lists_of : Counts → ℕ → ℕ → Lists
-lists_of c b span = record { outer = c.outer; inner = c.inner; from = 2 * b; span = span }
-
 module _ (d b : ℕ) (g : Region) (one : 1 ≤ b) (ranges lists : List ℕ) (space : 4 * b ≤ length ranges) (c : Counts) (counts : c ≡ counts_of (listed b (cutting d g)))
     (list : lists ≡ both_listed b (listed b (cutting d g)) ranges) where
   abbrev C : Cover
@@ -66,11 +66,11 @@ module _ (d b : ℕ) (g : Region) (one : 1 ≤ b) (ranges lists : List ℕ) (spa
   inner_short : length C.inner ≤ b
   inner_short = inner_few b one (cutting d g).full
 
-  pub lent : (span : ℕ) → 0 < span → length lists ≡ length ranges → Lent (lists_of c b span) lists
+  pub lent : (span : ℕ) → 0 < span → length lists ≡ length ranges → Lent c.outer (2 * b) c.inner span lists
   lent span h e =
       let o : c.outer ≡ length C.outer = ap (λ k. k.outer) counts in
       let n : c.inner ≡ length C.inner = ap (λ k. k.inner) counts in
-      record { outer = omega (arith, outer_short); inner = omega (arith, inner_short); span = h }
+      record { outer = omega (arith, outer_short); inner = omega (arith, inner_short); some = h }
 
   outer_list : ranges_in c.outer lists ≡ C.outer
   outer_list = (λ i. ranges_in (counts i).outer (list i)) ∙ outer_back b C ranges space outer_short
@@ -78,16 +78,17 @@ module _ (d b : ℕ) (g : Region) (one : 1 ≤ b) (ranges lists : List ℕ) (spa
   inner_list : ranges_in c.inner (drop (2 * b) lists) ≡ C.inner
   inner_list = (λ i. ranges_in (counts i).inner (drop (2 * b) (list i))) ∙ inner_back b C ranges space outer_short
 
-  pub searched : (o : ℕ) (l : List ℤ) (n : ℕ) (rs : List ℤ) → RowsOf g n rs → (span : ℕ) → span ≡ 4 ^ (12 - d) → (numbers left : List ℕ) (t : DispositionCounts)
-      → Walks o l (lists_of c b span) lists rs n numbers t left → Searches o l d b g ranges numbers (record { counts = c; dispositions = t }) lists left
-  searched o l n rs k span e numbers left t w =
+  pub searched : (x : OwnedEntries) (rs : RegionRows) → RowsOf g rs.count rs.rows.now → (l : Lists) → outer_in l ≡ ranges_in c.outer lists
+      → inner_in l ≡ ranges_in c.inner (drop (2 * b) lists) → l.span ≡ 4 ^ (12 - d) → (numbers left : List ℕ) (t : DispositionCounts)
+      → Walks x l rs numbers t left → Searches x.owner x.index.now d b g ranges numbers (record { counts = c; dispositions = t }) lists left
+  searched x rs k l o n e numbers left t w =
       let v = w d e in
-      let same : walk d (λ p. rows_hold p n rs) (ranges_in c.outer lists) (ranges_in c.inner (drop (2 * b) lists)) (entries_of o l) ≡ walk_beside o l d g C =
-      λ i. walk d (λ p. held_rows k p i) (outer_list i) (inner_list i) (entries_of o l) in
+      let same : walk d (held rs) (outer_in l) (inner_in l) (entries_of x.owner x.index.now) ≡ walk_beside x.owner x.index.now d g C =
+      λ i. walk d (λ p. held_rows k p i) ((o ∙ outer_list) i) ((n ∙ inner_list) i) (entries_of x.owner x.index.now) in
       record {
         counts = counts;
         lists_left = list;
         dispositions = v.dispositions ∙ ap counts_by same;
         numbers_left = v.numbers ∙ ap (λ ms. put 0 (delivered_by ms) numbers) same;
-        few = subst (λ q. counting q ≤ OwnerCapacity) (sym (v.dispositions ∙ ap counts_by same)) (few_visited d (holds g) C.outer C.inner o l);
+        few = subst (λ q. counting q ≤ OwnerCapacity) (sym (v.dispositions ∙ ap counts_by same)) (few_visited d (holds g) C.outer C.inner x.owner x.index.now);
       }

@@ -2,21 +2,21 @@
 // test on the decoded rows. The rules are those of frames/specs/Answers.
 #![tactic(auto)]
 
-ghost use Rattle.std.specs.Prelude.{◌≡◌, true, List, ℕ, ◌+◌, ◌*◌, ◌-◌, ◌≤◌, ◌<◌, length};
+ghost use Rattle.std.specs.Prelude.{◌≡◌, true, List, ℕ, ◌+◌, ◌*◌, ◌≤◌, length};
 ghost use Rattle.index.specs.Exposures.{OwnerCapacity, is_owner};
-ghost use Rattle.index.specs.Entries.{IndexLength};
 ghost use Rattle.frames.specs.Answers.{FramesCall};
 ghost use Rattle.covering_walk.specs.Walk.{SomeRows};
 ghost use Rattle.covering_calls.specs.Decoded.{Decoded};
 ghost use Rattle.frames_calls.specs.Searches.{SearchesRows, FileIs, delivery_of};
 
-use answer::{OWNER, SPACE};
+use answer::Refusal;
 use covering::Counts;
-use frames::{Frames, FramesOf};
-use frames_walk::{DispositionCounts, Lists};
+use frames::Frames;
+use frames_walk::DispositionCounts;
+use frames_walk::lists::{Lists, OwnedEntries, RegionRows};
 use index::{INDEX_LENGTH, OWNER_CAPACITY, OWNERS};
 use limits::{HALFSPACES, MAX_DEPTH};
-use region::{Header, HeaderOf};
+use region::Header;
 
 // What a search gives: the counts of the cover, and what became of the entries.
 #[derive(Clone, Copy)]
@@ -25,34 +25,33 @@ pub struct SearchResult {
     pub dispositions: DispositionCounts,
 }
 
-// The cover of the region of `count` rows in the range list, and the walk over an owner's entries beside it, with the numbers delivered.
+// The cover of a region in the range list, and the walk over an owner's entries beside it, with the numbers delivered.
 pub fn search(
-    index: &[i64],
-    owner: u32,
+    entries: OwnedEntries,
+    region: RegionRows,
     depth: u32,
     budget: usize,
-    rows: &[i32; 5 * HALFSPACES],
-    count: usize,
     ranges: &mut [u64],
     numbers: &mut [u32],
 ) -> SearchResult
-    requires le_depth { (1 ≤ depth) × (depth ≤ 12) × SomeRows count rows.now }
+    requires le_depth { (1 ≤ depth) × (depth ≤ 12) × SomeRows region.count region.rows.now }
     requires le_budget { (1 ≤ budget) × (4 * budget ≤ length ranges.old) }
-    requires in_bounds { (IndexLength ≤ length index.now) × (OwnerCapacity ≤ length numbers.old) }
-    ensures { SearchesRows owner index.now depth budget rows.now count ranges.old
-        numbers.old result ranges.new numbers.new }
+    requires in_bounds { OwnerCapacity ≤ length numbers.old }
+    ensures { SearchesRows entries.entry.owner entries.entry.index.now depth budget region.entry.rows.now
+        region.entry.count ranges.old numbers.old result ranges.new numbers.new }
 {
-    let counts = covering_calls::cover(depth, rows, count, budget, ranges);
-    let lists = Lists {
-        outer: counts.outer as usize,
-        inner: counts.inner as usize,
-        from: 2 * budget,
-        span: covering_calls::power(MAX_DEPTH - depth),
-    };
-    let dispositions = frames_walk::walk(index, owner, ranges, lists, rows, count, numbers);
+    let counts = covering_calls::cover(depth, region.rows, region.count, budget, ranges);
+    let lists = Lists::lent(
+        ranges,
+        counts.outer as usize,
+        2 * budget,
+        counts.inner as usize,
+        4u64.pow(MAX_DEPTH - depth),
+    );
+    let dispositions = frames_walk::walk(entries, lists, region, numbers);
     SearchResult {
-        counts: counts,
-        dispositions: dispositions,
+        counts,
+        dispositions,
     }
 }
 
@@ -75,7 +74,7 @@ fn frames_in(
     rows: &[i32; 5 * HALFSPACES],
     ranges: &mut [u64],
     numbers: &mut [u32],
-) -> FramesOf
+) -> Result<Frames, Refusal>
     requires file_is { FileIs h rows.now }
     requires owner_value { is_owner owner ≡ true }
     ensures { (f : List ℕ) → Decoded f h rows.now
@@ -84,25 +83,21 @@ fn frames_in(
 {
     let budget = limits::budget_of(h.budget);
     if ranges.len() < 4 * budget {
-        return FramesOf::Refused(SPACE);
+        return Err(Refusal::Space);
     }
     if numbers.len() < OWNER_CAPACITY {
-        return FramesOf::Refused(SPACE);
+        return Err(Refusal::Space);
     }
     if index.len() < INDEX_LENGTH {
-        return FramesOf::Refused(SPACE);
+        return Err(Refusal::Space);
     }
-    let made = search(
-        index,
-        owner,
-        h.depth,
-        budget,
+    let region = RegionRows {
         rows,
-        h.count as usize,
-        ranges,
-        numbers,
-    );
-    FramesOf::Gives(delivery(made.dispositions))
+        count: h.count as usize,
+    };
+    let entries = OwnedEntries { index, owner };
+    let made = search(entries, region, h.depth, budget, ranges, numbers);
+    Ok(delivery(made.dispositions))
 }
 
 // The numbers of an owner's entries that the region of a file holds, from element 0 of `numbers` on, and the cover's lists in `ranges`; refusals 18,
@@ -113,17 +108,14 @@ pub fn frames(
     file: &[u8],
     ranges: &mut [u64],
     numbers: &mut [u32],
-) -> FramesOf
+) -> Result<Frames, Refusal>
     ensures { FramesCall owner index.now file.now ranges.old numbers.old
         result ranges.new numbers.new }
 {
     if OWNERS <= owner {
-        return FramesOf::Refused(OWNER);
+        return Err(Refusal::Owner);
     }
     let mut rows = [0i32; 5 * HALFSPACES];
-    let said = region_reader::decode(file, &mut rows);
-    match said {
-        HeaderOf::Gives(h) => frames_in(index, owner, h, &rows, ranges, numbers),
-        HeaderOf::Refused(n) => FramesOf::Refused(n),
-    }
+    let h = region_reader::decode(file, &mut rows)?;
+    frames_in(index, owner, h, &rows, ranges, numbers)
 }

@@ -1,4 +1,3 @@
-pub mod NumberLaws
 pub mod RangeLaws
 pub mod StepLaws
 pub mod WalkLaws

@@ -15,7 +15,6 @@ use Rattle.index.specs.Exposures.{only}
 use Rattle.frames.specs.declared.Disposition.{Disposition}
 use Rattle.frames.specs.declared.Disposition.TheVariants.{Skipped, Unchecked, Held, Discarded}
 use Rattle.frames.specs.Walk.{WalkStep, walk_step, is_unchecked, is_held, is_discarded, is_delivered, is_tested, number_of, delivered_by, tests_of}
-use Rattle.frames_walk.specs.declared.DispositionCounts.{DispositionCounts}
 use Rattle.frames_walk.specs.Steps.{disposition_counts, with_disposition, counts_by}
 
 -- ---- the counts
@@ -43,13 +42,6 @@ counts_more ms e f = (λ i. disposition_counts (tally_last (λ m. is_unchecked m
     by_disposition Unchecked = refl
     by_disposition Held = refl
     by_disposition Discarded = refl
-
--- a step adds at most one
-pub with_disposition_most : (t : DispositionCounts) (f : Disposition) → (with_disposition t f).unchecked + (with_disposition t f).held + (with_disposition t f).discarded ≤ t.unchecked + t.held + t.discarded + 1
-with_disposition_most t Skipped = omega arith
-with_disposition_most t Unchecked = omega arith
-with_disposition_most t Held = omega arith
-with_disposition_most t Discarded = omega arith
 
 -- ---- those of all steps
 

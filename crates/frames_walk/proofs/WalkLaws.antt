@@ -11,50 +11,48 @@ use lib.IntN.{ℤ}
 use Rattle.algebra.specs.Lists.{tally}
 use Rattle.answer.specs.Lent.{put}
 use Rattle.answer.proofs.PutLaws.{put_none}
-use Rattle.vector.specs.declared.Vec3.{Vec3}
 use Rattle.index.specs.declared.Entry.{Entry}
 use Rattle.index.specs.Exposures.{OwnerCapacity, only}
 use Rattle.index.specs.Entries.{is_owned, Width, entry_at, entries_from, count_in, entries_in}
 use Rattle.index_entries.proofs.EntryLaws.{entry_drop}
-use Rattle.region_points.specs.Points.{rows_hold}
 use Rattle.frames.specs.declared.Disposition.{Disposition}
 use Rattle.frames.specs.Walk.{natural, number_of, entries_of, ahead, begins, disposition_of, WalkStep, walk_step, walk, is_delivered, delivered_by}
-use Rattle.frames_walk.specs.declared.Lists.{Lists}
+use Rattle.frames_walk.specs.declared.lists.Lists.{Lists}
+use Rattle.frames_walk.specs.declared.lists.OwnedEntries.{OwnedEntries}
+use Rattle.frames_walk.specs.declared.lists.RegionRows.{RegionRows}
+use Rattle.frames_walk.specs.declared.DispositionCounts.{DispositionCounts}
 use Rattle.frames_walk.specs.declared.WalkState.{WalkState}
-use Rattle.frames_walk.specs.Steps.{disposition_counts, with_disposition, counts_by, outer_in, inner_in, left, Walking, VisitsEntry, VisitsIfOwned, Walks}
+use Rattle.frames_walk.specs.Steps.{disposition_counts, with_disposition, counts_by, outer_in, inner_in, held, left, Walking, VisitsEntry, VisitsIfOwned, Walks}
 use Rattle.frames_walk.proofs.StepLaws.{counts_more, numbers_more}
 
 -- ---- an entry of the owner
 
-module _ (l : Lists) (ls : List ℕ) (rs : List ℤ) (n : ℕ) (e : Entry) (a : WalkState) (now : List ℕ) (b : WalkState) (then : List ℕ) where
+module _ (g : RegionRows) (e : Entry) (a : WalkState) (now : List ℕ) (b : WalkState) (then : List ℕ) where
   -- what the code does with it
-  pub record Turn (i : ℕ) (inside within : Bool) (f : Disposition) : Type 0 where
-    pub id : i ≡ natural e.id / l.span
-    pub outer : drop b.outer (outer_in l ls) ≡ ahead i (drop a.outer (outer_in l ls))
-    pub inner : drop b.inner (inner_in l ls) ≡ ahead i (drop a.inner (inner_in l ls))
-    pub in_inner : inside ≡ begins i (drop b.inner (inner_in l ls))
-    pub in_outer : within ≡ begins i (drop b.outer (outer_in l ls))
-    pub disposition : f ≡ disposition_of (λ p. rows_hold p n rs) inside within e.pointing
+  pub record Turn (i : ℕ) (f : Disposition) : Type 0 where
+    pub id : i ≡ natural e.id / a.lists.span
+    pub outer : outer_in b.lists ≡ ahead i (outer_in a.lists)
+    pub inner : inner_in b.lists ≡ ahead i (inner_in a.lists)
+    pub span : b.lists.span ≡ a.lists.span
+    pub disposition : f ≡ disposition_of (held g) (begins i (inner_in b.lists)) (begins i (outer_in b.lists)) e.pointing
     pub visited : b.visited ≡ a.visited + 1
     pub dispositions : b.dispositions ≡ with_disposition a.dispositions f
     pub numbers : then ≡ cond (is_delivered f) (put (a.dispositions.unchecked + a.dispositions.held) (number_of e ∷ []) now) now
 
-  pub turned : (k : ℕ) (inside within : Bool) (f : Disposition) → Turn k inside within f → VisitsEntry l ls rs n e a now b then
+  pub turned : (i : ℕ) (f : Disposition) → Turn i f → VisitsEntry g e a now b then
   unfolding walk
-  turned k inside within f t d s all es before h =
-      let held : Vec3 → Bool = λ p. rows_hold p n rs in
-      let i = t.id ∙ ap (λ x. natural e.id / x) s in
-      let os = t.outer ∙ ap (λ x. ahead x (drop a.outer (outer_in l ls))) i in
-      let ns = t.inner ∙ ap (λ x. ahead x (drop a.inner (inner_in l ls))) i in
-      let ni = t.in_inner ∙ (λ j. begins (i j) (ns j)) in
-      let oi = t.in_outer ∙ (λ j. begins (i j) (os j)) in
-      let g = t.disposition ∙ (λ j. disposition_of held (ni j) (oi j) e.pointing) in
+  turned k f t d all es before h =
+      let i = t.id ∙ ap (λ x. natural e.id / x) h.span in
+      let os = t.outer ∙ ap (λ x. ahead x (outer_in a.lists)) i in
+      let ns = t.inner ∙ ap (λ x. ahead x (inner_in a.lists)) i in
+      let f' = t.disposition ∙ (λ j. disposition_of (held g) (begins (i j) (ns j)) (begins (i j) (os j)) e.pointing) in
       let ms : List WalkStep = h.behind in
       record {
+        span = t.span ∙ h.span;
         behind = ms ++ walk_step e f ∷ [];
         parts =
-            append_assoc ms (walk_step e f ∷ []) (walk d held (drop b.outer (outer_in l ls)) (drop b.inner (inner_in l ls)) es)
-            ∙ (λ j. ms ++ walk_step e (g j) ∷ walk d held (os j) (ns j) es)
+            append_assoc ms (walk_step e f ∷ []) (walk d (held g) (outer_in b.lists) (inner_in b.lists) es)
+            ∙ (λ j. ms ++ walk_step e (f' j) ∷ walk d (held g) (os j) (ns j) es)
             ∙ h.parts;
         visited = omega (arith, t.visited, h.visited, length-append ms (walk_step e f ∷ []));
         dispositions = t.dispositions ∙ ap (λ x. with_disposition x f) h.dispositions ∙ sym (counts_more ms e f);
@@ -85,40 +83,48 @@ module _ (o : ℕ) (e : Entry) (m : ℕ) (es : List Entry) where
       let s : OwnerCapacity - m ≡ suc (OwnerCapacity - (m + 1)) = omega arith in
       λ j. take (s j) (chosen (t j))
 
-module _ (o : ℕ) (l : Lists) (ls : List ℕ) (rs : List ℤ) (n : ℕ) (e : Entry) (a : WalkState) (now : List ℕ) where
-  pub visits_other : is_owned o e ≡ false → VisitsIfOwned o l ls rs n e a now a now
-  visits_other t d s all es before h = subst (λ xs. Walking l ls rs n d all xs before a now) (left_other o e a.visited es t) h
+module _ (o : ℕ) (g : RegionRows) (e : Entry) (a : WalkState) (now : List ℕ) where
+  pub visits_other : is_owned o e ≡ false → VisitsIfOwned o g e a now a now
+  visits_other t d all es before h = subst (λ xs. Walking g d all xs before a now) (left_other o e a.visited es t) h
 
-  pub visits_full : OwnerCapacity ≤ a.visited → VisitsIfOwned o l ls rs n e a now a now
-  visits_full f d s all es before h = subst (λ xs. Walking l ls rs n d all xs before a now) (left_full o e a.visited es f) h
+  pub visits_full : OwnerCapacity ≤ a.visited → VisitsIfOwned o g e a now a now
+  visits_full f d all es before h = subst (λ xs. Walking g d all xs before a now) (left_full o e a.visited es f) h
 
-  pub visits_own : (b : WalkState) (then : List ℕ) → is_owned o e ≡ true → a.visited < OwnerCapacity → b.visited ≡ a.visited + 1 → VisitsEntry l ls rs n e a now b then → VisitsIfOwned o l ls rs n e a now b then
-  visits_own b then t f m visits d s all es before h =
-      let own : Walking l ls rs n d all (e ∷ left o b.visited es) before a now =
-      subst (λ xs. Walking l ls rs n d all xs before a now) (left_own o e a.visited es t f ∙ ap (λ k. e ∷ left o k es) (sym m)) h in
-      visits d s all (left o b.visited es) before own
+  pub visits_own : (b : WalkState) (then : List ℕ) → is_owned o e ≡ true → a.visited < OwnerCapacity → b.visited ≡ a.visited + 1 → VisitsEntry g e a now b then → VisitsIfOwned o g e a now b then
+  visits_own b then t f m visits d all es before h =
+      let own : Walking g d all (e ∷ left o b.visited es) before a now =
+      subst (λ xs. Walking g d all xs before a now) (left_own o e a.visited es t f ∙ ap (λ k. e ∷ left o k es) (sym m)) h in
+      visits d all (left o b.visited es) before own
 
 -- ---- all entries, one after the other
 
-module _ (o : ℕ) (index : List ℤ) (l : Lists) (ls : List ℕ) (rs : List ℤ) (n : ℕ) (before : List ℕ) where
+module _ (x : OwnedEntries) (l : Lists) (g : RegionRows) (before : List ℕ) where
+  abbrev o : ℕ
+  o = x.owner
+
+  abbrev index : List ℤ
+  index = x.index.now
+
   abbrev from : ℕ → List Entry
   from i = entries_from (count_in index - i) (drop (1 + Width * i) index)
 
+  abbrev whole : ℕ → List WalkStep
+  whole d = walk d (held g) (outer_in l) (inner_in l) (entries_of o index)
+
   -- past i entries
   abbrev pub Past : ℕ → WalkState → List ℕ → Type 0
-  Past i a now =
-      (d : ℕ) → l.span ≡ 4 ^ (12 - d)
-      → Walking l ls rs n d (walk d (λ p. rows_hold p n rs) (outer_in l ls) (inner_in l ls) (entries_of o index)) (left o a.visited (from i)) before a now
+  Past i a now = (d : ℕ) → l.span ≡ 4 ^ (12 - d) → Walking g d (whole d) (left o a.visited (from i)) before a now
 
-  pub past_none : Past 0 (record { visited = 0; outer = 0; inner = 0; dispositions = disposition_counts 0 0 0 }) before
+  pub past_none : (t : DispositionCounts) → t ≡ disposition_counts 0 0 0 → Past 0 (record { visited = 0; lists = l; dispositions = t }) before
   unfolding entries_in only tally
-  past_none d s =
+  past_none t e d s =
       let z : count_in index - 0 ≡ count_in index = omega arith in
       record {
+        span = s;
         behind = [];
-        parts = ap (λ k. walk d (λ p. rows_hold p n rs) (outer_in l ls) (inner_in l ls) (take OwnerCapacity (only (is_owned o) (entries_from k (drop 1 index))))) z;
+        parts = ap (λ k. walk d (held g) (outer_in l) (inner_in l) (take OwnerCapacity (only (is_owned o) (entries_from k (drop 1 index))))) z;
         visited = refl;
-        dispositions = refl;
+        dispositions = e;
         numbers = sym (put_none 0 before);
       }
 
@@ -132,19 +138,18 @@ module _ (o : ℕ) (index : List ℤ) (l : Lists) (ls : List ℕ) (rs : List ℤ
       ∙ (λ j. entry_drop (1 + Width * i) index j ∷ entries_from (count_in index - (i + 1)) (r j))
 
   pub past_next : (i : ℕ) (e : Entry) (a b : WalkState) (now then : List ℕ) → i < count_in index → e ≡ entry_at index (1 + Width * i)
-      → VisitsIfOwned o l ls rs n e a now b then → Past i a now → Past (i + 1) b then
+      → VisitsIfOwned o g e a now b then → Past i a now → Past (i + 1) b then
   past_next i e a b now then h is goes past d s =
-      let all = walk d (λ p. rows_hold p n rs) (outer_in l ls) (inner_in l ls) (entries_of o index) in
-      goes d s all (from (i + 1)) before
-      (subst (λ xs. Walking l ls rs n d all (left o a.visited xs) before a now) (next i h ∙ ap (λ x. x ∷ from (i + 1)) (sym is)) (past d s))
+      goes d (whole d) (from (i + 1)) before
+      (subst (λ xs. Walking g d (whole d) (left o a.visited xs) before a now) (next i h ∙ ap (λ f. f ∷ from (i + 1)) (sym is)) (past d s))
 
-  pub past_all : (i : ℕ) (a : WalkState) (now : List ℕ) → count_in index ≤ i → Past i a now → Walks o index l ls rs n before a.dispositions now
+  pub past_all : (i : ℕ) (a : WalkState) (now : List ℕ) → count_in index ≤ i → Past i a now → Walks x l g before a.dispositions now
   unfolding entries_from only walk
   past_all i a now h past d s =
       let p = past d s in
       let z : count_in index - i ≡ 0 = omega arith in
       let none : left o a.visited (from i) ≡ [] = ap (λ k. left o a.visited (entries_from k (drop (1 + Width * i) index))) z ∙ take-nil (OwnerCapacity - a.visited) in
       let all = sym (append-nil p.behind)
-      ∙ ap (λ xs. p.behind ++ walk d (λ q. rows_hold q n rs) (drop a.outer (outer_in l ls)) (drop a.inner (inner_in l ls)) xs) (sym none)
+      ∙ ap (λ xs. p.behind ++ walk d (held g) (outer_in a.lists) (inner_in a.lists) xs) (sym none)
       ∙ p.parts in
       record { dispositions = p.dispositions ∙ ap counts_by all; numbers = p.numbers ∙ ap (λ ms. put 0 (delivered_by ms) before) all }

@@ -2,107 +2,78 @@
 // specs/Steps says how far a walk is.
 #![tactic(auto)]
 
-ghost use Rattle.std.specs.Prelude.{◌≡◌, cond, [], ◌∷◌, ◌+◌, ◌*◌, ◌/◌, ◌^◌, ◌≤◌, ◌<◌, length, drop};
+ghost use Rattle.std.specs.Prelude.{◌≡◌, cond, [], ◌∷◌, ◌+◌, ◌/◌, ◌^◌, ◌≤◌, ◌<◌, ltb, length, get_or};
+ghost use Rattle.std.specs.List.{prefix_len};
 ghost use Rattle.answer.specs.Lent.{put};
-ghost use Rattle.ranges.specs.Ranges.{ranges_in};
 ghost use Rattle.index.specs.Exposures.{OwnerCapacity};
 ghost use Rattle.index.specs.Entries.{IndexLength};
-ghost use Rattle.region_points.specs.Points.{rows_hold};
 ghost use Rattle.frames.specs.Walk as rule;
 ghost use Rattle.frames.specs.Walk.{disposition_of, is_delivered, number_of};
-ghost use Rattle.frames_walk.specs.Steps.{with_disposition, Lent, Fits, VisitsEntry, VisitsIfOwned, Walks};
+ghost use Rattle.frames_walk.specs.Lent.{ranges_of};
+ghost use Rattle.frames_walk.specs.Steps.{with_disposition, held, Fits, VisitsEntry, VisitsIfOwned, Walks};
 
+use crate::lists::{Lists, OwnedEntries, RegionRows};
 use frames::Disposition;
 use index::{Entry, OWNER_CAPACITY, WIDTH};
-use limits::HALFSPACES;
 use vector::Vec3;
 
-// The two lists of a cover in a lent list: how many ranges the outer and the inner one have, the element at which the inner one begins, and how many
-// identifiers of depth 12 are one of theirs.
-#[derive(Clone, Copy)]
-pub struct Lists {
-    pub outer: usize,
-    pub inner: usize,
-    pub from: usize,
-    pub span: u64,
-}
+pub mod lists;
 
 // How many entries were delivered unchecked, tested and held, and tested and discarded.
-#[derive(Clone, Copy)]
+#[derive(Clone, Copy, Default)]
 pub struct DispositionCounts {
     pub unchecked: u64,
     pub held: u64,
     pub discarded: u64,
 }
 
-// How far a walk is: how many of the owner's entries it has visited, how many ranges of each list it has left behind, and what it has counted.
+// How far a walk is: how many of the owner's entries it has visited, what it has not left behind of both lists, and what it has counted.
 #[derive(Clone, Copy)]
-pub struct WalkState {
+pub struct WalkState<'a> {
     pub visited: usize,
-    pub outer: usize,
-    pub inner: usize,
+    pub lists: Lists<'a>,
     pub dispositions: DispositionCounts,
 }
 
-// A number that is not below 0; 0 for any other.
-fn natural(z: i64) -> u64
-    ensures { (result ≡ rule.natural z) × (result < 2 ^ 63) }
-{
-    if z < 0 { 0 } else { z as u64 }
-}
-
-// The identifier of an entry at a depth of which one is `span` of depth 12.
+// The identifier of an entry at a depth of which one is `span` of depth 12; 0 for one below 0.
 fn shortened(e: Entry, span: u64) -> u64
     requires { 0 < span }
     ensures { result ≡ rule.natural e.id / span }
 {
-    natural(e.id) / span
+    u64::try_from(e.id).unwrap_or(0) / span
 }
-
-// How many numbers of 32 bits there are.
-const NUMBERS: u64 = 4294967296;
 
 // The number of an entry, where it has 32 bits; else 0.
 fn number_of(e: Entry) -> u32
     ensures { result ≡ number_of e }
 {
-    let n = natural(e.number);
-    if n < NUMBERS { n as u32 } else { 0 }
+    u32::try_from(e.number).unwrap_or(0)
 }
 
-// The place of the first of n ranges, from place k on, that does not end below an identifier.
-fn ahead(list: &[u64], n: usize, k: usize, id: u64) -> usize
-    requires { (2 * n ≤ length list.now) × (k ≤ n) }
-    ensures { (drop result (ranges_in n list.now) ≡ rule.ahead id (drop k (ranges_in n list.now))) × (result ≤ n) }
+// How many ranges at the beginning end below an identifier.
+fn behind(list: &[[u64; 2]], id: u64) -> usize
+    ensures { (result ≡ prefix_len (λ r. ltb (get_or r 1 0) id) list.now) × (result ≤ length list.now) }
 {
-    let mut place: usize = k;
-    while place < n {
-        if id <= list[2 * place + 1] {
-            return place;
-        }
-        place += 1;
-    }
-    place
+    list.iter().take_while(|r| r[1] < id).count()
 }
 
-// Whether there is a range at place k of n, and begins at an identifier or below it.
-fn begins(list: &[u64], n: usize, k: usize, id: u64) -> bool
-    requires { (2 * n ≤ length list.now) × (k ≤ n) }
-    ensures { result ≡ rule.begins id (drop k (ranges_in n list.now)) }
+// The ranges from the first one on that does not end below an identifier.
+fn ahead<'a>(list: &'a [[u64; 2]], id: u64) -> &'a [[u64; 2]]
+    ensures { ranges_of result.now ≡ rule.ahead id (ranges_of list.now) }
 {
-    k < n && list[2 * k] <= id
+    &list[behind(list, id)..]
+}
+
+// Whether the first range begins at an identifier or below it.
+fn begins(list: &[[u64; 2]], id: u64) -> bool
+    ensures { result ≡ rule.begins id (ranges_of list.now) }
+{
+    list.first().is_some_and(|r| r[0] <= id)
 }
 
 // What becomes of an entry with the pointing p, by whether it is in an inner and in an outer range; the point test is made where only the second is so.
-fn disposition_of(
-    inner: bool,
-    outer: bool,
-    rows: &[i32; 5 * HALFSPACES],
-    count: usize,
-    p: Vec3,
-) -> Disposition
-    requires { 5 * count ≤ 2560 }
-    ensures { result ≡ disposition_of (λ q. rows_hold q count rows.now) inner outer p }
+fn disposition_of(inner: bool, outer: bool, region: RegionRows, p: Vec3) -> Disposition
+    ensures { result ≡ disposition_of (held region.entry) inner outer p }
 {
     if inner {
         return Disposition::Unchecked;
@@ -110,10 +81,7 @@ fn disposition_of(
     if !outer {
         return Disposition::Skipped;
     }
-    if !vector_products::is_vector(p) {
-        return Disposition::Discarded;
-    }
-    if region_points::array_holds(rows, count, p) {
+    if vector_products::is_vector(p) && region_points::array_holds(region.rows, region.count, p) {
         Disposition::Held
     } else {
         Disposition::Discarded
@@ -129,18 +97,15 @@ fn count_disposition(t: DispositionCounts, disposition: Disposition) -> Disposit
         Disposition::Skipped => t,
         Disposition::Unchecked => DispositionCounts {
             unchecked: t.unchecked + 1,
-            held: t.held,
-            discarded: t.discarded,
+            ..t
         },
         Disposition::Held => DispositionCounts {
-            unchecked: t.unchecked,
             held: t.held + 1,
-            discarded: t.discarded,
+            ..t
         },
         Disposition::Discarded => DispositionCounts {
-            unchecked: t.unchecked,
-            held: t.held,
             discarded: t.discarded + 1,
+            ..t
         },
     }
 }
@@ -150,123 +115,84 @@ fn deliver(numbers: &mut [u32], k: usize, e: Entry, disposition: Disposition)
     requires { k < length numbers.old }
     ensures { numbers.new ≡ cond (is_delivered disposition) (put k (number_of e ∷ []) numbers.old) numbers.old }
 {
-    match disposition {
-        Disposition::Skipped => {}
-        Disposition::Unchecked => {
-            numbers[k] = number_of(e);
-        }
-        Disposition::Held => {
-            numbers[k] = number_of(e);
-        }
-        Disposition::Discarded => {}
+    if matches!(disposition, Disposition::Unchecked | Disposition::Held) {
+        numbers[k] = number_of(e);
     }
 }
 
 // The next entry of the owner: both lists go on to its identifier, and its disposition is counted.
-fn visit_entry(
+fn visit_entry<'a>(
+    at: WalkState<'a>,
     e: Entry,
-    at: WalkState,
-    ranges: &[u64],
-    lists: Lists,
-    rows: &[i32; 5 * HALFSPACES],
-    count: usize,
+    region: RegionRows,
     numbers: &mut [u32],
-) -> WalkState
-    requires lent { Lent lists ranges.now × Fits lists at × (at.visited < OwnerCapacity) × (OwnerCapacity ≤ length numbers.old) }
-    requires count_bound { 5 * count ≤ 2560 }
-    ensures visits_entry { VisitsEntry lists ranges.now rows.now count e at numbers.old result numbers.new }
-    ensures fits { Fits lists result × (result.visited ≡ at.visited + 1) × (length numbers.new ≡ length numbers.old) }
+) -> WalkState<'a>
+    requires lent { Fits at × (at.visited < OwnerCapacity) × (OwnerCapacity ≤ length numbers.old) }
+    ensures visits_entry { VisitsEntry region.entry e at.entry numbers.old result numbers.new }
+    ensures fits { Fits result × (result.visited ≡ at.entry.visited + 1) × (length numbers.new ≡ length numbers.old) }
 {
-    let id = shortened(e, lists.span);
-    let from = lists.from;
-    let outer = ahead(ranges, lists.outer, at.outer, id);
-    let inner = ahead(&ranges[from..], lists.inner, at.inner, id);
+    let id = shortened(e, at.lists.span);
+    let left = Lists {
+        outer: ahead(at.lists.outer, id),
+        inner: ahead(at.lists.inner, id),
+        span: at.lists.span,
+    };
     let disposition = disposition_of(
-        begins(&ranges[from..], lists.inner, inner, id),
-        begins(ranges, lists.outer, outer, id),
-        rows,
-        count,
+        begins(left.inner, id),
+        begins(left.outer, id),
+        region,
         e.pointing,
     );
-    let dispositions = at.dispositions;
-    deliver(
-        numbers,
-        (dispositions.unchecked + dispositions.held) as usize,
-        e,
-        disposition,
-    );
+    let delivered = at.dispositions.unchecked + at.dispositions.held;
+    deliver(numbers, delivered as usize, e, disposition);
     WalkState {
         visited: at.visited + 1,
-        outer: outer,
-        inner: inner,
-        dispositions: count_disposition(dispositions, disposition),
+        lists: left,
+        dispositions: count_disposition(at.dispositions, disposition),
     }
 }
 
 // The next entry, of either owner; the owner's are visited, up to an owner's capacity.
-fn visit_if_owned(
+fn visit_if_owned<'a>(
+    at: WalkState<'a>,
     e: Entry,
     owner: u32,
-    at: WalkState,
-    ranges: &[u64],
-    lists: Lists,
-    rows: &[i32; 5 * HALFSPACES],
-    count: usize,
+    region: RegionRows,
     numbers: &mut [u32],
-) -> WalkState
-    requires lent { Lent lists ranges.now × Fits lists at × (OwnerCapacity ≤ length numbers.old) }
-    requires count_bound { 5 * count ≤ 2560 }
-    ensures visits_if_owned { VisitsIfOwned owner lists ranges.now rows.now count e at numbers.old result numbers.new }
-    ensures fits { Fits lists result × (length numbers.new ≡ length numbers.old) }
+) -> WalkState<'a>
+    requires lent { Fits at × (OwnerCapacity ≤ length numbers.old) }
+    ensures visits_if_owned { VisitsIfOwned owner region.entry e at.entry numbers.old result numbers.new }
+    ensures fits { Fits result × (length numbers.new ≡ length numbers.old) }
 {
-    if !index_entries::is_owned(e, owner) {
+    if !index_entries::is_owned(e, owner) || OWNER_CAPACITY <= at.visited {
         return at;
     }
-    if OWNER_CAPACITY <= at.visited {
-        return at;
-    }
-    visit_entry(e, at, ranges, lists, rows, count, numbers)
+    visit_entry(at, e, region, numbers)
 }
 
 // The walk over the owner's entries: the numbers of those delivered, from element 0 of `numbers` on, and the counts.
 pub fn walk(
-    index: &[i64],
-    owner: u32,
-    ranges: &[u64],
+    entries: OwnedEntries,
     lists: Lists,
-    rows: &[i32; 5 * HALFSPACES],
-    count: usize,
+    region: RegionRows,
     numbers: &mut [u32],
 ) -> DispositionCounts
-    requires in_bounds { (IndexLength ≤ length index.now) × Lent lists ranges.now × (OwnerCapacity ≤ length numbers.old) }
-    requires count_bound { 5 * count ≤ 2560 }
-    ensures { Walks owner index.now lists ranges.now rows.now count numbers.old result
-        numbers.new }
+    requires in_bounds { OwnerCapacity ≤ length numbers.old }
+    ensures { Walks entries.entry lists.entry region.entry numbers.old result numbers.new }
 {
-    let n = index_entries::count_in(index);
     let mut at = WalkState {
         visited: 0,
-        outer: 0,
-        inner: 0,
-        dispositions: DispositionCounts {
-            unchecked: 0,
-            held: 0,
-            discarded: 0,
-        },
+        lists,
+        dispositions: DispositionCounts::default(),
     };
-    let mut i: usize = 0;
-    while i < n {
+    for i in 0..index_entries::count_in(entries.index) {
         at = visit_if_owned(
-            index_entries::entry_at(index, 1 + WIDTH * i),
-            owner,
             at,
-            ranges,
-            lists,
-            rows,
-            count,
+            index_entries::entry_at(entries.index, 1 + WIDTH * i),
+            entries.owner,
+            region,
             numbers,
         );
-        i += 1;
     }
     at.dispositions
 }

@@ -1,6 +1,8 @@
 -- The promise of the answers: demand 3 said of what the lookup, the point test and the cover answer, and of the lists that stand in the lent list
 -- after the cover. Assumes nothing.
 use Prim.Native.Nat.{ℕ, ◌*◌, ◌≤◌}
+use Rattle.std.specs.Prelude.{Result, Ok}
+use Rattle.answer.specs.declared.Refusal.{Refusal}
 use mathlib.Core.Path.{◌≡◌, sym, ap, ◌∙◌, subst, subst₂, subst₃}
 use mathlib.Core.Bool.{Bool, true}
 use mathlib.Core.List.{List}
@@ -9,24 +11,21 @@ use lib.ListN.{length}
 use borrow.Author.Tests.{leb-true, le-leb}
 use Rattle.answer.specs.Answer.{gives, check, Vector, Space}
 use Rattle.answer.specs.Lent.{room, stored}
-use Rattle.answer.proofs.AnswerLaws.{check_passed, check_gives, refused_gives, same_value, then_gives, value_gives, number_is}
+use Rattle.answer.proofs.AnswerLaws.{check_passed, check_gives, same_value, then_gives, value_gives, given_is}
 use Rattle.vector.specs.declared.Vec3.{Vec3}
 use Rattle.vector.specs.Vectors.{is_vector}
 use Rattle.region.specs.Regions.{holds}
 use Rattle.region.specs.Budgets.{budget_of}
 use Rattle.region.specs.Reader.{File, read, Accepted}
-use Rattle.region.specs.declared.HeldOf.{HeldOf}
-use Rattle.region.specs.Answers.{point_test, held_given}
+use Rattle.region.specs.Answers.{point_test}
 use Rattle.mesh.specs.Lookup.{lookup}
 use Rattle.covering.specs.Cover.{cover, counts_of}
 use Rattle.covering.specs.declared.Counts.{Counts}
 use Rattle.covering.proofs.ListedLaws.{outer_back, inner_back}
-use Rattle.htm.specs.Answers.{cover_into, cover_answer, both_lists, cover_after, cover_given, outer_in, inner_in}
+use Rattle.htm.specs.Answers.{cover_into, cover_answer, both_lists, cover_after, outer_in, inner_in}
 use Rattle.htm.specs.Promise.{CoverSound, ListsSound, DemandThree}
-use Rattle.htm.specs.declared.CoverOf.{CoverOf}
 use Rattle.htm.proofs.PromiseKept.{promise_kept}
-use Rattle.answer.specs.declared.Number.{Number}
-use Rattle.answer.specs.Calls.{number_of}
+use Rattle.answer.specs.Calls.{answer_of}
 
 -- ---- the three answers
 
@@ -90,13 +89,13 @@ answers_kept p f before c h cov tst =
 
 -- As above, for values that meet the contracts, `after` in the lent list: there is an identifier that the lookup gives, and the promise holds of all of them.
 pub calls_kept : (p : Vec3) (f before after : List ℕ) (c : Counts) (held : Bool)
-    → cover_given (CoverOf.Gives c) ≡ cover_answer f before → after ≡ cover_after f before → held_given (HeldOf.Gives held) ≡ point_test f p
-    → (x : File) × Accepted f x × (i : ℕ) × ((found : Number) → number_of found ≡ lookup p x.depth → found ≡ Number.Gives i)
+    → answer_of (Ok c) ≡ cover_answer f before → after ≡ cover_after f before → answer_of (Ok held) ≡ point_test f p
+    → (x : File) × Accepted f x × (i : ℕ) × ((found : Result ℕ Refusal) → answer_of found ≡ lookup p x.depth → found ≡ Ok i)
     × ListsSound i c after (budget_of x.budget) held
 calls_kept p f before after c h cov left tst =
     let k = answers_kept p f before c h (sym cov) (sym tst) in
     let B = budget_of k.0.budget in
-    (k.0, k.1, k.2, λ found e. number_is found k.2 (e ∙ k.3), subst (λ l. CoverSound k.2 (outer_in c l) (inner_in B c l) B h) (sym left) k.4)
+    (k.0, k.1, k.2, λ found e. given_is found k.2 (e ∙ k.3), subst (λ l. CoverSound k.2 (outer_in c l) (inner_in B c l) B h) (sym left) k.4)
 
 -- ---- undivided
 
@@ -107,14 +106,6 @@ cover_gives f before x r l = rw (r, le-leb (4 * budget_of x.budget) (length befo
 test_gives : (f : List ℕ) (p : Vec3) (x : File) → is_vector p ≡ true → Accepted f x → point_test f p ≡ gives (holds x.region p)
 unfolding point_test
 test_gives f p x v r = rw (r, v)
-
-held_is : (r : HeldOf) (h : Bool) → held_given r ≡ gives h → r ≡ HeldOf.Gives h
-held_is (HeldOf.Gives b) h e = ap HeldOf.Gives (same_value b h e)
-held_is (HeldOf.Refused n) h e = refused_gives n h e
-
-covered_is : (r : CoverOf) (c : Counts) → cover_given r ≡ gives c → r ≡ CoverOf.Gives c
-covered_is (CoverOf.Gives b) c e = ap CoverOf.Gives (same_value b c e)
-covered_is (CoverOf.Refused n) c e = refused_gives n c e
 
 pub demand_three : DemandThree
 demand_three p f before x v r l =
@@ -143,9 +134,9 @@ demand_three p f before x v r l =
         i = k.0;
         h = h;
         c = c;
-        locates = number_is found k.0 (e ∙ k.1);
-        tests = held_is held h (d ∙ tst);
-        covers = covered_is got c (b ∙ cov);
+        locates = given_is found k.0 (e ∙ k.1);
+        tests = given_is held h (d ∙ tst);
+        covers = given_is got c (b ∙ cov);
         lists = subst (λ s. ListsSound k.0 c s B h) (sym a) lists;
       };
     }

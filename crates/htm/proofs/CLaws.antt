@@ -1,12 +1,16 @@
 -- The calls for a host in C, by their checks in their order. Assumes nothing.
-use Prim.Native.Nat.{ℕ, ◌-◌, ◌≤◌, ◌<◌}
+use Prim.Native.Nat.{ℕ, ◌-◌, ◌^◌, ◌≤◌, ◌<◌}
 use native.Mathlib.Omega.{arith}
 use mathlib.Core.Path.{◌≡◌, sym, ap, subst, ◌∙◌}
 use mathlib.Core.List.{List, [], ◌∷◌, ◌++◌}
 use lib.Dec.{leb}
 use lib.ListN.{length}
-use lib.IntN.{ℤ, pos}
+use lib.IntN.{ℤ, pos, neg_ℤ}
+use mir.Syntax.{w64}
+use mir.Val.{to_z, of_z}
 use borrow.Author.Tests.{le-leb, lt-leb}
+use Rattle.algebra.proofs.Sizes.{Upto}
+use Rattle.algebra.proofs.Sized.{held}
 use Rattle.answer.specs.Answer.{Answer, refused, gives, check, then, with_value, Space, Name}
 use Rattle.answer.specs.Lent.{put, stored, room}
 use Rattle.answer.proofs.AnswerLaws.{check_gives, same_value, value_gives, value_refused}
@@ -39,6 +43,11 @@ use Rattle.htm_abi.specs.ShortLists.{file_refusal_or_space}
 use Rattle.htm_abi.specs.Values.{found_for_c, status_of, corners_list, header_list}
 use Rattle.htm.specs.CalledFromC.{entry_for_c, entry_after_c, corners_for_c, corners_after_c, read_for_c, rows_after_c, header_after_c, cover_for_c, cover_after_c, counts_after_c, in_both, contents_list, contents_for_c, contents_after_c}
 use Rattle.htm.proofs.RoomLaws.{room_short, room_enough, refused_by, in-any-case}
+
+-- ---- a refusal is sent as minus its number, which 64 bits hold
+
+pub sent : {z : ℤ} {n m : ℕ} → (z ≡ neg_ℤ (pos n)) × Upto (2 ^ 32) z → n ≡ m → to_z w64 (of_z w64 z) ≡ neg_ℤ (pos m)
+sent h e = (held h.1 tt).eq ∙ h.0 ∙ ap (λ k. neg_ℤ (pos k)) e
 
 -- ---- lengths are small: 32 bytes a name, 10508 a file
 
@@ -140,12 +149,13 @@ module _ (f : List ℕ) (rs : List ℤ) (header : List ℕ) where
   Reads status xs ns = (status ≡ status_of (read_for_c f rs header)) × ((xs ≡ rows_after_c f rs header) × (ns ≡ header_after_c f rs header))
 
   -- too short a list for the header: the file's refusal, or 10
-  pub short_header : length header < 3 → Reads (status_of (file_refusal_or_space f)) rs header
+  pub short_header : length header < 3 → (n : ℕ) → file_refusal_or_space f ≡ refused n → Reads (status_of {A = File} (refused n)) rs header
   unfolding read_for_c rows_after_c header_after_c
-  short_header h =
+  short_header h n e =
       let both = refused_by 3 header h (read_into f rs) (file_refusal_or_space f) (simp in-any-case) in
       let refuses = both.by_call in
-      (ap status_of both.by_checks ∙ (cc), (cc, cc))
+      let by_checks = both.by_checks in
+      (cc, (cc, cc))
 
   -- long enough: as the reader of the crate
   pub reads : 3 ≤ length header → (a : Answer Header) (xs : List ℤ) → a ≡ read_answer f rs → xs ≡ read_after f rs → Reads (status_of a) xs (stored (λ v l. put 0 (header_list v) l) a header)
@@ -195,12 +205,13 @@ module _ (f out counts : List ℕ) where
   Covers status xs ns = (status ≡ status_of (cover_for_c f out counts)) × ((xs ≡ cover_after_c f out counts) × (ns ≡ counts_after_c f out counts))
 
   -- too short a list for the counts: the file's refusal, or 10
-  pub short_counts : length counts < cover_counts → Covers (status_of (file_refusal_or_space f)) out counts
+  pub short_counts : length counts < cover_counts → (n : ℕ) → file_refusal_or_space f ≡ refused n → Covers (status_of {A = File} (refused n)) out counts
   unfolding cover_for_c cover_after_c counts_after_c
-  short_counts h =
+  short_counts h n e =
       let both = refused_by cover_counts counts h (cover_into f out) (file_refusal_or_space f) (simp in-any-case) in
       let refuses = both.by_call in
-      (ap status_of both.by_checks ∙ (cc), (cc, cc))
+      let by_checks = both.by_checks in
+      (cc, (cc, cc))
 
   -- long enough: as the cover of the crate
   pub covers : cover_counts ≤ length counts → (a : Answer Counts) (xs : List ℕ) → a ≡ cover_answer f out → xs ≡ cover_after f out → Covers (status_of a) xs (stored (λ v l. put 0 (counts_list v) l) a counts)

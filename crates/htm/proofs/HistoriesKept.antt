@@ -1,6 +1,8 @@
 -- Frames and trials after every history: the list that a history leaves is an index (`history_kept`), with the owner's own entries (`own_entries`).
 -- Assumes nothing.
 use mathlib.Core.Path.{◌≡◌, sym, ◌∙◌}
+use Rattle.std.specs.Prelude.{Result}
+use Rattle.answer.specs.declared.Refusal.{Refusal}
 use mathlib.Core.Bool.{Bool}
 use lib.Dec.{leb}
 use lib.ListN.{length, take}
@@ -8,7 +10,6 @@ use borrow.Author.Tests.{le-leb}
 use Prim.Native.Nat.{◌*◌}
 use mathlib.Core.List.{List}
 use lib.IntN.{ℤ}
-use Rattle.index.specs.declared.Change.{Change}
 use Rattle.answer.specs.Answer.{Answer, gives, check, then, with_value, Space, Owner}
 use Rattle.answer.specs.Lent.{put, stored}
 use Rattle.region.specs.Regions.{Region, holds}
@@ -32,7 +33,7 @@ use Rattle.htm.specs.Histories.{FramesOfHistories, TrialsOfHistories, FramesNoni
 use Rattle.htm.proofs.FramesKept.{frames_calls}
 use Rattle.htm.proofs.TrialsKept.{trials_answers}
 
-left_index : (h : List Call) (rs : List Change) (l : List ℤ) → Ran h rs l → IsIndex l
+left_index : (h : List Call) (rs : List (Result (Unit {0}) Refusal)) (l : List ℤ) → Ran h rs l → IsIndex l
 left_index h rs l r = (history_kept.kept r.start l h rs r.empty r.numbered r.runs).index
 
 pub frames_histories : FramesOfHistories

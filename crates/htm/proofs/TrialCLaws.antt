@@ -1,6 +1,7 @@
 -- A trial for a host in C, by its checks in their order: with too few elements for the result it refuses in any case and nothing is stored; else it answers as
 -- the call of the crate does. The part for C, by its checks: after a status that is not 0 it is empty. Assumes nothing.
 use Prim.Native.Nat.{ℕ, ◌≤◌, ◌<◌}
+use Rattle.std.specs.Prelude.{Ok}
 use native.Mathlib.Omega.{arith}
 use mathlib.Core.Path.{◌≡◌, sym, ap, ◌∙◌}
 use mathlib.Core.List.{List, [], ◌∷◌}
@@ -15,7 +16,6 @@ use Rattle.answer.specs.Lent.{put, stored}
 use Rattle.region.specs.Reader.{File}
 use Rattle.trial.specs.declared.Setting.{Setting}
 use Rattle.trial.specs.declared.Trial.{Trial}
-use Rattle.trial.specs.declared.TrialOf.{TrialOf}
 use Rattle.trial.specs.Answers.{trial_into, trial_answer, first_after, second_after, trial_list, trial_counts}
 use Rattle.htm_abi.specs.ShortLists.{trial_refusal_or_space}
 use Rattle.htm_abi.specs.TrialValues.{trial_in, part_list}
@@ -86,7 +86,7 @@ module _ (z : ℤ) (ns first second part : List ℕ) where
           (cc, cc)
 
       -- both long enough, and the trial gave its results: the part of its choice
-      pub some_part : nat_abs z ≡ 0 → let xs = part_list (TrialOf.Gives (trial_in ns)) first second in Chosen (status_of (gives xs)) (put 0 xs part)
+      pub some_part : nat_abs z ≡ 0 → let xs = part_list {E = ℕ} (Ok (trial_in ns)) first second in Chosen (status_of (gives xs)) (put 0 xs part)
       unfolding chosen_for_c chosen_after_c
       some_part n =
           let enough = le-leb trial_counts (length ns) h in

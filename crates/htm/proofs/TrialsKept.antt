@@ -1,6 +1,8 @@
 -- A trial counts the same frames under both settings: what is delivered, unchecked or after a test, is what the region holds, whatever depth and budget are
 -- (FramesKept). The part handed back is the outer list of the chosen setting, which stands at the front of its buffer (`outer_front`). Assumes nothing.
 use Prim.Native.Nat.{ℕ, suc, ◌+◌, ◌*◌, ◌≤◌, ◌<◌}
+use Rattle.std.specs.Prelude.{Ok}
+use Rattle.answer.specs.declared.Refusal.{Refusal}
 use native.Mathlib.Omega.{arith}
 use mathlib.Core.Path.{◌≡◌, refl, sym, ap, subst, ◌∙◌}
 use mathlib.Core.Bool.{Bool, true, false, cond}
@@ -31,7 +33,6 @@ use Rattle.frames.specs.Walk.{WalkStep, is_unchecked, is_held, is_delivered}
 use Rattle.trial.specs.declared.Setting.{Setting}
 use Rattle.trial.specs.declared.Choice.TheVariants.{First, Second}
 use Rattle.trial.specs.declared.Trial.{Trial}
-use Rattle.trial.specs.declared.TrialOf.{TrialOf}
 use Rattle.trial.specs.Trials.{cover_by, walk_by, sky_of, choice_of, trial_of, is_setting}
 use Rattle.trial.specs.Answers.{trial_into, trial_answer, lists_by, first_after, second_after, fitting, of_choice, part_of, check_setting, room_for}
 use Rattle.htm.specs.Trials.{held_by, SameHeld, chosen_of, Smaller, TrialCorrect, TrialsOfCalls}
@@ -143,7 +144,7 @@ chosen_part s t x first second h k true = front s x first h
 chosen_part s t x first second h k false = front t x second k
 
 pub trials_answers : (o : ℕ) (l : List ℤ) (f : List ℕ) (s t : Setting) (first second : List ℕ) (r : Trial) → trial_answer o l f s t first second ≡ gives r
-    → TrialCorrect o l f s t r (part_of (TrialOf.Gives r) (first_after o l f s t first second) (second_after o l f s t first second))
+    → TrialCorrect o l f s t r (part_of {E = Refusal} (Ok r) (first_after o l f s t first second) (second_after o l f s t first second))
 unfolding trial_answer first_after second_after trial_of
 trials_answers o l f s t first second r e =
     let v = value_gives (λ x. trial_of o l x.region s t) (trial_into o l f s t first second) r e in
@@ -162,9 +163,9 @@ trials_answers o l f s t first second r e =
       same_held = λ i. subst (SameHeld (held_by o l g)) same (same_held o l g i s t k.depths.0 k.depths.1);
       smaller = subst (λ u. Smaller u.choice s t g) same (smaller s t g);
       outer =
-          (λ j. part_of (TrialOf.Gives (sym same j)) (lists-one j) (lists-two j)) ∙ part ∙ ap (λ u. pairs (cover_by (chosen_of u.choice s t) g).outer) same;
+          (λ j. part_of {E = Refusal} (Ok (sym same j)) (lists-one j) (lists-two j)) ∙ part ∙ ap (λ u. pairs (cover_by (chosen_of u.choice s t) g).outer) same;
     }
 
 pub trials_calls : TrialsOfCalls
 trials_calls o l f s t first second one two part r k c =
-    subst (λ p. TrialCorrect o l f s t r p) (sym (c ∙ (λ i. part_of (TrialOf.Gives r) (k.first_left i) (k.second_left i)))) (trials_answers o l f s t first second r (sym k.answer))
+    subst (λ p. TrialCorrect o l f s t r p) (sym (c ∙ (λ i. part_of {E = Refusal} (Ok r) (k.first_left i) (k.second_left i)))) (trials_answers o l f s t first second r (sym k.answer))

@@ -7,10 +7,9 @@
 --   cover_into f before     the file that is covered, or its refusal, with 10 after all other checks
 --   cover_answer f before   the counts: both lists', seen, full, partial and swallowed
 --   cover_after f before    the list afterwards: the outer list at element 0, the inner list at element 2 × budget
---   cover_given r           what the call answered
 --   outer_in, inner_in       the two lists, read back from the lent list
 use Rattle.std.specs.Prelude.{ℕ, ◌*◌, List, drop, ℤ}
-use Rattle.answer.specs.Answer.{Answer, refused, gives, check, then, with_value, Depth}
+use Rattle.answer.specs.Answer.{Answer, check, then, with_value, Depth}
 use Rattle.answer.specs.Lent.{stored, room}
 use Rattle.vector.specs.declared.Vec3.{Vec3}
 use Rattle.vector.specs.Numbers.{is_depth}
@@ -25,7 +24,6 @@ use Rattle.ranges.specs.Ranges.{Range, ranges_in}
 use Rattle.covering.specs.declared.Counts.{Counts}
 use Rattle.covering.specs.Cover.{cover, counts_of, both_listed}
 use Rattle.htm_abi.specs.Values.{or_zero}
-use Rattle.htm.specs.declared.CoverOf.{CoverOf}
 
 -- ---- the lookup of a pointing that comes in another form: it is a point like any other
 
@@ -56,11 +54,6 @@ both_lists x before = both_listed (budget_of x.budget) (cover x) before
 
 unfoldable pub cover_after : List ℕ → List ℕ → List ℕ
 cover_after f before = stored both_lists (cover_into f before) before
-
--- what the call answered
-abbrev pub cover_given : CoverOf → Answer Counts
-cover_given (CoverOf.Gives c) = gives c
-cover_given (CoverOf.Refused n) = refused n
 
 -- ---- the two lists, read back from the lent list
 

@@ -5,14 +5,15 @@
 -- of the identifiers at the depth, each counted once (`Contains`, ranges/specs/Contents). `CountedOfCalls` says
 -- so of whatever values meet the contract of `htm::cover`; of the rules and of the answers: proofs/Counted.
 use Rattle.std.specs.Prelude.{ℕ, ◌+◌, ◌≡◌, List}
+use Rattle.std.specs.Prelude.{Ok}
+use Rattle.answer.specs.Calls.{answer_of}
 use Rattle.region.specs.Reader.{File, Accepted}
 use Rattle.mesh.specs.Identifiers.{identifiers_at}
 use Rattle.ranges.specs.Ranges.{Range}
 use Rattle.ranges.specs.Contents.{Contains}
 use Rattle.covering.specs.declared.Counts.{Counts}
 use Rattle.covering.specs.Cover.{Found, cutting}
-use Rattle.htm.specs.declared.CoverOf.{CoverOf}
-use Rattle.htm.specs.Answers.{cover_answer, cover_after, cover_given, outer_in}
+use Rattle.htm.specs.Answers.{cover_answer, cover_after, outer_in}
 
 -- of a depth, what a cutting found there, a list of ranges and the counts
 pub record Contents (d : ℕ) (found : Found) (outer : List Range) (c : Counts) : Type 0 where
@@ -26,5 +27,5 @@ ContentsOf x outer c = Contents x.depth (cutting x.depth x.region) outer c
 -- As above, by the contract of the call `htm::cover` (src/lib.rt), where it gave c and left `after` in the lent list.
 abbrev pub CountedOfCalls : Type 0
 CountedOfCalls =
-    (f before after : List ℕ) (c : Counts) → cover_given (CoverOf.Gives c) ≡ cover_answer f before → after ≡ cover_after f before
+    (f before after : List ℕ) (c : Counts) → answer_of (Ok c) ≡ cover_answer f before → after ≡ cover_after f before
     → (x : File) × Accepted f x × ContentsOf x (outer_in c after) c

@@ -8,6 +8,7 @@
 --   FramesOfCalls       of whatever values meet the call's contract, `FramesCall`
 -- Proved, of the rules and of the answers too: proofs/FramesKept.
 use Rattle.std.specs.Prelude.{ℕ, ◌≡◌, Bool, not, ◌&&◌, List, map, length, ℤ, pos}
+use Rattle.std.specs.Prelude.{Ok}
 use Rattle.algebra.specs.Lists.{tally}
 use Rattle.answer.specs.Answer.{gives}
 use Rattle.answer.specs.Lent.{put}
@@ -21,7 +22,6 @@ use Rattle.index.specs.Exposures.{only}
 use Rattle.index.specs.Entries.{is_owned, entries_in}
 use Rattle.index.specs.HistoryCorrect.{IsIndex}
 use Rattle.frames.specs.declared.Frames as declared
-use Rattle.frames.specs.declared.FramesOf.{FramesOf}
 use Rattle.frames.specs.Walk.{shortened}
 use Rattle.frames.specs.Answers.{FramesCall}
 use Rattle.htm.specs.Answers.{cover_answer, cover_after, outer_in, inner_in}
@@ -52,4 +52,4 @@ pub record Delivered (o : ℕ) (l : List ℤ) (f ranges numbers : List ℕ) (r :
 abbrev pub FramesOfCalls : Type 0
 FramesOfCalls =
     (o : ℕ) (l : List ℤ) (f ranges numbers lists left : List ℕ) (r : declared.Frames) → IsIndex l
-    → FramesCall o l f ranges numbers (FramesOf.Gives r) lists left → Delivered o l f ranges numbers r lists left
+    → FramesCall o l f ranges numbers (Ok r) lists left → Delivered o l f ranges numbers r lists left

@@ -7,22 +7,21 @@
 -- It holds of the rules (`rules`), of what the calls answer and of the lists in the lent list afterwards (`answers`), and of whatever values meet the contracts of
 -- `htm::locate`, `htm::holds` and `htm::cover` (`calls`, by `CallsSound`). Proved: `demand_three` proofs/AnswersKept.
 use Rattle.std.specs.Prelude.{ℕ, ◌*◌, ◌≤◌, ◌≡◌, Bool, true, List, length}
-use Rattle.answer.specs.declared.Number.{Number}
+use Rattle.std.specs.Prelude.{Result, Ok}
+use Rattle.answer.specs.declared.Refusal.{Refusal}
 use Rattle.answer.specs.Answer.{gives}
-use Rattle.answer.specs.Calls.{number_of}
+use Rattle.answer.specs.Calls.{answer_of}
 use Rattle.vector.specs.declared.Vec3.{Vec3}
 use Rattle.vector.specs.Vectors.{is_vector}
 use Rattle.mesh.specs.Lookup.{lookup}
 use Rattle.region.specs.Regions.{holds}
 use Rattle.region.specs.Budgets.{budget_of}
 use Rattle.region.specs.Reader.{File, Accepted}
-use Rattle.region.specs.declared.HeldOf.{HeldOf}
-use Rattle.region.specs.Answers.{point_test, held_given}
+use Rattle.region.specs.Answers.{point_test}
 use Rattle.ranges.specs.Ranges.{Range, in_some, times_in, Proper}
 use Rattle.covering.specs.Cover.{cover}
 use Rattle.covering.specs.declared.Counts.{Counts}
-use Rattle.htm.specs.declared.CoverOf.{CoverOf}
-use Rattle.htm.specs.Answers.{cover_answer, cover_after, cover_given, outer_in, inner_in}
+use Rattle.htm.specs.Answers.{cover_answer, cover_after, outer_in, inner_in}
 
 -- of an identifier i, two lists, the budget that is counted with, and whether the region holds the point
 pub record CoverSound (i : ℕ) (outer inner : List Range) (budget : ℕ) (held : Bool) : Type 0 where
@@ -36,13 +35,13 @@ abbrev pub ListsSound : ℕ → Counts → List ℕ → ℕ → Bool → Type 0
 ListsSound i c after budget held = CoverSound i (outer_in c after) (inner_in budget c after) budget held
 
 -- of what three calls gave: an identifier, whether the region holds the point, and the counts of a cover that left `after` in the lent list
-pub record CallsSound (found : Number) (held : HeldOf) (covered : CoverOf) (after : List ℕ) (budget : ℕ) : Type 0 where
+pub record CallsSound (found : Result ℕ Refusal) (held : Result Bool Refusal) (covered : Result Counts Refusal) (after : List ℕ) (budget : ℕ) : Type 0 where
   pub i : ℕ
   pub h : Bool
   pub c : Counts
-  pub locates : found ≡ Number.Gives i
-  pub tests : held ≡ HeldOf.Gives h
-  pub covers : covered ≡ CoverOf.Gives c
+  pub locates : found ≡ Ok i
+  pub tests : held ≡ Ok h
+  pub covers : covered ≡ Ok c
   pub lists : ListsSound i c after budget h
 
 pub record Demand3 (p : Vec3) (f before : List ℕ) (x : File) : Type 0 where
@@ -53,8 +52,8 @@ pub record Demand3 (p : Vec3) (f before : List ℕ) (x : File) : Type 0 where
   pub cover_gives : cover_answer f before ≡ gives c
   pub rules : CoverSound i (cover x).outer (cover x).inner (budget_of x.budget) (holds x.region p)
   pub answers : ListsSound i c (cover_after f before) (budget_of x.budget) (holds x.region p)
-  pub calls : (found : Number) (held : HeldOf) (covered : CoverOf) (after : List ℕ)
-      → number_of found ≡ lookup p x.depth → held_given held ≡ point_test f p → cover_given covered ≡ cover_answer f before → after ≡ cover_after f before
+  pub calls : (found : Result ℕ Refusal) (held : Result Bool Refusal) (covered : Result Counts Refusal) (after : List ℕ)
+      → answer_of found ≡ lookup p x.depth → answer_of held ≡ point_test f p → answer_of covered ≡ cover_answer f before → after ≡ cover_after f before
       → CallsSound found held covered after (budget_of x.budget)
 
 abbrev pub DemandThree : Type 0

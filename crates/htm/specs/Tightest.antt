@@ -7,6 +7,8 @@
 -- The rule's 'earliest among equals' plays no part: it chooses between gaps of one size, so between lists that contain equally many identifiers.
 -- `TightestOfCalls` says so of whatever values meet the contract of `htm::cover`; of the rules and of the answers: proofs/TightestKept.
 use Rattle.std.specs.Prelude.{ℕ, ◌≤◌, ◌≡◌, true, false, List, []}
+use Rattle.std.specs.Prelude.{Ok}
+use Rattle.answer.specs.Calls.{answer_of}
 use Rattle.mesh.specs.Identifiers.{identifier_at, identifiers_at}
 use Rattle.region.specs.Budgets.{budget_of}
 use Rattle.region.specs.Reader.{File, Accepted}
@@ -14,8 +16,7 @@ use Rattle.ranges.specs.Ranges.{Range, in_some}
 use Rattle.ranges.specs.Contents.{different, Feasible}
 use Rattle.covering.specs.Cover.{cutting}
 use Rattle.covering.specs.declared.Counts.{Counts}
-use Rattle.htm.specs.declared.CoverOf.{CoverOf}
-use Rattle.htm.specs.Answers.{cover_answer, cover_after, cover_given, outer_in}
+use Rattle.htm.specs.Answers.{cover_answer, cover_after, outer_in}
 
 -- of a depth, the budget that is counted with, the accepted ranges and a list
 pub record TightestFor (d budget : ℕ) (accepted outer : List Range) : Type 0 where
@@ -29,5 +30,5 @@ TightestOf x outer = TightestFor x.depth (budget_of x.budget) (cutting x.depth x
 
 abbrev pub TightestOfCalls : Type 0
 TightestOfCalls =
-    (f before after : List ℕ) (c : Counts) → cover_given (CoverOf.Gives c) ≡ cover_answer f before → after ≡ cover_after f before
+    (f before after : List ℕ) (c : Counts) → answer_of (Ok c) ≡ cover_answer f before → after ≡ cover_after f before
     → (x : File) × Accepted f x × TightestOf x (outer_in c after)

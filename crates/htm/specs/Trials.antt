@@ -8,6 +8,8 @@
 --   TrialsOfCalls      of whatever values meet the contracts of both calls
 -- Proved, of the rules and of the answers too: proofs/TrialsKept.
 use Rattle.std.specs.Prelude.{ℕ, ◌+◌, ◌≤◌, ◌≡◌, List, ℤ}
+use Rattle.std.specs.Prelude.{Ok}
+use Rattle.answer.specs.declared.Refusal.{Refusal}
 use Rattle.algebra.specs.Lists.{tally}
 use Rattle.region.specs.Regions.{Region, holds}
 use Rattle.region.specs.Reader.{File, Accepted}
@@ -17,7 +19,6 @@ use Rattle.trial.specs.declared.Setting.{Setting}
 use Rattle.trial.specs.declared.Choice.{Choice}
 use Rattle.trial.specs.declared.Choice.TheVariants.{First}
 use Rattle.trial.specs.declared.Trial.{Trial}
-use Rattle.trial.specs.declared.TrialOf.{TrialOf}
 use Rattle.trial.specs.Trials.{cover_by, sky_of}
 use Rattle.trial.specs.Answers.{TrialCall, part_of, of_choice}
 use Rattle.htm.specs.Frames.{entries_by}
@@ -52,4 +53,4 @@ pub record TrialCorrect (o : ℕ) (l : List ℤ) (f : List ℕ) (s t : Setting) 
 abbrev pub TrialsOfCalls : Type 0
 TrialsOfCalls =
     (o : ℕ) (l : List ℤ) (f : List ℕ) (s t : Setting) (first second one two part : List ℕ) (r : Trial)
-    → TrialCall o l f s t first second (TrialOf.Gives r) one two → part ≡ part_of (TrialOf.Gives r) one two → TrialCorrect o l f s t r part
+    → TrialCall o l f s t first second (Ok r) one two → part ≡ part_of {E = Refusal} (Ok r) one two → TrialCorrect o l f s t r part

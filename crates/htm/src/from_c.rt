@@ -13,14 +13,11 @@ ghost use Rattle.htm_abi.specs.Values.{or_zero, number_for_c, held_for_c, status
 ghost use Rattle.htm.specs.Answers.{lookup_report, locate_line, lookup_for_c};
 ghost use Rattle.htm.specs.CalledFromC.{corners_for_c, corners_after_c, read_for_c, rows_after_c, header_after_c, contents_for_c, contents_after_c, cover_for_c, cover_after_c, counts_after_c};
 
-use crate::CoverOf;
-use answer::SPACE;
+use answer::Refusal;
 use covering::COVER_COUNTS;
 use htm_abi::{CONTENTS_LENGTH, CORNERS_LENGTH, HEADER_LENGTH};
 use limits::HALFSPACES;
-use mesh::CornersOf;
 use mount::{Double, Report, Single};
-use region::{HeaderOf, HeldOf};
 
 // The lookup: the identifier, or 0 for a refusal.
 #[unsafe(no_mangle)]
@@ -43,10 +40,7 @@ pub extern "C" fn htm_lookup(x: i32, y: i32, z: i32, depth: u32) -> i64
 pub extern "C" fn htm_lookup_f32(x: f32, y: f32, z: f32, depth: u32) -> i64
     ensures { result ≡ number_for_c (lookup_report (single_report x y z) depth) }
 {
-    htm_abi::number_or_minus(crate::locate_report(
-        Report::Single(Single { x: x, y: y, z: z }),
-        depth,
-    ))
+    htm_abi::number_or_minus(crate::locate_report(Report::Single(Single { x, y, z }), depth))
 }
 
 // As above, in double precision.
@@ -54,10 +48,7 @@ pub extern "C" fn htm_lookup_f32(x: f32, y: f32, z: f32, depth: u32) -> i64
 pub extern "C" fn htm_lookup_f64(x: f64, y: f64, z: f64, depth: u32) -> i64
     ensures { result ≡ number_for_c (lookup_report (double_report x y z) depth) }
 {
-    htm_abi::number_or_minus(crate::locate_report(
-        Report::Double(Double { x: x, y: y, z: z }),
-        depth,
-    ))
+    htm_abi::number_or_minus(crate::locate_report(Report::Double(Double { x, y, z }), depth))
 }
 
 // The lookup of a catalogue line: the identifier, or minus the number of the refusal.
@@ -92,16 +83,15 @@ pub extern "C" fn htm_corners(id: u64, out: &mut [i32]) -> i64
     ensures value { result ≡ status_of (corners_for_c id out.old) }
     ensures out_after { out.new ≡ corners_after_c id out.old }
 {
-    let answer = crate::corners(id);
-    match answer {
-        CornersOf::Gives(c) => {
+    match crate::corners(id) {
+        Ok(c) => {
             if out.len() < CORNERS_LENGTH {
-                return htm_abi::minus(SPACE);
+                return htm_abi::minus(Refusal::Space.number());
             }
             htm_abi::put_corners(out, c);
             0
         }
-        CornersOf::Refused(n) => htm_abi::minus(n),
+        Err(r) => htm_abi::minus(r.number()),
     }
 }
 
@@ -146,10 +136,9 @@ pub extern "C" fn htm_to_plain(file: &[u8], out: &mut [u8]) -> i64
 pub extern "C" fn htm_holds(file: &[u8], x: i32, y: i32, z: i32) -> i64
     ensures { result ≡ held_for_c (point_test file.now (vec x y z)) }
 {
-    let answer = crate::holds(file, x, y, z);
-    match answer {
-        HeldOf::Gives(held) => { if held { 1 } else { 0 } }
-        HeldOf::Refused(n) => htm_abi::minus(n),
+    match crate::holds(file, x, y, z) {
+        Ok(held) => i64::from(held),
+        Err(refusal) => htm_abi::minus(refusal.number()),
     }
 }
 
@@ -162,15 +151,14 @@ pub extern "C" fn htm_read(file: &[u8], rows: &mut [i32], header: &mut [u64]) ->
     ensures header_after { header.new ≡ header_after_c file.now rows.old header.old }
 {
     if header.len() < HEADER_LENGTH {
-        return htm_abi::file_refusal_or_space(file);
+        return htm_abi::minus(htm_abi::file_refusal_or_space(file).number());
     }
-    let answer = crate::read(file, rows);
-    match answer {
-        HeaderOf::Gives(h) => {
+    match crate::read(file, rows) {
+        Ok(h) => {
             htm_abi::put_header(header, h);
             0
         }
-        HeaderOf::Refused(n) => htm_abi::minus(n),
+        Err(r) => htm_abi::minus(r.number()),
     }
 }
 
@@ -182,17 +170,16 @@ pub extern "C" fn htm_header(file: &[u8], header: &mut [u64]) -> i64
     ensures header_after { header.new ≡ contents_after_c file.now header.old }
 {
     let mut rows = [0i32; 5 * HALFSPACES];
-    let said = region_reader::decode(file, &mut rows);
-    match said {
-        HeaderOf::Gives(h) => {
+    match region_reader::decode(file, &mut rows) {
+        Ok(h) => {
             if header.len() < CONTENTS_LENGTH {
-                return htm_abi::minus(SPACE);
+                return htm_abi::minus(Refusal::Space.number());
             }
             let convexes = region_reader::convexes_in(&rows, h.count as usize);
             htm_abi::put_contents(header, h, convexes);
             0
         }
-        HeaderOf::Refused(n) => htm_abi::minus(n),
+        Err(r) => htm_abi::minus(r.number()),
     }
 }
 
@@ -204,14 +191,13 @@ pub extern "C" fn htm_cover(file: &[u8], out: &mut [u64], counts: &mut [u64]) ->
     ensures counts_after { counts.new ≡ counts_after_c file.now out.old counts.old }
 {
     if counts.len() < COVER_COUNTS {
-        return htm_abi::file_refusal_or_space(file);
+        return htm_abi::minus(htm_abi::file_refusal_or_space(file).number());
     }
-    let answer = crate::cover(file, out);
-    match answer {
-        CoverOf::Gives(c) => {
+    match crate::cover(file, out) {
+        Ok(c) => {
             htm_abi::put_counts(counts, c);
             0
         }
-        CoverOf::Refused(n) => htm_abi::minus(n),
+        Err(r) => htm_abi::minus(r.number()),
     }
 }

@@ -6,9 +6,9 @@ ghost use Rattle.index.specs.Answers.{begin_answer, begin_after, add_answer, add
 ghost use Rattle.htm_abi.specs.Values.{number_for_c, status_of, found_for_c};
 ghost use Rattle.htm.specs.CalledFromC.{entry_for_c, entry_after_c, FramesCallC};
 
-use answer::SPACE;
-use frames::{FRAME_COUNTS, FramesOf};
-use index::{EntryOf, WIDTH};
+use answer::Refusal;
+use frames::FRAME_COUNTS;
+use index::WIDTH;
 
 // Makes a list an empty index: 0, or minus the number of the refusal.
 #[unsafe(no_mangle)]
@@ -52,17 +52,16 @@ pub extern "C" fn htm_index_entry(index: &[i64], place: u32, out: &mut [i64]) ->
     ensures value { result ≡ found_for_c (entry_for_c place index.now out.old) }
     ensures out_after { out.new ≡ entry_after_c place index.now out.old }
 {
-    let answer = crate::index_entry(index, place);
-    match answer {
-        EntryOf::Gives(e) => {
+    match crate::index_entry(index, place) {
+        Ok(Some(e)) => {
             if out.len() < WIDTH {
-                return htm_abi::minus(SPACE);
+                return htm_abi::minus(Refusal::Space.number());
             }
             index_entries::store_entry(out, 0, e);
             1
         }
-        EntryOf::Nothing => 0,
-        EntryOf::Refused(n) => htm_abi::minus(n),
+        Ok(None) => 0,
+        Err(r) => htm_abi::minus(r.number()),
     }
 }
 
@@ -81,14 +80,13 @@ pub extern "C" fn htm_frames(
         result ranges.new numbers.new counts.new }
 {
     if counts.len() < FRAME_COUNTS {
-        return htm_abi::owner_refusal_or_space(owner, file);
+        return htm_abi::minus(htm_abi::owner_refusal_or_space(owner, file).number());
     }
-    let answer = crate::frames(index, owner, file, ranges, numbers);
-    match answer {
-        FramesOf::Gives(r) => {
+    match crate::frames(index, owner, file, ranges, numbers) {
+        Ok(r) => {
             htm_abi::put_frames(counts, r);
             0
         }
-        FramesOf::Refused(n) => htm_abi::minus(n),
+        Err(r) => htm_abi::minus(r.number()),
     }
 }

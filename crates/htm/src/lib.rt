@@ -4,122 +4,111 @@
 #![tactic(auto)]
 
 ghost use Rattle.std.specs.Prelude.{◌≡◌};
-ghost use Rattle.answer.specs.Calls.{number_of};
+ghost use Rattle.answer.specs.Calls.{answer_of};
 ghost use Rattle.vector.specs.Vectors.{vec};
-ghost use Rattle.vector.specs.Answers.{vector_given};
 ghost use Rattle.mesh.specs.Lookup as mesh_lookup;
 ghost use Rattle.mesh.specs.Names.{identifier_of};
 ghost use Rattle.mesh.specs.Identifiers as identifiers;
-ghost use Rattle.mesh.specs.Answers.{corners_given, name_answer, name_after};
+ghost use Rattle.mesh.specs.Answers.{name_answer, name_after};
 ghost use Rattle.region.specs.Writer.{write_grouped};
 ghost use Rattle.region.specs.Converting.{to_grouped, to_plain};
-ghost use Rattle.region.specs.Answers.{header_given, read_answer, read_after, file_answer, file_after, write_answer, write_after, held_given, point_test};
+ghost use Rattle.region.specs.Answers.{read_answer, read_after, file_answer, file_after, write_answer, write_after, point_test};
 ghost use Rattle.index.specs.Exposures.{key, exposure};
 ghost use Rattle.index.specs.Answers.{begin_answer, begin_after, add_answer, add_after, remove_answer, remove_after, count_answer, entry_answer};
-ghost use Rattle.index.specs.Answers.{change_given, entry_given};
+ghost use Rattle.index.specs.Answers.{entry_given};
 ghost use Rattle.frames.specs.Answers.{FramesCall};
 ghost use Rattle.trial.specs.Answers.{TrialCall, IsPart};
 ghost use Rattle.htm.specs.Answers as answers;
-ghost use Rattle.htm.specs.Answers.{lookup_report, locate_line, cover_given, cover_answer, cover_after};
+ghost use Rattle.htm.specs.Answers.{lookup_report, locate_line, cover_answer, cover_after};
 
-use answer::{DEPTH, Number, SPACE};
+use answer::Refusal;
 use covering::Counts;
-use frames::FramesOf;
-use index::{Change, EntryOf};
+use frames::Frames;
+use index::Entry;
 use limits::HALFSPACES;
-use mesh::CornersOf;
+use mesh::Corners;
 use mount::Report;
-use region::{HeaderOf, HeldOf, Style};
-use trial::{Setting, TrialOf};
-use vector::VectorOf;
+use region::{Header, Style};
+use trial::{Setting, Trial};
+use vector::Vec3;
 
 pub mod from_c;
 pub mod index_from_c;
 pub mod trial_from_c;
 
-// The six counts, or the number of the first check that failed.
-#[derive(Clone, Copy)]
-pub enum CoverOf {
-    Gives(Counts),
-    Refused(u32),
-}
-
 // The identifier of the trixel of a depth from 1 to 12 in which a pointing lies; refusals 5, 8.
-pub fn locate(x: i32, y: i32, z: i32, depth: u32) -> Number
-    ensures { number_of result ≡ mesh_lookup.lookup (vec x y z) depth }
+pub fn locate(x: i32, y: i32, z: i32, depth: u32) -> Result<u64, Refusal>
+    ensures { answer_of result ≡ mesh_lookup.lookup (vec x y z) depth }
 {
     mesh_lookup::lookup(htm_abi::pointing(x, y, z), depth)
 }
 
 // As above, for a mount's report, three floats of single or double precision; refusals 5, 12, 8.
-pub fn locate_report(report: Report, depth: u32) -> Number
-    ensures { number_of result ≡ lookup_report report depth }
+pub fn locate_report(report: Report, depth: u32) -> Result<u64, Refusal>
+    ensures { answer_of result ≡ lookup_report report depth }
 {
     located(mount::pointing(report), depth)
 }
 
 // As above, for a catalogue line, its line feed included; refusals 5, 13, 8.
-pub fn locate_line(line: &[u8], depth: u32) -> Number
-    ensures { number_of result ≡ locate_line line.now depth }
+pub fn locate_line(line: &[u8], depth: u32) -> Result<u64, Refusal>
+    ensures { answer_of result ≡ locate_line line.now depth }
 {
     located(catalogue_line::pointing_in(line), depth)
 }
 
 // The lookup of a pointing that comes in another form; refusals 5, then its own, then 8.
-fn located(said: VectorOf, depth: u32) -> Number
-    ensures { number_of result ≡ answers.located (vector_given said) depth }
+fn located(said: Result<Vec3, Refusal>, depth: u32) -> Result<u64, Refusal>
+    ensures { answer_of result ≡ answers.located (answer_of said) depth }
 {
     if !limits::is_depth(depth) {
-        return Number::Refused(DEPTH);
+        return Err(Refusal::Depth);
     }
-    match said {
-        VectorOf::Gives(p) => mesh_lookup::lookup(p, depth),
-        VectorOf::Refused(n) => Number::Refused(n),
-    }
+    mesh_lookup::lookup(said?, depth)
 }
 
 // The name of an identifier, written at the beginning of `out`, and its length; refusals 11, then 10.
-pub fn name(id: u64, out: &mut [u8]) -> Number
-    ensures result_value { number_of result ≡ name_answer id out.old }
+pub fn name(id: u64, out: &mut [u8]) -> Result<u64, Refusal>
+    ensures result_value { answer_of result ≡ name_answer id out.old }
     ensures out_after { out.new ≡ name_after id out.old }
 {
     mesh_names::name_of(id, out)
 }
 
 // The identifier of a name; refusal 11.
-pub fn identifier(name: &[u8]) -> Number
-    ensures { number_of result ≡ identifier_of name.now }
+pub fn identifier(name: &[u8]) -> Result<u64, Refusal>
+    ensures { answer_of result ≡ identifier_of name.now }
 {
     mesh_names::id_of(name)
 }
 
 // The corners of the trixel of an identifier to depth 12; refusal 11.
-pub fn corners(id: u64) -> CornersOf
-    ensures { corners_given result ≡ identifiers.corners id }
+pub fn corners(id: u64) -> Result<Corners, Refusal>
+    ensures { answer_of result ≡ identifiers.corners id }
 {
     mesh_trixels::corners_of(id)
 }
 
 // The rows of a region file, written at the beginning of `rows`, with their count and the file's depth and budget as written; or the refusal of the
 // file's first failed check, 10 last.
-pub fn read(file: &[u8], rows: &mut [i32]) -> HeaderOf
-    ensures result_value { header_given result ≡ read_answer file.now rows.old }
+pub fn read(file: &[u8], rows: &mut [i32]) -> Result<Header, Refusal>
+    ensures result_value { answer_of result ≡ read_answer file.now rows.old }
     ensures rows_after { rows.new ≡ read_after file.now rows.old }
 {
     region_reader::read(file, rows)
 }
 
 // The region file of some rows, written at the beginning of `out`, and its length; refusals 5, 6, then 4, 7, 8, 9 row by row, then 10.
-pub fn write(depth: u32, budget: u32, rows: &[i32], out: &mut [u8]) -> Number
-    ensures result_value { number_of result ≡ write_answer depth budget rows.now out.old }
+pub fn write(depth: u32, budget: u32, rows: &[i32], out: &mut [u8]) -> Result<u64, Refusal>
+    ensures result_value { answer_of result ≡ write_answer depth budget rows.now out.old }
     ensures out_after { out.new ≡ write_after depth budget rows.now out.old }
 {
     region_writer::write(Style::Plain, depth, budget, rows, out)
 }
 
 // The grouped region file of some rows, written at the beginning of `out`, and its length; the refusals of `write`.
-pub fn write_grouped(depth: u32, budget: u32, rows: &[i32], out: &mut [u8]) -> Number
-    ensures result_value { number_of result ≡ file_answer (write_grouped depth budget rows.now) out.old }
+pub fn write_grouped(depth: u32, budget: u32, rows: &[i32], out: &mut [u8]) -> Result<u64, Refusal>
+    ensures result_value { answer_of result ≡ file_answer (write_grouped depth budget rows.now) out.old }
     ensures out_after { out.new ≡ file_after (write_grouped depth budget rows.now) out.old }
 {
     region_writer::write(Style::Grouped, depth, budget, rows, out)
@@ -127,81 +116,83 @@ pub fn write_grouped(depth: u32, budget: u32, rows: &[i32], out: &mut [u8]) -> N
 
 // The grouped form of a region file, written at the beginning of `out`, and its length: a grouped file itself, a plain one written anew with its depth and
 // budget as written; the file's refusals, then 10.
-pub fn to_grouped(file: &[u8], out: &mut [u8]) -> Number
-    ensures result_value { number_of result ≡ file_answer (to_grouped file.now) out.old }
+pub fn to_grouped(file: &[u8], out: &mut [u8]) -> Result<u64, Refusal>
+    ensures result_value { answer_of result ≡ file_answer (to_grouped file.now) out.old }
     ensures out_after { out.new ≡ file_after (to_grouped file.now) out.old }
 {
     region_convert::convert(Style::Grouped, file, out)
 }
 
 // As above, with the plain form.
-pub fn to_plain(file: &[u8], out: &mut [u8]) -> Number
-    ensures result_value { number_of result ≡ file_answer (to_plain file.now) out.old }
+pub fn to_plain(file: &[u8], out: &mut [u8]) -> Result<u64, Refusal>
+    ensures result_value { answer_of result ≡ file_answer (to_plain file.now) out.old }
     ensures out_after { out.new ≡ file_after (to_plain file.now) out.old }
 {
     region_convert::convert(Style::Plain, file, out)
 }
 
 // The point test: whether the region of a file holds a pointing; the file's refusals, then 8.
-pub fn holds(file: &[u8], x: i32, y: i32, z: i32) -> HeldOf
-    ensures { held_given result ≡ point_test file.now (vec x y z) }
+pub fn holds(file: &[u8], x: i32, y: i32, z: i32) -> Result<bool, Refusal>
+    ensures { answer_of result ≡ point_test file.now (vec x y z) }
 {
     region_points::point_test(file, htm_abi::pointing(x, y, z))
 }
 
 // The cover of a region file: the outer list from element 0 of `out`, the inner list from element 2 × budget, pairs low and high; both counts,
 // seen, full, partial and swallowed. The file's refusals, then 10 where `out` has fewer than 4 × budget elements.
-pub fn cover(file: &[u8], out: &mut [u64]) -> CoverOf
-    ensures result_value { cover_given result ≡ cover_answer file.now out.old }
+pub fn cover(file: &[u8], out: &mut [u64]) -> Result<Counts, Refusal>
+    ensures result_value { answer_of result ≡ cover_answer file.now out.old }
     ensures out_after { out.new ≡ cover_after file.now out.old }
 {
     let mut rows = [0i32; 5 * HALFSPACES];
-    let said = region_reader::decode(file, &mut rows);
-    match said {
-        HeaderOf::Gives(h) => {
-            let budget = limits::budget_of(h.budget);
-            if out.len() < 4 * budget {
-                return CoverOf::Refused(SPACE);
-            }
-            CoverOf::Gives(covering_calls::cover(h.depth, &rows, h.count as usize, budget, out))
-        }
-        HeaderOf::Refused(n) => CoverOf::Refused(n),
+    let h = region_reader::decode(file, &mut rows)?;
+    let budget = limits::budget_of(h.budget);
+    if out.len() < 4 * budget {
+        return Err(Refusal::Space);
     }
+    Ok(covering_calls::cover(h.depth, &rows, h.count as usize, budget, out))
 }
 
 // Makes a list an empty index of exposures; refusal 10 where it has fewer than index::INDEX_LENGTH elements, as in the four calls below.
-pub fn index_begin(index: &mut [i64]) -> Change
-    ensures result_value { change_given result ≡ begin_answer index.old }
+pub fn index_begin(index: &mut [i64]) -> Result<(), Refusal>
+    ensures result_value { answer_of result ≡ begin_answer index.old }
     ensures index_after { index.new ≡ begin_after index.old }
 {
     index_calls::begin(index)
 }
 
 // Adds an exposure of an owner, 0 or 1, to an index, by its number and its pointing; refusals 18, 8, 10, 15, 16.
-pub fn add(index: &mut [i64], owner: u32, number: u32, x: i32, y: i32, z: i32) -> Change
-    ensures result_value { change_given result ≡ add_answer (exposure owner number x y z) index.old }
+pub fn add(
+    index: &mut [i64],
+    owner: u32,
+    number: u32,
+    x: i32,
+    y: i32,
+    z: i32,
+) -> Result<(), Refusal>
+    ensures result_value { answer_of result ≡ add_answer (exposure owner number x y z) index.old }
     ensures index_after { index.new ≡ add_after (exposure owner number x y z) index.old }
 {
     index_calls::add(index, owner, number, htm_abi::pointing(x, y, z))
 }
 
 // Removes an exposure of an owner, by its number; refusals 18, 10, 17.
-pub fn remove(index: &mut [i64], owner: u32, number: u32) -> Change
-    ensures result_value { change_given result ≡ remove_answer (key owner number) index.old }
+pub fn remove(index: &mut [i64], owner: u32, number: u32) -> Result<(), Refusal>
+    ensures result_value { answer_of result ≡ remove_answer (key owner number) index.old }
     ensures index_after { index.new ≡ remove_after (key owner number) index.old }
 {
     index_calls::remove(index, owner, number)
 }
 
 // How many entries an index has, of both owners; refusal 10.
-pub fn index_count(index: &[i64]) -> Number
-    ensures { number_of result ≡ count_answer index.now }
+pub fn index_count(index: &[i64]) -> Result<u64, Refusal>
+    ensures { answer_of result ≡ count_answer index.now }
 {
     index_calls::count(index)
 }
 
 // The entry at a place, counted from 0, or that there is none; refusal 10.
-pub fn index_entry(index: &[i64], place: u32) -> EntryOf
+pub fn index_entry(index: &[i64], place: u32) -> Result<Option<Entry>, Refusal>
     ensures { entry_given result ≡ entry_answer place index.now }
 {
     index_calls::entry(index, place)
@@ -216,7 +207,7 @@ pub fn frames(
     file: &[u8],
     ranges: &mut [u64],
     numbers: &mut [u32],
-) -> FramesOf
+) -> Result<Frames, Refusal>
     ensures { FramesCall owner index.now file.now ranges.old numbers.old
         result ranges.new numbers.new }
 {
@@ -234,7 +225,7 @@ pub fn trial(
     t: Setting,
     first: &mut [u64],
     second: &mut [u64],
-) -> TrialOf
+) -> Result<Trial, Refusal>
     ensures { TrialCall owner index.now file.now s t first.old second.old
         result first.new second.new }
 {
@@ -243,7 +234,7 @@ pub fn trial(
 
 // The outer list that a trial chose, in its buffer: a part of one of the two, itself and not a copy. The empty part after a refused trial, or where the chosen
 // buffer is shorter than the result's outer list. Any result may be handed in.
-pub fn chosen<'a>(res: TrialOf, first: &'a [u64], second: &'a [u64]) -> &'a [u64]
+pub fn chosen<'a, E: Drop>(res: Result<Trial, E>, first: &'a [u64], second: &'a [u64]) -> &'a [u64]
     ensures { IsPart res first.entry second.entry result }
 {
     trial_calls::chosen(res, first, second)

@@ -5,8 +5,8 @@ ghost use Rattle.htm_abi.specs.Values.{status_of};
 ghost use Rattle.htm_abi.specs.TrialValues.{setting_of};
 ghost use Rattle.htm.specs.TrialFromC.{TrialCallC, chosen_for_c, chosen_after_c};
 
-use answer::SPACE;
-use trial::{Setting, TRIAL_COUNTS, TrialOf};
+use answer::Refusal;
+use trial::{Setting, TRIAL_COUNTS};
 
 // How many numbers give a part: which buffer, and how many elements of it.
 const PART_LENGTH: usize = 2;
@@ -38,15 +38,15 @@ pub extern "C" fn htm_trial(
         budget: budget_2,
     };
     if numbers.len() < TRIAL_COUNTS {
-        return htm_abi::minus(htm_abi::trials::trial_refusal_or_space(owner, file, s, t));
+        let refusal = htm_abi::trials::trial_refusal_or_space(owner, file, s, t);
+        return htm_abi::minus(refusal.number());
     }
-    let answer = crate::trial(index, owner, file, s, t, first, second);
-    match answer {
-        TrialOf::Gives(r) => {
+    match crate::trial(index, owner, file, s, t, first, second) {
+        Ok(r) => {
             htm_abi::trials::put_trial(numbers, r);
             0
         }
-        TrialOf::Refused(n) => htm_abi::minus(n),
+        Err(r) => htm_abi::minus(r.number()),
     }
 }
 
@@ -65,10 +65,10 @@ pub extern "C" fn htm_chosen<'a>(
         ≡ chosen_after_c status numbers.now first.now second.now part.old }
 {
     if numbers.len() < TRIAL_COUNTS {
-        return htm_abi::minus(SPACE);
+        return htm_abi::minus(Refusal::Space.number());
     }
     if part.len() < PART_LENGTH {
-        return htm_abi::minus(SPACE);
+        return htm_abi::minus(Refusal::Space.number());
     }
     if status != 0 {
         htm_abi::trials::put_part(part, 0, 0);
@@ -76,7 +76,6 @@ pub extern "C" fn htm_chosen<'a>(
     }
     let t = htm_abi::trials::trial_at(numbers);
     let n = htm_abi::trials::part_length(t, first, second);
-    let choice = t.choice;
-    htm_abi::trials::put_part(part, htm_abi::trials::choice_number(choice), n);
+    htm_abi::trials::put_part(part, htm_abi::trials::choice_number(t.choice), n);
     0
 }

@@ -1,27 +1,19 @@
--- The refusal of a file for which a lent list is too short: its own or 10, by what its header's reader answers, and with an owner that owner's first.
--- Assumes nothing.
-use Prim.Native.Nat.{ℕ}
-use mathlib.Core.Path.{◌≡◌, refl, sym, ap, ◌∙◌}
-use mathlib.Core.Bool.{true, false}
+-- The refusal of a file for which a lent list is too short: its own or 10, by what the decoder answers. Assumes nothing.
+use mathlib.Core.Path.{◌≡◌, sym, ap, ◌∙◌}
 use mathlib.Core.List.{List}
-use Rattle.answer.specs.Answer.{Answer, refused, gives, check, then, with_value, Space, Owner}
+use Rattle.std.specs.Prelude.{Result, Ok, Err}
+use Rattle.answer.specs.declared.Refusal.{Refusal}
+use Rattle.answer.specs.Calls.{number, answer_of}
+use Rattle.answer.specs.Answer.{Answer, refused, then, with_value}
+use Rattle.answer.proofs.AnswerLaws.{value_gives, value_refused}
 use Rattle.region.specs.declared.Header.{Header}
 use Rattle.region.specs.Reader.{File, read}
 use Rattle.region.specs.Answers.{header_of}
-use Rattle.index.specs.Exposures.{is_owner}
-use Rattle.htm_abi.specs.ShortLists.{file_refusal_or_space}
-use Rattle.htm_abi.specs.Values.{status_of}
 
-pub own_or_space : (f : List ℕ) (a : Answer Header) → a ≡ with_value header_of (read f) → status_of {A = File} (then a (λ h. refused Space)) ≡ status_of (file_refusal_or_space f)
-own_or_space f a e = ap (λ a. status_of {A = File} (then a (λ h. refused Space))) e ∙ whichever (read f)
-  where
-    whichever : (a : Answer File) → status_of {A = File} (then (with_value header_of a) (λ h. refused Space)) ≡ status_of {A = File} (then a (λ x. refused Space))
-    whichever (refused n) = refl
-    whichever (gives x) = refl
+-- what the decoder said, and what follows it where the file is accepted
+module _ (f : List _) (a : Answer File) {r : Result Header Refusal} (e : answer_of r ≡ with_value header_of (read f)) where
+  pub accepted : (h : Header) → r ≡ Ok h → then (read f) (λ x. a) ≡ a
+  accepted h k = let v = value_gives header_of (read f) h (sym e ∙ ap answer_of k) in ap (λ y. then y (λ x. a)) v.1
 
--- the owner's refusal, the file's own, or 10
-pub no_owner_c : (o : ℕ) (f : List ℕ) → is_owner o ≡ false → status_of {A = File} (refused Owner) ≡ status_of (check Owner (is_owner o) (file_refusal_or_space f))
-no_owner_c o f e = sym (ap (λ t. status_of (check Owner t (file_refusal_or_space f))) e)
-
-pub of_owner_c : (o : ℕ) (f : List ℕ) → is_owner o ≡ true → status_of (file_refusal_or_space f) ≡ status_of (check Owner (is_owner o) (file_refusal_or_space f))
-of_owner_c o f e = sym (ap (λ t. status_of (check Owner t (file_refusal_or_space f))) e)
+  pub file_refused : (n : Refusal) → r ≡ Err n → then (read f) (λ x. a) ≡ refused (number n)
+  file_refused n k = ap (λ y. then y (λ x. a)) (value_refused header_of (read f) (number n) (sym e ∙ ap answer_of k))

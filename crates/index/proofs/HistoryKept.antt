@@ -2,6 +2,8 @@
 -- By induction over the calls: the entries and the exposures pass every test equally often, so they have the same keys and of each owner are as many, and the
 -- checks of a call agree; an accepted add inserts one entry into its place, an accepted removal takes the one with the key. Assumes nothing.
 use Prim.Native.Nat.{ℕ, zero, suc, ◌+◌, ◌≤◌, ◌<◌}
+use Rattle.std.specs.Prelude.{Result}
+use Rattle.answer.specs.declared.Refusal.{Refusal}
 use mathlib.Core.Path.{◌≡◌, sym, ap, subst, ◌∙◌, refl}
 use mathlib.Core.Bool.{Bool, true, false, cond, not, ◌&&◌, ◌||◌, and-true, and-false, true≢false, false≢true}
 use mathlib.Core.List.{List, [], ◌∷◌, ◌++◌, map}
@@ -12,6 +14,7 @@ use lib.ListN.{length, get_or, drop}
 use lib.IntN.{ℤ, pos, nat_abs}
 use lib.Signed.{le_z}
 use Rattle.algebra.specs.Lists.{every, some, tally}
+use Rattle.answer.specs.Calls.{answer_of}
 use Rattle.algebra.proofs.Tests.{and_left, and_right, and_both, or_left, every_every, split}
 use Rattle.answer.specs.Answer.{Answer, refused, gives, check, Vector, Twice, Full, Absent, Space, Owner}
 use Rattle.answer.specs.Lent.{stored}
@@ -19,10 +22,9 @@ use Rattle.vector.specs.Numbers.{eq_z}
 use Rattle.vector.specs.Vectors.{is_vector}
 use Rattle.mesh.specs.Lookup.{identifier}
 use Rattle.index.specs.declared.Entry.{Entry}
-use Rattle.index.specs.declared.Change.{Change}
 use Rattle.index.specs.Exposures.{IndexCapacity, OwnerCapacity, is_owner, Exposure, is_number, Key, key, key_of, has_owner, has_key, has_place, Call, adds, removes, without, giving, leaving, answered, content_from, content_of, answers_from}
 use Rattle.index.specs.Entries.{IndexLength, entry_of, is_owned, is_keyed, count_of, entries_from, entries_in, with_entries, inserted, withdrawn, has_room}
-use Rattle.index.specs.Answers.{adding, removing, add_answer, add_after, remove_answer, remove_after, begin_answer, begin_after, count_answer, change_given}
+use Rattle.index.specs.Answers.{adding, removing, add_answer, add_after, remove_answer, remove_after, begin_answer, begin_after, count_answer}
 use Rattle.index.specs.HistoryCorrect.{EntriesMatch, is_filed, IsIndex, IsEmpty, call_answer, call_after, Runs, numbered, Numbered, ServesAgain, HistoryCorrect}
 use Rattle.index.proofs.WrittenLaws.{with_entries_long, entries_with, length_in}
 use Rattle.index.proofs.TallyLaws.{some_tally, tally_all, all_pass, split_tally, either_passes, both_fewer, only_tally, inserted_tally, inserted_length, withdrawn_tally, withdrawn_fewer}
@@ -208,9 +210,9 @@ stored_stands xs es l h f =
     let e : es ≡ entries_in (with_entries es l) = sym (entries_with es l f.few h) in
     record { long = with_entries_long es l f.few h; counted = ap (λ x. pos (length x)) e; files = subst (Files xs) e f }
 
-module _ (xs : List Exposure) (l m : List ℤ) (r : Change) (s : Stands xs l) where
-  one_call : (a : Answer (List Entry)) (b : Answer (List Exposure)) → Agree a b → change_given r ≡ answered a → m ≡ stored with_entries a l
-      → (change_given r ≡ answered b) × Stands (leaving b xs) m
+module _ (xs : List Exposure) (l m : List ℤ) (r : Result (Unit {0}) Refusal) (s : Stands xs l) where
+  one_call : (a : Answer (List Entry)) (b : Answer (List Exposure)) → Agree a b → answer_of r ≡ answered a → m ≡ stored with_entries a l
+      → (answer_of r ≡ answered b) × Stands (leaving b xs) m
   one_call (refused i) (refused j) e c d = (c ∙ ap refused e, subst (Stands xs) (sym d) s)
   one_call (refused i) (gives ys) e c d = absurd e
   one_call (gives es) (refused j) e c d = absurd e
@@ -228,8 +230,8 @@ does_after (removes k) l = refl
 
 -- ---- all calls
 
-run : (h : List Call) (rs : List Change) (l n : List ℤ) (xs : List Exposure) → Numbered h → Stands xs l → Runs l h rs n
-    → (map change_given rs ≡ answers_from OwnerCapacity xs h) × Stands (content_from OwnerCapacity xs h) n
+run : (h : List Call) (rs : List (Result (Unit {0}) Refusal)) (l n : List ℤ) (xs : List Exposure) → Numbered h → Stands xs l → Runs l h rs n
+    → (map answer_of rs ≡ answers_from OwnerCapacity xs h) × Stands (content_from OwnerCapacity xs h) n
 unfolding answers_from content_from every
 run [] [] l n xs u s e = (refl, subst (Stands xs) (sym e) s)
 run [] (r ∷ rs) l n xs u s e = absurd e

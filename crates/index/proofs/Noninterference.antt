@@ -2,6 +2,8 @@
 -- rule gives of them what it gives of all (`own_call`), and a call of another owner, or of none, leaves them (`other_call`). By induction over the history.
 -- Assumes nothing.
 use Prim.Native.Nat.{ℕ}
+use Rattle.std.specs.Prelude.{Result}
+use Rattle.answer.specs.declared.Refusal.{Refusal}
 use mathlib.Core.Path.{◌≡◌, sym, ap, subst, ◌∙◌, refl}
 use mathlib.Core.Bool.{Bool, true, false, cond, not, ◌&&◌, and-true, and-false, and_self, and_assoc, and_comm}
 use mathlib.Core.List.{List, [], ◌∷◌}
@@ -12,7 +14,6 @@ use Rattle.algebra.specs.Lists.{some, tally}
 use Rattle.algebra.proofs.Tests.{split}
 use Rattle.answer.specs.Answer.{Answer, refused, gives, check, with_value, Vector, Twice, Full, Absent, Owner}
 use Rattle.vector.specs.Vectors.{is_vector}
-use Rattle.index.specs.declared.Change.{Change}
 use Rattle.index.specs.Exposures.{OwnerCapacity, is_owner, Exposure, Key, key_of, has_owner, has_key, only, has_place, Call, adds, removes, without, giving, leaving, answered, content_from, content_of, answers_from}
 use Rattle.index.specs.Entries.{entry_of, is_owned, entries_in}
 use Rattle.index.specs.HistoryCorrect.{Leaves}
@@ -162,7 +163,7 @@ module _ (o : ℕ) where
 
 -- ---- the statements
 
-leaves : {h : List Call} {rs : List Change} {n : List ℤ} → Ran h rs n → Leaves h rs n
+leaves : {h : List Call} {rs : List (Result (Unit {0}) Refusal)} {n : List ℤ} → Ran h rs n → Leaves h rs n
 leaves {h} {rs} {n} r = history_kept.kept r.start n h rs r.empty r.numbered r.runs
 
 pub noninterference : Noninterference
@@ -185,7 +186,7 @@ own_entries o h rs n r =
           ∙ ap (tally (λ x. f (entry_of x))) (content_alone o h []);
     }
 
-pub same_entries : (o : ℕ) (h g : List Call) (rs qs : List Change) (m n : List ℤ) → Ran h rs m → Ran g qs n → calls_of o h ≡ calls_of o g
+pub same_entries : (o : ℕ) (h g : List Call) (rs qs : List (Result (Unit {0}) Refusal)) (m n : List ℤ) → Ran h rs m → Ran g qs n → calls_of o h ≡ calls_of o g
     → only (is_owned o) (entries_in m) ≡ only (is_owned o) (entries_in n)
 same_entries o h g rs qs m n r q e =
     let a = own_entries o h rs m r in

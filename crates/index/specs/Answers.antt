@@ -6,14 +6,15 @@
 --   add_after, remove_after, begin_after       the list afterwards: the entries in the place of the old ones, or all as it was after a refusal
 --   count_answer l      how many entries there are; refusal 10
 --   entry_answer i l    the entry at place i, or that there is none; refusal 10
---   change_given r, entry_given r   what a call gave
+--   entry_given r       what the call that reads an entry gave
 use Rattle.std.specs.Prelude.{ℕ, List, [], leb, length, ℤ}
+use Rattle.std.specs.Prelude.{Option, Some, None, Result, Ok, Err}
+use Rattle.answer.specs.declared.Refusal.{Refusal}
+use Rattle.answer.specs.Calls.{number}
 use Rattle.answer.specs.Answer.{Answer, refused, gives, check, Vector, Space, Owner}
 use Rattle.answer.specs.Lent.{stored}
 use Rattle.vector.specs.Vectors.{is_vector}
 use Rattle.index.specs.declared.Entry.{Entry}
-use Rattle.index.specs.declared.Change.{Change}
-use Rattle.index.specs.declared.EntryOf.{EntryOf}
 use Rattle.index.specs.Exposures.{is_owner, Exposure, Key, key_of, answered}
 use Rattle.index.specs.Entries.{IndexLength, entry_of, count_in, entries_in, with_entries, inserting, withdrawing, Slot, found, nothing, slot_at}
 
@@ -60,11 +61,7 @@ count_answer l = in_list l (gives (count_in l))
 unfoldable pub entry_answer : ℕ → List ℤ → Answer Slot
 entry_answer i l = in_list l (gives (slot_at i (entries_in l)))
 
-abbrev pub change_given : Change → Answer (Unit {0})
-change_given Change.Made = gives tt
-change_given (Change.Refused n) = refused n
-
-abbrev pub entry_given : EntryOf → Answer Slot
-entry_given (EntryOf.Gives e) = gives (found e)
-entry_given EntryOf.Nothing = gives nothing
-entry_given (EntryOf.Refused n) = refused n
+abbrev pub entry_given : Result (Option Entry) Refusal → Answer Slot
+entry_given (Ok (Some e)) = gives (found e)
+entry_given (Ok None) = gives nothing
+entry_given (Err r) = refused (number r)

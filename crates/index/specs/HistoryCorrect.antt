@@ -14,6 +14,9 @@
 --   HistoryCorrect    the statement: lists of zeros, and lists that `begin` leaves, are empty indexes; from one every history leaves what it should; and in
 --                     an index there is room wherever an owner has a place
 use Rattle.std.specs.Prelude.{ℕ, ◌≤◌, ◌≡◌, Bool, true, false, ◌&&◌, ◌||◌, List, [], ◌∷◌, ◌++◌, map, length, get_or, ℤ, pos, nat_abs}
+use Rattle.std.specs.Prelude.{Result}
+use Rattle.answer.specs.declared.Refusal.{Refusal}
+use Rattle.answer.specs.Calls.{answer_of}
 use Rattle.std.specs.Int.Signed.{le_z}
 use Rattle.algebra.specs.Lists.{every, some, tally}
 use Rattle.answer.specs.Answer.{Answer, refused, gives, Full}
@@ -21,11 +24,10 @@ use Rattle.vector.specs.Numbers.{eq_z}
 use Rattle.vector.specs.Vectors.{is_vector}
 use Rattle.mesh.specs.Lookup.{identifier}
 use Rattle.index.specs.declared.Entry.{Entry}
-use Rattle.index.specs.declared.Change.{Change}
 use Rattle.index.specs.Exposures.{IndexCapacity, OwnerCapacity, is_owner, Exposure, is_number, Key, key_of, has_owner, has_key, has_place}
 use Rattle.index.specs.Exposures.{Call, adds, removes, content_of, answers_of}
 use Rattle.index.specs.Entries.{IndexLength, entry_of, precedes, is_owned, is_keyed, has_room, entries_in}
-use Rattle.index.specs.Answers.{add_answer, add_after, remove_answer, remove_after, begin_answer, begin_after, count_answer, change_given}
+use Rattle.index.specs.Answers.{add_answer, add_after, remove_answer, remove_after, begin_answer, begin_after, count_answer}
 
 -- ---- an index
 
@@ -65,11 +67,11 @@ abbrev pub call_after : Call → List ℤ → List ℤ
 call_after (adds x) l = add_after x l
 call_after (removes k) l = remove_after k l
 
-pub record Does (c : Call) (before after : List ℤ) (r : Change) : Type 0 where
-  pub answer : change_given r ≡ call_answer c before
+pub record Does (c : Call) (before after : List ℤ) (r : Result (Unit {0}) Refusal) : Type 0 where
+  pub answer : answer_of r ≡ call_answer c before
   pub list : after ≡ call_after c before
 
-abbrev pub Runs : List ℤ → List Call → List Change → List ℤ → Type 0
+abbrev pub Runs : List ℤ → List Call → List (Result (Unit {0}) Refusal) → List ℤ → Type 0
 Runs l [] [] n = n ≡ l
 Runs l [] (r ∷ rs) n = ⊥
 Runs l (c ∷ h) [] n = ⊥
@@ -96,8 +98,8 @@ pub record ServesAgain (h : List Call) : Type 0 where
   pub again : (k : Key) (x : Exposure) → some (has_key k) (content_of OwnerCapacity h) ≡ true → k.owner ≡ x.owner → IsNew x (h ++ removes k ∷ [])
       → answers_of OwnerCapacity (h ++ removes k ∷ adds x ∷ []) ≡ answers_of OwnerCapacity h ++ gives tt ∷ gives tt ∷ []
 
-pub record Leaves (h : List Call) (rs : List Change) (n : List ℤ) : Type 0 where
-  pub answers : map change_given rs ≡ answers_of OwnerCapacity h
+pub record Leaves (h : List Call) (rs : List (Result (Unit {0}) Refusal)) (n : List ℤ) : Type 0 where
+  pub answers : map answer_of rs ≡ answers_of OwnerCapacity h
   pub index : IsIndex n
   pub content : EntriesMatch (content_of OwnerCapacity h) (entries_in n)
   pub count : count_answer n ≡ gives (length (content_of OwnerCapacity h))
@@ -106,5 +108,5 @@ pub record Leaves (h : List Call) (rs : List Change) (n : List ℤ) : Type 0 whe
 pub record HistoryCorrect : Type 0 where
   pub zeros : (l : List ℤ) → IndexLength ≤ length l → every (eq_z (pos 0)) l ≡ true → IsEmpty l
   pub begun : (l : List ℤ) → IndexLength ≤ length l → (begin_answer l ≡ gives tt) × IsEmpty (begin_after l)
-  pub kept : (l n : List ℤ) (h : List Call) (rs : List Change) → IsEmpty l → Numbered h → Runs l h rs n → Leaves h rs n
+  pub kept : (l n : List ℤ) (h : List Call) (rs : List (Result (Unit {0}) Refusal)) → IsEmpty l → Numbered h → Runs l h rs n → Leaves h rs n
   pub room : (l : List ℤ) (o : ℕ) → IsIndex l → is_owner o ≡ true → has_place OwnerCapacity (is_owned o) (entries_in l) ≡ true → has_room (entries_in l) ≡ true

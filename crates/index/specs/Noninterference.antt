@@ -7,10 +7,11 @@
 --   Noninterference   the statement
 --   OwnEntries        beside it: an owner's entries are those that its own calls leave, each once, in ascending order
 use Rattle.std.specs.Prelude.{ℕ, ◌≡◌, cond, List, [], ◌∷◌, map, eqb, ℤ}
-use Rattle.index.specs.declared.Change.{Change}
+use Rattle.std.specs.Prelude.{Result}
+use Rattle.answer.specs.declared.Refusal.{Refusal}
+use Rattle.answer.specs.Calls.{answer_of}
 use Rattle.index.specs.Exposures.{OwnerCapacity, only, Call, adds, removes, content_of}
 use Rattle.index.specs.Entries.{is_owned, entries_in}
-use Rattle.index.specs.Answers.{change_given}
 use Rattle.index.specs.HistoryCorrect.{EntriesMatch, IsEmpty, Runs, Numbered}
 
 abbrev pub owner_of : Call → ℕ
@@ -25,15 +26,15 @@ answers_to o [] rs = []
 answers_to o (c ∷ h) [] = []
 answers_to o (c ∷ h) (r ∷ rs) = cond (eqb (owner_of c) o) (r ∷ answers_to o h rs) (answers_to o h rs)
 
-pub record Ran (h : List Call) (rs : List Change) (n : List ℤ) : Type 0 where
+pub record Ran (h : List Call) (rs : List (Result (Unit {0}) Refusal)) (n : List ℤ) : Type 0 where
   pub start : List ℤ
   pub empty : IsEmpty start
   pub numbered : Numbered h
   pub runs : Runs start h rs n
 
 abbrev pub Noninterference : Type 0
-Noninterference = (o : ℕ) (h g : List Call) (rs qs : List Change) (m n : List ℤ) → Ran h rs m → Ran g qs n → calls_of o h ≡ calls_of o g
-    → answers_to o h (map change_given rs) ≡ answers_to o g (map change_given qs)
+Noninterference = (o : ℕ) (h g : List Call) (rs qs : List (Result (Unit {0}) Refusal)) (m n : List ℤ) → Ran h rs m → Ran g qs n → calls_of o h ≡ calls_of o g
+    → answers_to o h (map answer_of rs) ≡ answers_to o g (map answer_of qs)
 
 abbrev pub OwnEntries : Type 0
-OwnEntries = (o : ℕ) (h : List Call) (rs : List Change) (n : List ℤ) → Ran h rs n → EntriesMatch (content_of OwnerCapacity (calls_of o h)) (only (is_owned o) (entries_in n))
+OwnEntries = (o : ℕ) (h : List Call) (rs : List (Result (Unit {0}) Refusal)) (n : List ℤ) → Ran h rs n → EntriesMatch (content_of OwnerCapacity (calls_of o h)) (only (is_owned o) (entries_in n))

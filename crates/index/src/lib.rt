@@ -26,18 +26,3 @@ pub struct Entry {
     pub owner: i64,
     pub pointing: Vec3,
 }
-
-// The answer of a call that changes the index: that it was done, or the number of the first check that failed.
-#[derive(Clone, Copy)]
-pub enum Change {
-    Made,
-    Refused(u32),
-}
-
-// The entry at a place, that there is none, or the number of the first check that failed.
-#[derive(Clone, Copy)]
-pub enum EntryOf {
-    Gives(Entry),
-    Nothing,
-    Refused(u32),
-}

@@ -1,6 +1,8 @@
 -- What the calls find and store is what their answers say: a search that ends before the last entry found the key, and the entry that is stored
 -- in the place that was made free stands in its order. Assumes nothing.
 use Prim.Native.Nat.{ℕ, zero, suc, ◌+◌, ◌*◌, ◌-◌, ◌≤◌, ◌<◌}
+use Rattle.std.specs.Prelude.{Result, Ok, Err}
+use Rattle.answer.specs.declared.Refusal.{Refusal}
 use mathlib.Core.Path.{◌≡◌, sym, ap, ◌∙◌, refl}
 use mathlib.Core.Bool.{Bool, true, false, not}
 use mathlib.Core.List.{List, [], ◌∷◌, ◌++◌}
@@ -13,15 +15,14 @@ use lib.IntN.{ℤ, pos}
 use mir.Syntax.{w64}
 use mir.Val.{to_z}
 use Rattle.algebra.proofs.Sized.{nat}
+use Rattle.answer.specs.Calls.{answer_of}
 use Rattle.algebra.specs.Lists.{some, tally}
-use Rattle.answer.specs.Answer.{Answer, refused, gives, check, Space, Twice, Full, Absent, Owner}
+use Rattle.answer.specs.Answer.{Answer, refused, gives, check, Space, Owner}
 use Rattle.answer.specs.Lent.{put}
 use Rattle.index.specs.declared.Entry.{Entry}
-use Rattle.index.specs.declared.Change.{Change}
-use Rattle.index.specs.declared.Change.TheVariants.{Made, Refused}
 use Rattle.index.specs.Exposures.{IndexCapacity, OwnerCapacity, Exposure, Key, has_place}
 use Rattle.index.specs.Entries.{Width, IndexLength, numbers, entry_at, precedes, is_owned, is_keyed, count_in, entries_from, entries_in, written, with_entries, inserted, withdrawn, has_room, inserting, withdrawing, Slot, nothing, slot_at}
-use Rattle.index.specs.Answers.{in_list, beginning, adding, removing, begin_answer, begin_after, add_answer, add_after, remove_answer, remove_after, count_answer, entry_answer, change_given}
+use Rattle.index.specs.Answers.{in_list, beginning, adding, removing, begin_answer, begin_after, add_answer, add_after, remove_answer, remove_after, count_answer, entry_answer}
 use Rattle.index.proofs.WrittenLaws.{length_entries}
 use Rattle.algebra.proofs.Moves.{shifted_down}
 use Rattle.index_entries.specs.Steps.{leading, staying, raised}
@@ -32,32 +33,32 @@ use Rattle.index_calls.specs.Done.{Done}
 
 -- ---- what is done is what the calls answer and leave
 
-module _ (l m : List ℤ) (r : Change) where
-  pub by_begin : Done (beginning l) l m r → (change_given r ≡ begin_answer l) × (m ≡ begin_after l)
+module _ (l m : List ℤ) (r : Result (Unit {0}) Refusal) where
+  pub by_begin : Done (beginning l) l m r → (answer_of r ≡ begin_answer l) × (m ≡ begin_after l)
   unfolding begin_answer begin_after
   by_begin d = (d.answer, d.list)
 
-  pub by_add : (x : Exposure) → Done (adding x l) l m r → (change_given r ≡ add_answer x l) × (m ≡ add_after x l)
+  pub by_add : (x : Exposure) → Done (adding x l) l m r → (answer_of r ≡ add_answer x l) × (m ≡ add_after x l)
   unfolding add_answer add_after
   by_add x d = (d.answer, d.list)
 
-  pub by_remove : (k : Key) → Done (removing k l) l m r → (change_given r ≡ remove_answer k l) × (m ≡ remove_after k l)
+  pub by_remove : (k : Key) → Done (removing k l) l m r → (answer_of r ≡ remove_answer k l) × (m ≡ remove_after k l)
   unfolding remove_answer remove_after
   by_remove k d = (d.answer, d.list)
 
 -- ---- what the steps do
 
 -- an owner's check
-pub no_owner : (t : Bool) (a : Answer (List Entry)) (l : List ℤ) → t ≡ false → Done (check Owner t a) l l (Refused Owner)
+pub no_owner : (t : Bool) (a : Answer (List Entry)) (l : List ℤ) → t ≡ false → Done (check Owner t a) l l (Err Refusal.Owner)
 no_owner t a l e = record { answer = rw e refl; list = rw e refl }
 
-pub of_owner : {t : Bool} {a : Answer (List Entry)} {l m : List ℤ} {r : Change} → t ≡ true → Done a l m r → Done (check Owner t a) l m r
+pub of_owner : {t : Bool} {a : Answer (List Entry)} {l m : List ℤ} {r : (Result (Unit {0}) Refusal)} → t ≡ true → Done a l m r → Done (check Owner t a) l m r
 of_owner e d = rw e d
 
-pub too_short : (l : List ℤ) (a : Answer (List Entry)) → length l < IndexLength → Done (in_list l a) l l (Refused Space)
+pub too_short : (l : List ℤ) (a : Answer (List Entry)) → length l < IndexLength → Done (in_list l a) l l (Err Refusal.Space)
 too_short l a h = let e : leb IndexLength (length l) ≡ false = lt-leb IndexLength (length l) h in record { answer = rw e refl; list = rw e refl }
 
-pub begun : (l : List ℤ) → IndexLength ≤ length l → Done (beginning l) l (set l 0 (pos 0)) Made
+pub begun : (l : List ℤ) → IndexLength ≤ length l → Done (beginning l) l (set l 0 (pos 0)) (Ok tt)
 unfolding with_entries written
 begun [] h = absurd (omega arith)
 begun (c ∷ l) h = let e : leb IndexLength (length (c ∷ l)) ≡ true = le-leb IndexLength (length (c ∷ l)) h in record { answer = rw e refl; list = rw e refl }
@@ -82,7 +83,7 @@ module _ (l : List ℤ) (n : ℕ) (long : IndexLength ≤ length l) (is : n ≡ 
       (λ j. ltb (p j) (sym entries j)) ∙ found (is_keyed k) (entries_in l)
 
   module _ (k : Key) (i : ℕ) (s : i ≡ leading (λ e. not (is_keyed k e)) (entries_from n (drop 1 l))) where
-    pub is_twice : (e : Entry) → i < n → Done (in_list l (inserting k e (entries_in l))) l l (Refused Twice)
+    pub is_twice : (e : Entry) → i < n → Done (in_list l (inserting k e (entries_in l))) l l (Err Refusal.Twice)
     is_twice e h =
         let a : leb IndexLength (length l) ≡ true = le-leb IndexLength (length l) long in
         let b : some (is_keyed k) (entries_in l) ≡ true = sym (searched k i s) ∙ lt-ltb i n h in
@@ -99,7 +100,7 @@ module _ (l : List ℤ) (n : ℕ) (long : IndexLength ≤ length l) (is : n ≡ 
       owned : tally (is_owned k.owner) (entries_in l) ≡ w
       owned = ap (tally (is_owned k.owner)) (sym read) ∙ sym c
 
-      pub is_full_law : OwnerCapacity ≤ w → Done (in_list l (inserting k e (entries_in l))) l l (Refused Full)
+      pub is_full_law : OwnerCapacity ≤ w → Done (in_list l (inserting k e (entries_in l))) l l (Err Refusal.Full)
       is_full_law f =
           let g : has_place OwnerCapacity (is_owned k.owner) (entries_in l) ≡ false = ap (λ m. ltb m OwnerCapacity) owned ∙ le-ltb w OwnerCapacity f in
           record { answer = rw (a, b, g) refl; list = rw (a, b, g) refl }
@@ -108,14 +109,14 @@ module _ (l : List ℤ) (n : ℕ) (long : IndexLength ≤ length l) (is : n ≡ 
         place : has_place OwnerCapacity (is_owned k.owner) (entries_in l) ≡ true
         place = ap (λ m. ltb m OwnerCapacity) owned ∙ lt-ltb w OwnerCapacity f
 
-        pub no_room : IndexCapacity ≤ n → Done (in_list l (inserting k e (entries_in l))) l l (Refused Full)
+        pub no_room : IndexCapacity ≤ n → Done (in_list l (inserting k e (entries_in l))) l l (Err Refusal.Full)
         no_room h =
             let g : has_room (entries_in l) ≡ false = le-ltb (length (entries_in l)) IndexCapacity (omega (arith, entries)) in
             record { answer = rw (a, b, place, g) refl; list = rw (a, b, place, g) refl }
 
         pub is_inserted : (p : ℕ) (u v : List ℤ) → n < IndexCapacity → p ≡ staying (precedes e) (entries_from n (drop 1 l)) → p ≤ n
             → u ≡ raised (1 + Width * p) l (Width * (n - p)) → v ≡ put (1 + Width * p) (numbers e) u
-            → Done (in_list l (inserting k e (entries_in l))) l (set v 0 (to_z w64 (n + 1))) Made
+            → Done (in_list l (inserting k e (entries_in l))) l (set v 0 (to_z w64 (n + 1))) (Ok tt)
         unfolding with_entries
         is_inserted p u v h q g x y =
             let r : has_room (entries_in l) ≡ true = lt-ltb (length (entries_in l)) IndexCapacity (omega (arith, entries)) in
@@ -131,13 +132,13 @@ module _ (l : List ℤ) (n : ℕ) (long : IndexLength ≤ length l) (is : n ≡ 
             ∙ ap (λ x. with_entries x l) t in
             record { answer = rw (a, b, place, r) refl; list = rw (a, b, place, r) d }
 
-    pub is_absent : n ≤ i → Done (in_list l (withdrawing k (entries_in l))) l l (Refused Absent)
+    pub is_absent : n ≤ i → Done (in_list l (withdrawing k (entries_in l))) l l (Err Refusal.Absent)
     is_absent h =
         let a : leb IndexLength (length l) ≡ true = le-leb IndexLength (length l) long in
         let b : some (is_keyed k) (entries_in l) ≡ false = sym (searched k i s) ∙ le-ltb i n h in
         record { answer = rw (a, b) refl; list = rw (a, b) refl }
 
-    pub is_removed : (u : List ℤ) → i < n → n ≤ IndexCapacity → u ≡ shifted_down Width (1 + Width * i) l (Width * (n - 1 - i)) → Done (in_list l (withdrawing k (entries_in l))) l (set u 0 (to_z w64 (n - 1))) Made
+    pub is_removed : (u : List ℤ) → i < n → n ≤ IndexCapacity → u ≡ shifted_down Width (1 + Width * i) l (Width * (n - 1 - i)) → Done (in_list l (withdrawing k (entries_in l))) l (set u 0 (to_z w64 (n - 1))) (Ok tt)
     unfolding with_entries
     is_removed u h f x =
         let a : leb IndexLength (length l) ≡ true = le-leb IndexLength (length l) long in

@@ -13,7 +13,7 @@ use borrow.Author.Tests.{leb-true, lt-ltb, le-leb, eqb-true}
 use Rattle.algebra.proofs.Tests.{split, or_cases, and_left, and_right, and_both}
 use Rattle.answer.specs.Answer.{gives, check, with_value, Name}
 use Rattle.answer.specs.Lent.{put, stored}
-use Rattle.answer.proofs.AnswerLaws.{refused_gives, check_passed, check_gives, same_value, value_gives, number_is}
+use Rattle.answer.proofs.AnswerLaws.{refused_gives, check_passed, check_gives, same_value, value_gives, given_is}
 use Rattle.answer.proofs.LentLaws.{room_gives, has_room, front}
 use Rattle.mesh.specs.Identifiers.{identifier_at, depth_of, is_identifier}
 use Rattle.mesh.specs.Names.{letter_s, letter_n, digit0, digits, letter, name_at, name_of, is_digit, are_digits, is_letter, is_name, with_digits, value_of, identifier_of}
@@ -150,8 +150,8 @@ names_of_calls = record {
   read_back = λ i n before after e left r k.
       let w = value_gives length (name_into i before) n (sym e) in
       let s : take n after ≡ w.0 = ap (take n) (left ∙ ap (λ a. stored (put 0) a before) w.1) ∙ front before w.0 n w.2 in
-      number_is r i (k ∙ ap identifier_of s ∙ (names_inverse i w.0).0 (room_gives before length (name_of i) w.0 w.1));
+      given_is r i (k ∙ ap identifier_of s ∙ (names_inverse i w.0).0 (room_gives before length (name_of i) w.0 w.1));
   written_back = λ i s before after e l r k left.
       let w : name_into i before ≡ gives s = has_room before length (name_of i) s ((names_inverse i s).1 (sym e)) l in
-      (number_is r (length s) (k ∙ ap (with_value length) w), left ∙ ap (λ a. stored (put 0) a before) w);
+      (given_is r (length s) (k ∙ ap (with_value length) w), left ∙ ap (λ a. stored (put 0) a before) w);
 }

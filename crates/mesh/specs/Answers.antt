@@ -3,18 +3,15 @@
 --   name_into i before     the name to write, or the refusal: 11, then 10
 --   name_answer i before   the name's length, or the refusal
 --   name_after i before    the list afterwards: the name at its beginning
---   corners_given r        the answer of the call that gives corners
 --   NamesOfCalls          `htm::identifier` reads back what `htm::name` wrote, and the other way round, by the contracts of the two calls (htm/src/lib.rt);
 --                         proved in proofs/NamesInverse
 use Rattle.std.specs.Prelude.{ℕ, ◌≤◌, ◌≡◌, List, length, take}
-use Rattle.answer.specs.declared.Number.{Number}
-use Rattle.answer.specs.Answer.{Answer, then, with_value, refused, gives}
-use Rattle.answer.specs.Calls.{number_of}
+use Rattle.std.specs.Prelude.{Result, Ok}
+use Rattle.answer.specs.declared.Refusal.{Refusal}
+use Rattle.answer.specs.Answer.{Answer, then, with_value, gives}
+use Rattle.answer.specs.Calls.{answer_of}
 use Rattle.answer.specs.Lent.{put, stored, room}
 use Rattle.mesh.specs.Names.{name_of, identifier_of}
-use Rattle.mesh.specs.declared.Corners.{Corners}
-use Rattle.mesh.specs.declared.CornersOf.{CornersOf}
-use Rattle.mesh.specs.declared.CornersOf.TheVariants.{Gives, Refused}
 
 abbrev pub name_into : ℕ → List ℕ → Answer (List ℕ)
 name_into i before = then (name_of i) (λ s. room (length s) before s)
@@ -25,14 +22,10 @@ name_answer i before = with_value length (name_into i before)
 unfoldable pub name_after : ℕ → List ℕ → List ℕ
 name_after i before = stored (put 0) (name_into i before) before
 
-abbrev pub corners_given : CornersOf → Answer Corners
-corners_given (Gives c) = gives c
-corners_given (Refused n) = refused n
-
 pub record NamesOfCalls : Type 0 where
   -- `name` gave n for the identifier i and left `after` in the lent list: `identifier`, on its first n elements, gives i
-  pub read_back : (i n : ℕ) (before after : List ℕ) → number_of (Number.Gives n) ≡ name_answer i before → after ≡ name_after i before
-      → (r : Number) → number_of r ≡ identifier_of (take n after) → r ≡ Number.Gives i
+  pub read_back : (i n : ℕ) (before after : List ℕ) → answer_of (Ok n) ≡ name_answer i before → after ≡ name_after i before
+      → (r : Result ℕ Refusal) → answer_of r ≡ identifier_of (take n after) → r ≡ Ok i
   -- `identifier` gave i for the name s: `name`, on a list that is long enough, gives the length of s and leaves s at its front, the rest as it was
-  pub written_back : (i : ℕ) (s before after : List ℕ) → number_of (Number.Gives i) ≡ identifier_of s → length s ≤ length before
-      → (r : Number) → number_of r ≡ name_answer i before → after ≡ name_after i before → (r ≡ Number.Gives (length s)) × (after ≡ put 0 s before)
+  pub written_back : (i : ℕ) (s before after : List ℕ) → answer_of (Ok i) ≡ identifier_of s → length s ≤ length before
+      → (r : Result ℕ Refusal) → answer_of r ≡ name_answer i before → after ≡ name_after i before → (r ≡ Ok (length s)) × (after ≡ put 0 s before)

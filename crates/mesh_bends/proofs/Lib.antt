@@ -1,3 +1,4 @@
+pub mod CutLaws
 pub mod QuotientSizes
 pub mod BendFacts
 pub mod Plain

@@ -2,7 +2,7 @@
 // depth 7, in proofs/BendFacts.
 #![tactic(auto)]
 
-ghost use Rattle.std.specs.Prelude.{◌≡◌, true, false, ◌^◌, ◌<◌, pos, ◌≤ℤ◌};
+ghost use Rattle.std.specs.Prelude.{◌≡◌, cond, ◌^◌, ◌<◌, pos, ◌≤ℤ◌};
 ghost use Rattle.vector.specs.Numbers.{quot};
 ghost use Rattle.algebra.proofs.Sizes.{Upto};
 ghost use Rattle.vector.proofs.Sizes.{Small};
@@ -14,6 +14,7 @@ use mesh::Corners;
 use vector::Vec3;
 
 // A bend for each edge, by the number of the corner that is opposite to it.
+// Kept: `SmallBends` is a clause, as the rules of specs/Bends make bends of any three numbers.
 #[derive(Clone, Copy)]
 pub struct Bends {
     pub a0: i64,
@@ -58,23 +59,11 @@ pub fn bends_of(c: Corners) -> Bends
     requires { SmallCorners c }
     ensures { result ≡ bends_of c }
 {
-    let v0 = c.v0;
-    let v1 = c.v1;
-    let v2 = c.v2;
     Bends {
-        a0: edge(v1, v2),
-        a1: edge(v2, v0),
-        a2: edge(v0, v1),
+        a0: edge(c.v1, c.v2),
+        a1: edge(c.v2, c.v0),
+        a2: edge(c.v0, c.v1),
     }
-}
-
-// The bend of the edge that a first cut makes, beside an edge with the bend a.
-fn first_cut(a: i64, sum: i64) -> i64
-    requires upto { Upto (2 ^ 20) a }
-    requires upto_2 { Upto (2 ^ 22) sum }
-    ensures { result ≡ first_cut a sum }
-{
-    a * (CUT_PART + 266 * sum / 256 - 272 * a / 256) / CUT_UNIT
 }
 
 // a / n, where a is not below 0.
@@ -86,27 +75,29 @@ fn part(a: i64, n: u64) -> i64
     (a as u64 / n) as i64
 }
 
-// The bend of half an edge, after the first cut.
-fn first_half(a: i64) -> i64
-    requires { (pos 0 ≤ℤ a) × Upto (2 ^ 20) a }
-    ensures { result ≡ first_half a }
+// The bend of the edge that a cut makes, beside an edge with the bend a, by the sum of the three bends; FIRST, at the first cut below the table.
+fn cut<const FIRST: bool>(a: i64, sum: i64) -> i64
+    requires pos_bound { (pos 0 ≤ℤ a) × Upto (2 ^ 20) a }
+    requires upto { Upto (2 ^ 22) sum }
+    ensures { result ≡ cond FIRST (first_cut a sum) (later_cut a) }
 {
-    part(a, 4) + part(a, 1024)
+    if FIRST {
+        a * (CUT_PART + 266 * sum / 256 - 272 * a / 256) / CUT_UNIT
+    } else {
+        part(a, 4) + part(a, 256)
+    }
 }
 
-// The bend of the edge that a later cut makes, and that of half an edge after it.
-fn later_cut(a: i64) -> i64
+// The bend of half an edge, after that cut.
+fn half<const FIRST: bool>(a: i64) -> i64
     requires { (pos 0 ≤ℤ a) × Upto (2 ^ 20) a }
-    ensures { result ≡ later_cut a }
+    ensures { result ≡ cond FIRST (first_half a) (later_half a) }
 {
-    part(a, 4) + part(a, 256)
-}
-
-fn later_half(a: i64) -> i64
-    requires { (pos 0 ≤ℤ a) × Upto (2 ^ 20) a }
-    ensures { result ≡ later_half a }
-{
-    part(a, 4)
+    if FIRST {
+        part(a, 4) + part(a, 1024)
+    } else {
+        part(a, 4)
+    }
 }
 
 // The bends from corner number k on; 3 and above changes nothing.
@@ -114,93 +105,55 @@ fn turned(a: Bends, k: u64) -> Bends
     requires { SmallBends a }
     ensures { (result ≡ turned_bends k a) × SmallBends result }
 {
-    if k == 1 {
-        return Bends {
+    match k {
+        1 => Bends {
             a0: a.a1,
             a1: a.a2,
             a2: a.a0,
-        };
-    }
-    if k == 2 {
-        return Bends {
+        },
+        2 => Bends {
             a0: a.a2,
             a1: a.a0,
             a2: a.a1,
-        };
+        },
+        _ => a,
     }
-    a
 }
 
-// After the first cut, the bends of the child at the first corner.
-fn first_at_corner(a: Bends) -> Bends
+// After a cut, the bends of the child at the first corner.
+fn at_corner<const FIRST: bool>(a: Bends) -> Bends
     requires { SmallBends a }
-    ensures { result ≡ first_at_corner a }
+    ensures { result ≡ cond FIRST (first_at_corner a) (later_at_corner a) }
 {
-    let sum = a.a0 + a.a1 + a.a2;
     Bends {
-        a0: first_cut(a.a0, sum),
-        a1: first_half(a.a1),
-        a2: first_half(a.a2),
+        a0: cut::<FIRST>(a.a0, a.a0 + a.a1 + a.a2),
+        a1: half::<FIRST>(a.a1),
+        a2: half::<FIRST>(a.a2),
     }
 }
 
 // Those of the child in the middle.
-fn first_in_middle(a: Bends) -> Bends
+fn in_middle<const FIRST: bool>(a: Bends) -> Bends
     requires { SmallBends a }
-    ensures { result ≡ first_in_middle a }
+    ensures { result ≡ cond FIRST (first_in_middle a) (later_in_middle a) }
 {
     let sum = a.a0 + a.a1 + a.a2;
     Bends {
-        a0: first_cut(a.a0, sum),
-        a1: first_cut(a.a1, sum),
-        a2: first_cut(a.a2, sum),
+        a0: cut::<FIRST>(a.a0, sum),
+        a1: cut::<FIRST>(a.a1, sum),
+        a2: cut::<FIRST>(a.a2, sum),
     }
 }
 
-// After a later cut, the bends of the child at the first corner.
-fn later_at_corner(a: Bends) -> Bends
+// The bends of child number k; 3 and above is the one in the middle. FIRST, from depth 3 to depth 4.
+pub fn bends_below<const FIRST: bool>(a: Bends, k: u64) -> Bends
     requires { SmallBends a }
-    ensures { result ≡ later_at_corner a }
-{
-    Bends {
-        a0: later_cut(a.a0),
-        a1: later_half(a.a1),
-        a2: later_half(a.a2),
-    }
-}
-
-// Those of the child in the middle.
-fn later_in_middle(a: Bends) -> Bends
-    requires { SmallBends a }
-    ensures { result ≡ later_in_middle a }
-{
-    Bends {
-        a0: later_cut(a.a0),
-        a1: later_cut(a.a1),
-        a2: later_cut(a.a2),
-    }
-}
-
-// The bends of child number k, from depth 3 to depth 4; 3 and above is the one in the middle.
-pub fn first_below(a: Bends, k: u64) -> Bends
-    requires { SmallBends a }
-    ensures { result ≡ bends_below true k a }
+    ensures { result ≡ bends_below FIRST k a }
 {
     let t = turned(a, k);
     if k < 3 {
-        return first_at_corner(t);
+        at_corner::<FIRST>(t)
+    } else {
+        in_middle::<FIRST>(t)
     }
-    first_in_middle(t)
-}
-
-// The same from depth 4 on.
-pub fn later_below(a: Bends, k: u64) -> Bends
-    requires { SmallBends a }
-    ensures { result ≡ bends_below false k a }
-{
-    let t = turned(a, k);
-    if k < 3 {
-        return later_at_corner(t);
-    }
-    later_in_middle(t)
 }

@@ -34,7 +34,7 @@ use Rattle.mesh_bends.proofs.Known.{Known, facts, below, volume_large, known_bar
 use Rattle.mesh_bends.proofs.Computed.{known_start}
 use Rattle.mesh_jump.specs.declared.Numbers.{Numbers}
 use Rattle.mesh_jump.specs.declared.BentDigits.{BentDigits}
-use Rattle.mesh_jump.specs.Jumps.{less_of, begin_of, Within, NotNegative, Started, unbent, Sure, at0, at1, at2, at3, unsure, Entry, along, volume_of, StandsAt, FollowsAt, Following, Jumped, Reached}
+use Rattle.mesh_jump.specs.Jumps.{less_of, begin_of, Within, NotNegative, Started, unbent, Sure, at0, at1, at2, at3, Entry, along, volume_of, StandsAt, FollowsAt, Following, Jumped, Reached}
 use Rattle.mesh_jump.proofs.StartLaws.{pointing, upto_of, sum_most}
 use Rattle.mesh_jump.proofs.JumpLaws.{stands_below}
 use Rattle.mesh_jump.proofs.JumpPath.{Next, stands_known, next_known, next_flat}
@@ -107,23 +107,21 @@ turned_sum : (a b c S : ℤ) → (a +ℤ b +ℤ c) ≤ℤ S → (b +ℤ c +ℤ a
 turned_sum = prove 4 (λ a b c S. record { given = (a :+ b :+ c :≤ S) ∷ []; goal = b :+ c :+ a :≤ S; cert = hyp 0 }) refl
 
 -- the sum of the numbers does not grow
-sum_kept : (d : Numbers) (a : Bends) → BendsNn a → (s : ℕ) (m : Numbers) → Sure d a s m → (s ≡ 4 → ⊥) → (S : ℤ) → (d.d0 +ℤ d.d1 +ℤ d.d2) ≤ℤ S → (m.d0 +ℤ m.d1 +ℤ m.d2) ≤ℤ S
-sum_kept d a n _ _ (at0 l) f S h = corner_sum d.d0 d.d1 d.d2 _ _ S (lessened (pos 2 *ℤ d.d1) a.a2 n.a2) (lessened (pos 2 *ℤ d.d2) a.a1 n.a1) h
-sum_kept d a n _ _ (at1 b l) f S h = corner_sum d.d1 d.d2 d.d0 _ _ S (lessened (pos 2 *ℤ d.d2) a.a0 n.a0) (lessened (pos 2 *ℤ d.d0) a.a2 n.a2) (turned_sum d.d0 d.d1 d.d2 S h)
-sum_kept d a n _ _ (at2 b c l) f S h =
+sum_kept : (d : Numbers) (a : Bends) → BendsNn a → (s : ℕ) (m : Numbers) → Sure d a s m → (S : ℤ) → (d.d0 +ℤ d.d1 +ℤ d.d2) ≤ℤ S → (m.d0 +ℤ m.d1 +ℤ m.d2) ≤ℤ S
+sum_kept d a n _ _ (at0 l) S h = corner_sum d.d0 d.d1 d.d2 _ _ S (lessened (pos 2 *ℤ d.d1) a.a2 n.a2) (lessened (pos 2 *ℤ d.d2) a.a1 n.a1) h
+sum_kept d a n _ _ (at1 b l) S h = corner_sum d.d1 d.d2 d.d0 _ _ S (lessened (pos 2 *ℤ d.d2) a.a0 n.a0) (lessened (pos 2 *ℤ d.d0) a.a2 n.a2) (turned_sum d.d0 d.d1 d.d2 S h)
+sum_kept d a n _ _ (at2 b c l) S h =
     corner_sum d.d2 d.d0 d.d1 _ _ S (lessened (pos 2 *ℤ d.d0) a.a1 n.a1) (lessened (pos 2 *ℤ d.d1) a.a0 n.a0)
     (turned_sum d.d1 d.d2 d.d0 S (turned_sum d.d0 d.d1 d.d2 S h))
-sum_kept d a n _ _ (at3 b c l) f S h =
+sum_kept d a n _ _ (at3 b c l) S h =
     middle_sum d.d0 d.d1 d.d2 _ _ _ S (lessened (d.d1 +ℤ d.d2 -ℤ d.d0) a.a0 n.a0) (lessened (d.d0 +ℤ d.d2 -ℤ d.d1) a.a1 n.a1) (lessened (d.d0 +ℤ d.d1 -ℤ d.d2) a.a2 n.a2) h
-sum_kept d a n _ _ (unsure m) f S h = absurd (f refl)
 
 -- the margin doubles
-margin_doubled : (d : Numbers) (a : Bends) (s : ℕ) (m : Numbers) → Sure d a s m → (s ≡ 4 → ⊥) → m.margin ≡ pos 2 *ℤ d.margin
-margin_doubled d a _ _ (at0 l) f = refl
-margin_doubled d a _ _ (at1 b l) f = refl
-margin_doubled d a _ _ (at2 b c l) f = refl
-margin_doubled d a _ _ (at3 b c l) f = refl
-margin_doubled d a _ _ (unsure m) f = absurd (f refl)
+margin_doubled : (d : Numbers) (a : Bends) (s : ℕ) (m : Numbers) → Sure d a s m → m.margin ≡ pos 2 *ℤ d.margin
+margin_doubled d a _ _ (at0 l) = refl
+margin_doubled d a _ _ (at1 b l) = refl
+margin_doubled d a _ _ (at2 b c l) = refl
+margin_doubled d a _ _ (at3 b c l) = refl
 
 -- each of three numbers that are not below 0 is at most their sum
 part_most : (a b c s : ℤ) → (a +ℤ b +ℤ c) ≤ℤ s → pos 0 ≤ℤ a → pos 0 ≤ℤ b → pos 0 ≤ℤ c → (a ≤ℤ s) × (b ≤ℤ s) × (c ≤ℤ s)
@@ -184,10 +182,10 @@ module _ (p : Vec3) (c : Corners) (small : Small p) (n i₀ i k : ℕ) (d : Numb
   abbrev x : Trixel
   x = along k i (bare c)
 
-  advance : k < n → (a : Bends) → BendsNn a → (s : ℕ) (m : Numbers) → Sure d a s m → (s ≡ 4 → ⊥) → Next (volume_of c) p k x s m → StandsAt (suc k) (volume_of c) (child s x)
+  advance : k < n → (a : Bends) → BendsNn a → (s : ℕ) (m : Numbers) → Sure d a s m → Next (volume_of c) p k x s m → StandsAt (suc k) (volume_of c) (child s x)
       → Jumping p c n i₀ (4 * i + s) (k + 1) m
   unfolding descend
-  advance h a nn s m sure f t stands =
+  advance h a nn s m sure t stands =
       let q : along (k + 1) (4 * i + s) (bare c) ≡ child s x = along_next k i s (bare c) t.low in
       let w : 4 ^ (k + 1) ≡ 4 ^ k * 4 = ap (λ m. 4 ^ m) (add-one k) ∙ pow-suc 4 k in
       let g = j.following in
@@ -196,8 +194,8 @@ module _ (p : Vec3) (c : Corners) (small : Small p) (n i₀ i k : ℕ) (d : Numb
         large = g.large;
         follows = subst (λ x. FollowsAt (suc k) (volume_of c) p x m.d0 m.d1 m.d2) (sym (sym (ap (λ u. along u (4 * i + s) (bare c)) (add-one k)) ∙ q)) t.follows;
         stands = subst (StandsAt (suc k) (volume_of c)) (sym (sym (ap (λ u. along u (4 * i + s) (bare c)) (add-one k)) ∙ q)) stands;
-        sum = sum_kept d a nn s m sure f (pos (2 ^ 61)) g.sum;
-        margin = margin_doubled d a s m sure f ∙ ap (λ z. pos 2 *ℤ z) g.margin ∙ margin_next k ∙ ap margin_at (add-one k);
+        sum = sum_kept d a nn s m sure (pos (2 ^ 61)) g.sum;
+        margin = margin_doubled d a s m sure ∙ ap (λ z. pos 2 *ℤ z) g.margin ∙ margin_next k ∙ ap margin_at (add-one k);
       } in
       record {
         upto = omega arith;
@@ -211,26 +209,26 @@ module _ (p : Vec3) (c : Corners) (small : Small p) (n i₀ i k : ℕ) (d : Numb
         following = subst (λ u. Following p c u (4 * i + s) m) (sym (add-one k)) reached;
       }
 
-  pub advance_bent : k < n → k < 4 → (a : Bends) → Known k a (volume_of c) x → (s : ℕ) (m : Numbers) → Sure d a s m → (s ≡ 4 → ⊥)
+  pub advance_bent : k < n → k < 4 → (a : Bends) → Known k a (volume_of c) x → (s : ℕ) (m : Numbers) → Sure d a s m
       → Jumping p c n i₀ (4 * i + s) (k + 1) m × Known (k + 1) (bends_below (eqb k 0) s a) (volume_of c) (along (k + 1) (4 * i + s) (bare c))
-  advance_bent h l a known s m sure f =
+  advance_bent h l a known s m sure =
       let g = j.following in
-      let t = next_known k l (volume_of c) p small (pointing p g.vector) x a known d g.margin g.follows s m sure f in
+      let t = next_known k l (volume_of c) p small (pointing p g.vector) x a known d g.margin g.follows s m sure in
       let fit = facts known (omega arith) in
       let under = below known l s t.low in (
-        advance h a (record { a0 = fit.fit0.least; a1 = fit.fit1.least; a2 = fit.fit2.least }) s m sure f t (stands_known (suc k) (omega arith) (facts under (omega arith))),
+        advance h a (record { a0 = fit.fit0.least; a1 = fit.fit1.least; a2 = fit.fit2.least }) s m sure t (stands_known (suc k) (omega arith) (facts under (omega arith))),
         subst (Known (k + 1) (bends_below (eqb k 0) s a) (volume_of c)) (sym (along_next k i s (bare c) t.low)) (subst (λ u. Known u (bends_below (eqb k 0) s a) (volume_of c) (child s x)) (sym (add-one k)) under),
       )
 
-  pub advance_flat : k < n → 4 ≤ k → (s : ℕ) (m : Numbers) → Sure d unbent s m → (s ≡ 4 → ⊥) → Jumping p c n i₀ (4 * i + s) (k + 1) m
-  advance_flat h l s m sure f =
+  pub advance_flat : k < n → 4 ≤ k → (s : ℕ) (m : Numbers) → Sure d unbent s m → Jumping p c n i₀ (4 * i + s) (k + 1) m
+  advance_flat h l s m sure =
       let e : 4 + (k - 4) ≡ k = omega arith in
       let g = j.following in
       let five : k - 4 < 5 = omega arith in
       let stands = subst (λ u. StandsAt u (volume_of c) x) (sym e) g.stands in
       let t = next_flat (k - 4) five (volume_of c) g.large p small (pointing p g.vector) x stands d (g.margin ∙ ap margin_at (sym e))
-      (subst (λ u. FollowsAt u (volume_of c) p x d.d0 d.d1 d.d2) (sym e) g.follows) s m sure f in
-      advance h unbent (record { a0 = le_z_yes tt; a1 = le_z_yes tt; a2 = le_z_yes tt }) s m sure f
+      (subst (λ u. FollowsAt u (volume_of c) p x d.d0 d.d1 d.d2) (sym e) g.follows) s m sure in
+      advance h unbent (record { a0 = le_z_yes tt; a1 = le_z_yes tt; a2 = le_z_yes tt }) s m sure
       (subst (λ u. Next (volume_of c) p u x s m) e t)
       (subst (λ u. StandsAt (suc u) (volume_of c) (child s x)) e (stands_below (k - 4) five (volume_of c) g.large x stands s t.low))
 
@@ -245,14 +243,14 @@ module _ (p : Vec3) (c : Corners) (small : Small p) (n i₀ i k : ℕ) (d : Numb
       omega arith
 
 -- after the bent levels
-pub reached : {p : Vec3} {c : Corners} {n i₀ : ℕ} (r : BentDigits) → Reached p c i₀ n r → 4 ≤ r.count → Jumping p c n i₀ r.id r.count r.numbers
+pub reached : {p : Vec3} {c : Corners} {n i₀ : ℕ} (r : BentDigits) → Reached p c i₀ n r → 4 ≤ r.sure.count → Jumping p c n i₀ r.sure.id r.sure.count r.numbers
 reached {p} {c} r h four =
-    let e : r.count ≡ 4 = omega (arith, h.most) in
+    let e : r.sure.count ≡ 4 = omega (arith, h.most) in
     record {
       upto = h.jumped.upto;
       room = h.jumped.room;
       left = h.jumped.goes_on;
-      following = subst (λ k. Following p c k r.id r.numbers) (sym e) (h.following e);
+      following = subst (λ k. Following p c k r.sure.id r.numbers) (sym e) (h.following e);
     }
 
 -- no digit

@@ -28,7 +28,7 @@ use Rattle.mesh_bends.specs.declared.Bends.{Bends}
 use Rattle.mesh_bends.proofs.BendFacts.{Octant, Fit, Facts, limits_at}
 use Rattle.mesh_bends.proofs.Known.{Known, facts, below, volume_large}
 use Rattle.mesh_jump.specs.declared.Numbers.{Numbers}
-use Rattle.mesh_jump.specs.Jumps.{Sure, at0, at1, at2, at3, unsure, StandsAt, FollowsAt}
+use Rattle.mesh_jump.specs.Jumps.{Sure, at0, at1, at2, at3, StandsAt, FollowsAt}
 use Rattle.mesh_jump.proofs.JumpLaws.{Moves, moves_bent, digit_0, digit_1, digit_2, digit_3, follows_0, follows_1, follows_2, follows_3, stands_below, flat_moves}
 
 -- ---- what is computed, as the laws read it
@@ -79,41 +79,40 @@ module _ (i : ℕ) (h : i < 9) (g : ℤ) (large : least ≤ℤ g) (p : Vec3) (sm
   abbrev at : {z : ℤ} → d.margin <ℤ z → margin_at i <ℤ z
   at {z} l = subst (λ m. m <ℤ z) margin l
 
-  pub next : (s : ℕ) (m : Numbers) → Sure d a s m → (s ≡ 4 → ⊥) → Next g p i x s m
-  next _ _ (at0 l) n = record {
+  pub next : (s : ℕ) (m : Numbers) → Sure d a s m → Next g p i x s m
+  next _ _ (at0 l) = record {
     low = lit< tt;
     is = digit_0 i h g large p small pt x stands under a.a0 a.a1 a.a2 m0 m1 m2 d.d0 d.d1 d.d2 f (at l);
     follows = follows_0 i h g large p small pt x stands under a.a0 a.a1 a.a2 m0 m1 m2 d.d0 d.d1 d.d2 f (beyond (at l));
   }
-  next _ _ (at1 b l) n = record {
+  next _ _ (at1 b l) = record {
     low = lit< tt;
     is = digit_1 i h g large p small pt x stands under a.a0 a.a1 a.a2 m0 m1 m2 d.d0 d.d1 d.d2 f (at b) (at l);
     follows = follows_1 i h g large p small pt x stands under a.a0 a.a1 a.a2 m0 m1 m2 d.d0 d.d1 d.d2 f (beyond (at l));
   }
-  next _ _ (at2 b c l) n = record {
+  next _ _ (at2 b c l) = record {
     low = lit< tt;
     is = digit_2 i h g large p small pt x stands under a.a0 a.a1 a.a2 m0 m1 m2 d.d0 d.d1 d.d2 f (at b) (at c) (at l);
     follows = follows_2 i h g large p small pt x stands under a.a0 a.a1 a.a2 m0 m1 m2 d.d0 d.d1 d.d2 f (beyond (at l));
   }
-  next _ _ (at3 b c l) n = record {
+  next _ _ (at3 b c l) = record {
     low = lit< tt;
     is = digit_3 i h g large p small pt x stands under a.a0 a.a1 a.a2 m0 m1 m2 d.d0 d.d1 d.d2 f (at b) (at c) (at l);
     follows = follows_3 i h g large p small pt x stands under a.a0 a.a1 a.a2 m0 m1 m2 d.d0 d.d1 d.d2 f (other d.d0 d.d1 d.d2 (at b))
         (swapped d.d1 d.d2 d.d0 (other d.d1 d.d2 d.d0 (at c))) (other d.d2 d.d0 d.d1 (at l));
   }
-  next _ _ (unsure m) n = absurd (n refl)
 
 -- ---- at a known trixel, and from depth 7 on
 
 pub next_known : (i : ℕ) → i < 4 → (g : ℤ) (p : Vec3) → Small p → Pointing K (three p) → (x : Trixel) (a : Bends) → Known i a g x → (d : Numbers) → d.margin ≡ margin_at i
-    → FollowsAt i g p x d.d0 d.d1 d.d2 → (s : ℕ) (m : Numbers) → Sure d a s m → (s ≡ 4 → ⊥) → Next g p i x s m
+    → FollowsAt i g p x d.d0 d.d1 d.d2 → (s : ℕ) (m : Numbers) → Sure d a s m → Next g p i x s m
 next_known i h g p small pt x a k d e f =
     let t = facts k (omega arith) in
     next i (omega arith) g (volume_large k) p small pt x (stands_known i (omega arith) t) (λ j l. stands_known (suc i) (omega arith) (facts (below k h j l) (omega arith)))
     a (fits_moves i h x.v1 x.v2 a.a0 t.fit0) (fits_moves i h x.v0 x.v2 a.a1 t.fit1) (fits_moves i h x.v0 x.v1 a.a2 t.fit2) d e f
 
 pub next_flat : (i : ℕ) → i < 5 → (g : ℤ) → least ≤ℤ g → (p : Vec3) → Small p → Pointing K (three p) → (x : Trixel) → StandsAt (4 + i) g x → (d : Numbers) → d.margin ≡ margin_at (4 + i)
-    → FollowsAt (4 + i) g p x d.d0 d.d1 d.d2 → (s : ℕ) (m : Numbers) → Sure d (record { a0 = pos 0; a1 = pos 0; a2 = pos 0 }) s m → (s ≡ 4 → ⊥) → Next g p (4 + i) x s m
+    → FollowsAt (4 + i) g p x d.d0 d.d1 d.d2 → (s : ℕ) (m : Numbers) → Sure d (record { a0 = pos 0; a1 = pos 0; a2 = pos 0 }) s m → Next g p (4 + i) x s m
 next_flat i h g large p small pt x stands d e f =
     let t = flat_moves i h g large x stands in
     next (4 + i) (omega arith) g large p small pt x stands (stands_below i h g large x stands) (record { a0 = pos 0; a1 = pos 0; a2 = pos 0 }) t.0 t.1 t.2 d e f

@@ -9,8 +9,9 @@
 --   NotNegative n       none is below 0; Within n, small enough for sums and doubles
 --   InMiddle n          none is more than the other two together
 --   Started p n         what the start is tested for
---   Given n k           k is the child that the numbers n give; or k is 4, not sure
---   Sure n a k m        and m are its numbers, a being the bends of the trixel; unbent, where nothing is bent
+--   with_digit s k       the digits s and behind them k
+--   Given n o           o is the child that the numbers n give, or none, where none is sure
+--   Sure n a k m        k is the child that they give, and m are its numbers, a being the bends of the trixel; unbent, where nothing is bent
 --   Entry c             the corners of an entry of the table
 --   along n i t         the trixel n levels below t, by the last n digits of i
 --   volume_of c          det(v0, v1, v2)
@@ -19,7 +20,7 @@
 --   Following p c k i d the numbers d follow p, k levels below the corners c, at the trixel by the last digits of i
 --   Jumped p c i n r    the digits of r are those of the rule, and the descent goes on behind them
 --   Reached p c i n r   and after four levels the numbers of r follow p
-use Rattle.std.specs.Prelude.{ℕ, zero, suc, ◌+◌, ◌*◌, ◌/◌, ◌%◌, ◌^◌, ◌≤◌, ◌<◌, ◌≡◌, true, ℤ, pos, neg_ℤ, nat_abs, ◌+ℤ◌, ◌-ℤ◌, ◌*ℤ◌, ◌≤ℤ◌, ◌<ℤ◌}
+use Rattle.std.specs.Prelude.{ℕ, zero, suc, Option, Some, None, ◌+◌, ◌*◌, ◌/◌, ◌%◌, ◌^◌, ◌≤◌, ◌<◌, ◌≡◌, true, ℤ, pos, neg_ℤ, nat_abs, ◌+ℤ◌, ◌-ℤ◌, ◌*ℤ◌, ◌≤ℤ◌, ◌<ℤ◌}
 use Rattle.algebra.proofs.Sizes.{Upto}
 use Rattle.jump.proofs.Jump.{det}
 use Rattle.jump.proofs.JumpInvariant.{Follows, pushed}
@@ -74,6 +75,10 @@ begin_of p c = record {
   margin = pos 26388279066624;
 }
 
+-- one digit more
+abbrev pub with_digit : SureDigits → ℕ → SureDigits
+with_digit s k = record { count = s.count + 1; id = 4 * s.id + k }
+
 -- no bends
 abbrev pub unbent : Bends
 unbent = record { a0 = pos 0; a1 = pos 0; a2 = pos 0 }
@@ -102,19 +107,18 @@ pub record Started (p : Vec3) (n : Numbers) : Type 0 where
   pub d1 : pos 0 ≤ℤ n.d1
   pub d2 : pos 0 ≤ℤ n.d2
 
-pub data Given (n : Numbers) : ℕ → Type 0 where
-  given0 : Above n → Given n 0
-  given1 : Below n → Above (turned_of n) → Given n 1
-  given2 : Below n → Below (turned_of n) → Above (turned_of (turned_of n)) → Given n 2
-  given3 : Below n → Below (turned_of n) → Below (turned_of (turned_of n)) → Given n 3
-  not_given : Given n 4
+pub data Given (n : Numbers) : Option ℕ → Type 0 where
+  given0 : Above n → Given n (Some 0)
+  given1 : Below n → Above (turned_of n) → Given n (Some 1)
+  given2 : Below n → Below (turned_of n) → Above (turned_of (turned_of n)) → Given n (Some 2)
+  given3 : Below n → Below (turned_of n) → Below (turned_of (turned_of n)) → Given n (Some 3)
+  not_given : Given n None
 
 pub data Sure (n : Numbers) (a : Bends) : ℕ → Numbers → Type 0 where
   at0 : Above n → Sure n a 0 (at_corner n a.a2 a.a1)
   at1 : Below n → Above (turned_of n) → Sure n a 1 (at_corner (turned_of n) a.a0 a.a2)
   at2 : Below n → Below (turned_of n) → Above (turned_of (turned_of n)) → Sure n a 2 (at_corner (turned_of (turned_of n)) a.a1 a.a0)
   at3 : Below n → Below (turned_of n) → Below (turned_of (turned_of n)) → Sure n a 3 (in_middle n a)
-  unsure : (m : Numbers) → Sure n a 4 m
 
 -- the trixel of the table's entry number 4 d + e
 abbrev pub entry_trixel : ℕ → ℕ → Trixel
@@ -154,6 +158,6 @@ pub record Jumped (p : Vec3) (c : Corners) (i n : ℕ) (r : SureDigits) : Type 0
   pub goes_on : (m : ℕ) → descend p (r.count + m) (bare c) i ≡ descend p m (along r.count r.id (bare c)) r.id
 
 pub record Reached (p : Vec3) (c : Corners) (i n : ℕ) (r : BentDigits) : Type 0 where
-  pub most : r.count ≤ 4
-  pub jumped : Jumped p c i n (record { count = r.count; id = r.id })
-  pub following : r.count ≡ 4 → Following p c 4 r.id r.numbers
+  pub most : r.sure.count ≤ 4
+  pub jumped : Jumped p c i n r.sure
+  pub following : r.sure.count ≡ 4 → Following p c 4 r.sure.id r.numbers

@@ -3,18 +3,17 @@
 // of the rule, in proofs/JumpLaws and jump/proofs/JumpLevel.
 #![tactic(auto)]
 
-ghost use Rattle.std.specs.Prelude.{◌≡◌, true, ◌+◌, ◌*◌, ◌^◌, ◌≤◌, ◌<◌, eqb, pos, ◌+ℤ◌, ◌-ℤ◌, ◌*ℤ◌, ◌≤ℤ◌};
+ghost use Rattle.std.specs.Prelude.{◌≡◌, true, false, Some, ◌+◌, ◌*◌, ◌^◌, ◌≤◌, ◌<◌, eqb, pos, ◌+ℤ◌, ◌-ℤ◌, ◌*ℤ◌, ◌≤ℤ◌};
 ghost use Rattle.algebra.proofs.Sizes.{Upto};
 ghost use Rattle.jump.proofs.Jump.{det};
 ghost use Rattle.jump.proofs.JumpInvariant.{pushed};
 ghost use Rattle.jump.proofs.JumpConstants.{δ};
 ghost use Rattle.jump.proofs.UnitLaws.{three};
 ghost use Rattle.vector.proofs.Sizes.{AtMost, Small};
-ghost use Rattle.mesh.specs.Trixels.{child};
 ghost use Rattle.mesh.specs.Identifiers.{corners_of};
 ghost use Rattle.mesh_trixels.specs.Corners.{bare, SmallCorners};
 ghost use Rattle.mesh_bends.specs.Bends.{SmallBends, bends_below};
-ghost use Rattle.mesh_jump.specs.Jumps.{Above, Below, turned_of, less_of, at_corner, InMiddle, in_middle, begin_of, Within, NotNegative, Started, unbent, Given, Sure, Entry, along, Jumped, Reached};
+ghost use Rattle.mesh_jump.specs.Jumps.{Above, Below, turned_of, less_of, at_corner, InMiddle, in_middle, begin_of, with_digit, Within, NotNegative, Started, unbent, Given, Sure, Entry, along, Jumped, Reached};
 
 use mesh::Corners;
 use mesh_bends::Bends;
@@ -22,6 +21,7 @@ use vector::Vec3;
 
 // Three numbers that follow a pointing from a trixel to its children, and the margin beyond which their differences give the child. At the start each is
 // the volume of two corners and the pointing, pushed outward.
+// Kept: `begin` makes numbers of any sign, which `can_start` tests then, so `Within` and `NotNegative` are clauses and no invariant of this type.
 #[derive(Clone, Copy)]
 pub struct Numbers {
     pub d0: i64,
@@ -37,11 +37,24 @@ pub struct SureDigits {
     pub id: u64,
 }
 
-// The same with the numbers that are reached.
+impl SureDigits {
+    // With one digit more.
+    fn with(self, digit: u64) -> SureDigits
+        requires count_bound { self.count < 9 }
+        requires id_bound { (self.id < 2 ^ 58) × (digit < 4) }
+        ensures { result ≡ with_digit self digit }
+    {
+        SureDigits {
+            count: self.count + 1,
+            id: 4 * self.id + digit,
+        }
+    }
+}
+
+// The sure digits of the bent levels, and the numbers that are reached.
 #[derive(Clone, Copy)]
 pub struct BentDigits {
-    pub count: u32,
-    pub id: u64,
+    pub sure: SureDigits,
     pub numbers: Numbers,
 }
 
@@ -57,8 +70,12 @@ const BEND_UNIT: u64 = 16777216;
 // So many levels from the table on are bent: further down the edges are short enough.
 const BENT_LEVELS: u32 = 4;
 
-// The digit of a child that is not sure.
-const UNSURE: u64 = 4;
+// The bends where nothing is bent.
+const NO_BENDS: Bends = Bends {
+    a0: 0,
+    a1: 0,
+    a2: 0,
+};
 
 // How much a push outward in S0's octant adds along n.
 fn push_along(n: Vec3) -> i64
@@ -84,13 +101,10 @@ fn begin(p: Vec3, c: Corners) -> Numbers
     requires small_corners { SmallCorners c }
     ensures { result ≡ begin_of p c }
 {
-    let v0 = c.v0;
-    let v1 = c.v1;
-    let v2 = c.v2;
     Numbers {
-        d0: volume(v1, v2, p),
-        d1: volume(v2, v0, p),
-        d2: volume(v0, v1, p),
+        d0: volume(c.v1, c.v2, p),
+        d1: volume(c.v2, c.v0, p),
+        d2: volume(c.v0, c.v1, p),
         margin: FIRST_MARGIN,
     }
 }
@@ -99,23 +113,14 @@ fn begin(p: Vec3, c: Corners) -> Numbers
 fn not_negative(n: Numbers) -> bool
     ensures { result ≡ true → (pos 0 ≤ℤ n.d0) × (pos 0 ≤ℤ n.d1) × (pos 0 ≤ℤ n.d2) }
 {
-    if n.d0 < 0 {
-        return false;
-    }
-    if n.d1 < 0 {
-        return false;
-    }
-    0 <= n.d2
+    0 <= n.d0 && 0 <= n.d1 && 0 <= n.d2
 }
 
 // Whether p can be followed by the numbers n.
 fn can_start(p: Vec3, n: Numbers) -> bool
     ensures { result ≡ true → Started p n }
 {
-    if !vector_products::is_vector(p) {
-        return false;
-    }
-    not_negative(n)
+    vector_products::is_vector(p) && not_negative(n)
 }
 
 // Whether the place that the numbers follow is beyond the cut at the first corner, by more than the margin.
@@ -148,158 +153,118 @@ fn turned(n: Numbers) -> Numbers
     }
 }
 
-// d, less the part a of BEND_UNIT of it.
-fn less(d: i64, a: i64) -> i64
+// d, less the part a of BEND_UNIT of it. Without BENT a is 0, and d is given back with no quotient.
+fn less<const BENT: bool>(d: i64, a: i64) -> i64
     requires pos_bound { (pos 0 ≤ℤ d) × Upto (3 * 2 ^ 61) d }
     requires upto { Upto (2 ^ 20) a }
+    requires flat { BENT ≡ false → a ≡ pos 0 }
     ensures { (result ≡ less_of d a) × Upto (3 * 2 ^ 61 + 2 ^ 59) result }
 {
-    d - (d as u64 / BEND_UNIT) as i64 * a
+    if BENT {
+        d - (d as u64 / BEND_UNIT) as i64 * a
+    } else {
+        d
+    }
 }
 
 // Twice d, less that part of it.
-fn twice_less(d: i64, a: i64) -> i64
+fn twice_less<const BENT: bool>(d: i64, a: i64) -> i64
     requires pos_bound { (pos 0 ≤ℤ d) × Upto (2 ^ 61) d }
     requires upto { Upto (2 ^ 20) a }
+    requires flat { BENT ≡ false → a ≡ pos 0 }
     ensures { (result ≡ less_of (pos 2 *ℤ d) a) × Upto (3 * 2 ^ 61 + 2 ^ 59) result }
 {
-    less(2 * d, a)
+    less::<BENT>(2 * d, a)
 }
 
 // What x and y have beyond z, less that part of it.
-fn excess_less(x: i64, y: i64, z: i64, a: i64) -> i64
+fn excess_less<const BENT: bool>(x: i64, y: i64, z: i64, a: i64) -> i64
     requires upto { Upto (2 ^ 61) x × Upto (2 ^ 61) y × Upto (2 ^ 61) z }
     requires pos_bound { pos 0 ≤ℤ (x +ℤ y -ℤ z) }
     requires upto_2 { Upto (2 ^ 20) a }
+    requires flat { BENT ≡ false → a ≡ pos 0 }
     ensures { (result ≡ less_of (x +ℤ y -ℤ z) a) × Upto (3 * 2 ^ 61 + 2 ^ 59) result }
 {
-    less(x + y - z, a)
+    less::<BENT>(x + y - z, a)
 }
 
 // The numbers of the child at the first corner; b and c are the bends of the edges to the second and the third.
-fn at_corner(n: Numbers, b: i64, c: i64) -> Numbers
+fn at_corner<const BENT: bool>(n: Numbers, b: i64, c: i64) -> Numbers
     requires within { Within n }
     requires not_negative { NotNegative n }
     requires upto { Upto (2 ^ 20) b × Upto (2 ^ 20) c }
+    requires flat { BENT ≡ false → (b ≡ pos 0) × (c ≡ pos 0) }
     ensures { result ≡ at_corner n b c }
 {
     Numbers {
         d0: n.d0 - n.d1 - n.d2,
-        d1: twice_less(n.d1, b),
-        d2: twice_less(n.d2, c),
+        d1: twice_less::<BENT>(n.d1, b),
+        d2: twice_less::<BENT>(n.d2, c),
         margin: 2 * n.margin,
     }
 }
 
 // Those of the child in the middle, with the bends a.
-fn in_middle(n: Numbers, a: Bends) -> Numbers
+fn in_middle<const BENT: bool>(n: Numbers, a: Bends) -> Numbers
     requires within { Within n }
     requires in_middle { InMiddle n }
     requires small_bends { SmallBends a }
+    requires flat { BENT ≡ false → a ≡ unbent }
     ensures { result ≡ in_middle n a }
 {
     Numbers {
-        d0: excess_less(n.d1, n.d2, n.d0, a.a0),
-        d1: excess_less(n.d0, n.d2, n.d1, a.a1),
-        d2: excess_less(n.d0, n.d1, n.d2, a.a2),
+        d0: excess_less::<BENT>(n.d1, n.d2, n.d0, a.a0),
+        d1: excess_less::<BENT>(n.d0, n.d2, n.d1, a.a1),
+        d2: excess_less::<BENT>(n.d0, n.d1, n.d2, a.a2),
         margin: 2 * n.margin,
     }
 }
 
-// The numbers of the child at the first corner where nothing is bent.
-fn flat_at_corner(n: Numbers) -> Numbers
-    requires { Within n }
-    ensures { result ≡ at_corner n (pos 0) (pos 0) }
-{
-    Numbers {
-        d0: n.d0 - n.d1 - n.d2,
-        d1: 2 * n.d1,
-        d2: 2 * n.d2,
-        margin: 2 * n.margin,
-    }
-}
-
-// Those of the child in the middle.
-fn flat_in_middle(n: Numbers) -> Numbers
-    requires { Within n }
-    ensures { result ≡ in_middle n unbent }
-{
-    Numbers {
-        d0: n.d1 + n.d2 - n.d0,
-        d1: n.d0 + n.d2 - n.d1,
-        d2: n.d0 + n.d1 - n.d2,
-        margin: 2 * n.margin,
-    }
-}
-
-// The child that the numbers give; UNSURE where one of them is within the margin.
-fn sure_digit(n: Numbers) -> u64
+// The child that the numbers give; None where one of them is within the margin.
+// Kept: a test after the other; tried with an Option of bool for both sides of a cut and `?`, and a lookup takes a ninth more instructions.
+fn sure_digit(n: Numbers) -> Option<u64>
     requires within { Within n }
     requires not_negative { NotNegative n }
     ensures { Given n result }
 {
     if is_above(n) {
-        return 0;
+        return Some(0);
     }
     if !is_below(n) {
-        return UNSURE;
+        return None;
     }
     let next = turned(n);
     if is_above(next) {
-        return 1;
+        return Some(1);
     }
     if !is_below(next) {
-        return UNSURE;
+        return None;
     }
     let last = turned(next);
     if is_above(last) {
-        return 2;
+        return Some(2);
     }
     if !is_below(last) {
-        return UNSURE;
+        return None;
     }
-    3
+    Some(3)
 }
 
-// The numbers of the child that they give, with the bends a.
-fn bent_child(n: Numbers, a: Bends, digit: u64) -> Numbers
+// The numbers of the child that they give, with the bends a. Without BENT nothing is bent.
+fn child_numbers<const BENT: bool>(n: Numbers, a: Bends, digit: u64) -> Numbers
     requires within { Within n }
     requires not_negative { NotNegative n }
     requires small_bends { SmallBends a }
-    requires given { Given n digit × (digit < 4) }
+    requires flat { BENT ≡ false → a ≡ unbent }
+    requires given { Given n (Some digit) }
     ensures { Sure n a digit result }
 {
-    if digit == 0 {
-        return at_corner(n, a.a2, a.a1);
+    match digit {
+        0 => at_corner::<BENT>(n, a.a2, a.a1),
+        1 => at_corner::<BENT>(turned(n), a.a0, a.a2),
+        2 => at_corner::<BENT>(turned(turned(n)), a.a1, a.a0),
+        _ => in_middle::<BENT>(n, a),
     }
-    let next = turned(n);
-    if digit == 1 {
-        return at_corner(next, a.a0, a.a2);
-    }
-    if digit == 2 {
-        return at_corner(turned(next), a.a1, a.a0);
-    }
-    in_middle(n, a)
-}
-
-// The same where nothing is bent.
-fn flat_child(n: Numbers, digit: u64) -> Numbers
-    requires within { Within n }
-    requires not_negative { NotNegative n }
-    requires given { Given n digit × (digit < 4) }
-    ensures { Sure n unbent digit result }
-{
-    if digit == 0 {
-        return flat_at_corner(n);
-    }
-    let next = turned(n);
-    if digit == 1 {
-        return flat_at_corner(next);
-    }
-    if digit == 2 {
-        return flat_at_corner(turned(next));
-    }
-    flat_in_middle(n)
 }
 
 // The bends of the child number d, k levels below the table.
@@ -308,17 +273,10 @@ fn bends_below(k: u32, a: Bends, d: u64) -> Bends
     ensures { result ≡ bends_below (eqb k 0) d a }
 {
     if k == 0 {
-        mesh_bends::first_below(a, d)
+        mesh_bends::bends_below::<true>(a, d)
     } else {
-        mesh_bends::later_below(a, d)
+        mesh_bends::bends_below::<false>(a, d)
     }
-}
-
-// How many of n levels are bent.
-fn bent_levels(n: u32) -> u32
-    ensures { (result ≤ n) × (result ≤ 4) }
-{
-    if n < BENT_LEVELS { n } else { BENT_LEVELS }
 }
 
 // The digits of p below the entry of the table with the corners c and the identifier id, as many of n as are sure, but at most those of the bent levels.
@@ -329,37 +287,22 @@ fn bent_digits(p: Vec3, c: Corners, id: u64, n: u32) -> BentDigits
     requires id_bound { (id < 2 ^ 40) × (n ≤ 9) }
     ensures { Reached p c id n result }
 {
+    let mut sure = SureDigits { count: 0, id };
     let mut numbers = begin(p, c);
     if !can_start(p, numbers) {
-        return BentDigits {
-            count: 0,
-            id: id,
-            numbers: numbers,
-        };
+        return BentDigits { sure, numbers };
     }
-    let limit = bent_levels(n);
     let mut bends = mesh_bends::bends_of(c);
-    let mut i = id;
-    let mut k: u32 = 0;
-    while k < limit {
-        let digit = sure_digit(numbers);
-        if digit == UNSURE {
-            return BentDigits {
-                count: k,
-                id: i,
-                numbers: numbers,
-            };
-        }
-        numbers = bent_child(numbers, bends, digit);
+    let limit = n.min(BENT_LEVELS);
+    for k in 0..limit {
+        let Some(digit) = sure_digit(numbers) else {
+            return BentDigits { sure, numbers };
+        };
+        numbers = child_numbers::<true>(numbers, bends, digit);
         bends = bends_below(k, bends, digit);
-        i = 4 * i + digit;
-        k += 1;
+        sure = sure.with(digit);
     }
-    BentDigits {
-        count: k,
-        id: i,
-        numbers: numbers,
-    }
+    BentDigits { sure, numbers }
 }
 
 // The digits of p below the entry of the table with the corners c and the identifier id, as many of n as are sure.
@@ -371,48 +314,19 @@ pub fn jump(p: Vec3, c: Corners, id: u64, n: u32) -> SureDigits
     ensures { Jumped p c id n result }
 {
     let bent = bent_digits(p, c, id, n);
-    let mut i = bent.id;
-    let mut k = bent.count;
-    if k < BENT_LEVELS {
-        return SureDigits { count: k, id: i };
+    let mut sure = bent.sure;
+    if sure.count < BENT_LEVELS {
+        return sure;
     }
     let mut numbers = bent.numbers;
-    while k < n {
-        let digit = sure_digit(numbers);
-        if digit == UNSURE {
-            return SureDigits { count: k, id: i };
-        }
-        numbers = flat_child(numbers, digit);
-        i = 4 * i + digit;
-        k += 1;
+    for _level in BENT_LEVELS..n {
+        let Some(digit) = sure_digit(numbers) else {
+            return sure;
+        };
+        numbers = child_numbers::<false>(numbers, NO_BENDS, digit);
+        sure = sure.with(digit);
     }
-    SureDigits { count: k, id: i }
-}
-
-// The corners of the child number k; 3 and above is the one in the middle. At a corner only two midpoints are found.
-fn child_corners(c: Corners, k: u64) -> Corners
-    requires { SmallCorners c }
-    ensures { (result ≡ corners_of (child k (bare c))) × SmallCorners result }
-{
-    let v0 = c.v0;
-    let v1 = c.v1;
-    let v2 = c.v2;
-    if k == 0 {
-        let w1 = mesh_trixels::midpoint(v0, v2);
-        let w2 = mesh_trixels::midpoint(v0, v1);
-        return mesh_trixels::triple(v0, w2, w1);
-    }
-    let w0 = mesh_trixels::midpoint(v1, v2);
-    if k == 1 {
-        let w2 = mesh_trixels::midpoint(v0, v1);
-        return mesh_trixels::triple(v1, w0, w2);
-    }
-    let w1 = mesh_trixels::midpoint(v0, v2);
-    if k == 2 {
-        return mesh_trixels::triple(v2, w1, w0);
-    }
-    let w2 = mesh_trixels::midpoint(v0, v1);
-    mesh_trixels::triple(w0, w1, w2)
+    sure
 }
 
 // The corners n levels below c, by the last n digits of an identifier.
@@ -423,5 +337,5 @@ pub fn corners_along(c: Corners, id: u64, n: u32) -> Corners
     if n == 0 {
         return c;
     }
-    child_corners(corners_along(c, id / 4, n - 1), id % 4)
+    mesh_trixels::child_corners(corners_along(c, id / 4, n - 1), id % 4)
 }

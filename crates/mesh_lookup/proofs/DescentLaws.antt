@@ -25,13 +25,6 @@ pub record Descending (p : Vec3) (c₀ : Corners) (i₀ : ℕ) (c : Corners) (i 
   pub small : SmallCorners c
   pub left : (m : ℕ) → descend p m (bare c) i ≡ descend p (k + m) (bare c₀) i₀
 
-pub start : (p : Vec3) (c : Corners) (i : ℕ) → SmallCorners c → Descending p c i c i 0
-start p c i s = record {
-  room = λ b h. omega arith;
-  small = s;
-  left = λ m. let e : m ≡ 0 + m = omega arith in ap (λ l. descend p l (bare c) i) e;
-}
-
 one_level : (p : Vec3) (m : ℕ) (c : Corners) (i : ℕ) (s : Child) → ChildStep p c s → descend p m (bare s.corners) (4 * i + s.digit) ≡ descend p (suc m) (bare c) i
 unfolding descend
 one_level p m c i s h =

@@ -4,7 +4,7 @@
 
 ghost use Rattle.std.specs.Prelude.{◌≡◌, cond, ◌-◌, ◌^◌, ◌≤◌, ◌<◌, pos};
 ghost use Rattle.std.specs.Int.Signed.{le_z};
-ghost use Rattle.answer.specs.Calls.{number_of};
+ghost use Rattle.answer.specs.Calls.{answer_of};
 ghost use Rattle.vector.specs.Vectors as vectors;
 ghost use Rattle.vector.proofs.Sizes.{Small};
 ghost use Rattle.mesh.specs.Lookup as rule;
@@ -12,9 +12,9 @@ ghost use Rattle.mesh.specs.Lookup.{not_negative, north_root, south_root, root_n
 ghost use Rattle.mesh_table.specs.Table.{Row, vector_in};
 ghost use Rattle.mesh_trixels.specs.Corners.{bare, SmallCorners};
 ghost use Rattle.mesh_jump.specs.Jumps.{along};
-ghost use Rattle.mesh_lookup.specs.LookupSteps.{child_at, digit_by, ChildStep, Descent, turned_corners, TableStart};
+ghost use Rattle.mesh_lookup.specs.LookupSteps.{digit_by, ChildStep, Descent, turned_corners, TableStart};
 
-use answer::{DEPTH, Number, VECTOR};
+use answer::Refusal;
 use mesh::Corners;
 use mesh_jump::SureDigits;
 use vector::Vec3;
@@ -72,37 +72,37 @@ fn on_side(a: Vec3, b: Vec3, p: Vec3) -> bool
     exactly_on_side(a, b, p)
 }
 
-fn chosen(digit: u64, corners: Corners) -> Child
-    ensures { result ≡ child_at digit corners }
-{
-    Child {
-        digit: digit,
-        corners: corners,
-    }
-}
-
 // The child that p goes to, by the cuts; the middle of the edge v1 v2 is found only where it is needed.
 fn step(p: Vec3, c: Corners) -> Child
     requires small { Small p }
     requires small_corners { SmallCorners c }
     ensures { ChildStep p c result }
 {
-    let v0 = c.v0;
-    let v1 = c.v1;
-    let v2 = c.v2;
-    let w1 = mesh_trixels::midpoint(v0, v2);
-    let w2 = mesh_trixels::midpoint(v0, v1);
+    let w1 = mesh_trixels::midpoint(c.v0, c.v2);
+    let w2 = mesh_trixels::midpoint(c.v0, c.v1);
     if on_side(w2, w1, p) {
-        return chosen(0, mesh_trixels::triple(v0, w2, w1));
+        return Child {
+            digit: 0,
+            corners: mesh_trixels::triple(c.v0, w2, w1),
+        };
     }
-    let w0 = mesh_trixels::midpoint(v1, v2);
+    let w0 = mesh_trixels::midpoint(c.v1, c.v2);
     if on_side(w0, w2, p) {
-        return chosen(1, mesh_trixels::triple(v1, w0, w2));
+        return Child {
+            digit: 1,
+            corners: mesh_trixels::triple(c.v1, w0, w2),
+        };
     }
     if on_side(w1, w0, p) {
-        return chosen(2, mesh_trixels::triple(v2, w1, w0));
+        return Child {
+            digit: 2,
+            corners: mesh_trixels::triple(c.v2, w1, w0),
+        };
     }
-    chosen(3, mesh_trixels::triple(w0, w1, w2))
+    Child {
+        digit: 3,
+        corners: mesh_trixels::triple(w0, w1, w2),
+    }
 }
 
 // The trixel n levels down from that with the identifier id and the corners c.
@@ -112,32 +112,32 @@ fn descend(p: Vec3, c: Corners, id: u64, n: u32) -> LocatedTrixel
     requires id_bound { (id < 2 ^ 40) × (n ≤ 11) }
     ensures { Descent p c id n result }
 {
-    let mut at = c;
-    let mut i = id;
-    let mut k: u32 = 0;
-    while k < n {
-        let s = step(p, at);
-        at = s.corners;
-        i = 4 * i + s.digit;
-        k += 1;
+    let mut at = LocatedTrixel { id, corners: c };
+    for _level in 0..n {
+        let s = step(p, at.corners);
+        at = LocatedTrixel {
+            id: 4 * at.id + s.digit,
+            corners: s.corners,
+        };
     }
-    LocatedTrixel { id: i, corners: at }
+    at
 }
 
 // The root by the signs: S0 S1 S2 S3 N0 N1 N2 N3 are 0 to 7.
+// Kept: a match over three signs, whose eight results are the rule's table of roots.
 fn root_by(x: bool, y: bool, z: bool) -> u64
     ensures { (result ≡ cond z (north_root x y) (south_root x y)) × (result < 8) }
 {
-    if z {
-        if y {
-            return if x { 7 } else { 6 };
-        }
-        return if x { 4 } else { 5 };
+    match (z, y, x) {
+        (false, true, true) => 0,
+        (false, true, false) => 1,
+        (false, false, false) => 2,
+        (false, false, true) => 3,
+        (true, false, true) => 4,
+        (true, false, false) => 5,
+        (true, true, false) => 6,
+        (true, true, true) => 7,
     }
-    if y {
-        return if x { 0 } else { 1 };
-    }
-    if x { 3 } else { 2 }
 }
 
 fn root_number(p: Vec3) -> u64
@@ -218,10 +218,13 @@ fn rest_of(p: Vec3, c: Corners, sure: SureDigits, n: u32) -> u64
     requires id_bound { (sure.id < 2 ^ 40) × (sure.count ≤ n) × (n ≤ 9) }
     ensures { result ≡ rule.descend p (n - sure.count) (along sure.count sure.id (bare c)) sure.id }
 {
-    let id = sure.id;
-    let count = sure.count;
-    let end = descend(p, mesh_jump::corners_along(c, id, count), id, n - count);
-    end.id
+    descend(
+        p,
+        mesh_jump::corners_along(c, sure.id, sure.count),
+        sure.id,
+        n - sure.count,
+    )
+    .id
 }
 
 // The identifier of p n levels below the trixel t of a root: the sure digits by a jump in S0, those that are left from the entry turned to the root.
@@ -251,29 +254,29 @@ fn identifier(p: Vec3, depth: u32) -> u64
     ensures { result ≡ rule.identifier p depth }
 {
     let root = root_number(p);
-    if depth == 1 {
-        return 8 + root;
+    match depth {
+        1 => 8 + root,
+        2 => descend(p, mesh_trixels::root_corners(root), 8 + root, 1).id,
+        _ => {
+            let start = from_table(p, root);
+            if depth == 3 {
+                start.id
+            } else {
+                identifier_below(p, root, start, depth - 3)
+            }
+        }
     }
-    if depth == 2 {
-        let end = descend(p, mesh_trixels::root_corners(root), 8 + root, 1);
-        return end.id;
-    }
-    let start = from_table(p, root);
-    if depth == 3 {
-        return start.id;
-    }
-    identifier_below(p, root, start, depth - 3)
 }
 
 // The identifier of the trixel that a pointing lies in, or the refusal 5 or 8.
-pub fn lookup(p: Vec3, depth: u32) -> Number
-    ensures { number_of result ≡ rule.lookup p depth }
+pub fn lookup(p: Vec3, depth: u32) -> Result<u64, Refusal>
+    ensures { answer_of result ≡ rule.lookup p depth }
 {
     if !limits::is_depth(depth) {
-        return Number::Refused(DEPTH);
+        return Err(Refusal::Depth);
     }
-    if vector_products::is_vector(p) {
-        return Number::Gives(identifier(p, depth));
+    if !vector_products::is_vector(p) {
+        return Err(Refusal::Vector);
     }
-    Number::Refused(VECTOR)
+    Ok(identifier(p, depth))
 }

@@ -2,18 +2,35 @@
 -- value, and is below 4 to the power of the bytes read. Assumes nothing.
 use Prim.Native.Nat.{ℕ, suc, ◌+◌, ◌-◌, ◌*◌, ◌^◌, ◌≤◌, ◌<◌}
 use native.Mathlib.Nat.{pow-succ', pow-le-pow_right}
-use native.Mathlib.Numerals.{add-one}
+use native.Mathlib.Numerals.{add-one, unary_clauses}
 use native.Mathlib.Omega.{arith}
 use mathlib.Core.Path.{◌≡◌, refl, sym, ap, ◌∙◌}
-use mathlib.Core.Bool.{Bool, true, false, cond, ◌&&◌, false≢true}
+use mathlib.Core.Bool.{true, false, cond, ◌&&◌, false≢true}
 use mathlib.Core.List.{List, [], ◌∷◌}
 use lib.Dec.{leb, eqb, lit<}
-use lib.ListN.{length, get_or, drop, drop_of_length-le}
+use lib.ListN.{length, get_or, drop, take, drop_of_length-le, length-drop}
+use Rattle.std.proofs.Common.{get_or-drop}
 use lib.Seq.{drop-cons}
 use borrow.Author.Tests.{le-leb, lt-leb}
 use Rattle.algebra.proofs.Tests.{and_left, and_right, and_no_right}
 use Rattle.mesh.specs.Names.{letter_s, digit0, is_digit, are_digits, is_letter, is_name, with_digits, value_of}
 use Rattle.mesh.proofs.NamesInverse.{is_name_law, digit_small, letter_value_law}
+
+-- ---- the bytes after the letter
+
+all_taken : (s : List ℕ) → take (length s) s ≡ s
+all_taken [] = refl
+all_taken (c ∷ cs) = ap (λ t. c ∷ t) (all_taken cs)
+
+pub after_letter : (s : List ℕ) → take (length s - 1) (drop 1 s) ≡ drop 1 s
+after_letter [] = refl
+after_letter (c ∷ cs) = simp unary_clauses (all_taken cs)
+
+pub after_letter_at : (s : List ℕ) (k : ℕ) → get_or (take (length s - 1) (drop 1 s)) k 0 ≡ get_or s (k + 1) 0
+after_letter_at s k = ap (λ t. get_or t k 0) (after_letter s) ∙ get_or-drop 1 s k 0 ∙ ap (λ i. get_or s i 0) (omega arith)
+
+pub after_letter_length : (s : List ℕ) → length (take (length s - 1) (drop 1 s)) ≡ length s - 1
+after_letter_length s = ap length (after_letter s) ∙ length-drop 1 s
 
 -- ---- the tests
 
@@ -22,13 +39,9 @@ module _ (s : List ℕ) (i : ℕ) where
   digit_left : i < length s → drop i s ≡ get_or s i 0 ∷ drop (i + 1) s
   digit_left h = rw (add-one, drop-cons s i 0)
 
-  pub digits_at : {t : Bool} → i < length s → is_digit (get_or s i 0) ≡ t → are_digits (drop i s) ≡ t && are_digits (drop (i + 1) s)
+  digits_at : i < length s → are_digits (drop i s) ≡ is_digit (get_or s i 0) && are_digits (drop (i + 1) s)
   unfolding are_digits
-  digits_at h e = ap are_digits (digit_left h) ∙ ap (λ t. t && are_digits (drop (i + 1) s)) e
-
-  pub digits_end : length s ≤ i → are_digits (drop i s) ≡ true
-  unfolding are_digits
-  digits_end h = ap are_digits (drop_of_length-le s h)
+  digits_at h = ap are_digits (digit_left h)
 
 pub too_short : (s : List ℕ) → length s < 2 → is_name s ≡ false
 unfolding is_name
@@ -73,7 +86,7 @@ read_letter (c ∷ cs) e =
 
 module _ (s : List ℕ) (a i : ℕ) (r : Read s a i) where
   pub next_digit : i < length s → (digit0 ≤ get_or s i 0) × (get_or s i 0 - digit0 < 4)
-  next_digit h = digit_small (get_or s i 0) (and_left (is_digit (get_or s i 0)) (are_digits (drop (i + 1) s)) (sym (digits_at s i h refl) ∙ r.left))
+  next_digit h = digit_small (get_or s i 0) (and_left (is_digit (get_or s i 0)) (are_digits (drop (i + 1) s)) (sym (digits_at s i h) ∙ r.left))
 
   pub next_fits : i < length s → 4 * a + (get_or s i 0 - digit0) < 2 ^ 64
   next_fits h =
@@ -85,7 +98,7 @@ module _ (s : List ℕ) (a i : ℕ) (r : Read s a i) where
   read_digit h = record {
     short = r.short;
     small = rw add-one (omega (arith, next_digit h, pow-succ' 4 i));
-    left = and_right (is_digit (get_or s i 0)) (are_digits (drop (i + 1) s)) (sym (digits_at s i h refl) ∙ r.left);
+    left = and_right (is_digit (get_or s i 0)) (are_digits (drop (i + 1) s)) (sym (digits_at s i h) ∙ r.left);
     value = sym (ap (with_digits a) (digit_left s i h)) ∙ r.value;
   }
 

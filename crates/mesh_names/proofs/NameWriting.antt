@@ -24,9 +24,6 @@ pub record Written (id d : ℕ) (before xs : List ℕ) (rest k : ℕ) : Type 0 w
   pub front : rest / 4 ^ k ≡ id / 4 ^ d
   pub name : digits k rest ++ drop (k + 1) xs ≡ digits d id ++ drop (d + 1) before
 
-pub written_none : (id d : ℕ) (before : List ℕ) → Written id d before before id d
-written_none id d before = record { same = refl; most = omega arith; front = refl; name = refl }
-
 -- a stored element, and what stands after it
 set_then_drop : (xs : List ℕ) (k a : ℕ) → k < length xs → drop k (set xs k a) ≡ a ∷ drop (k + 1) xs
 set_then_drop xs k a h =
@@ -55,7 +52,7 @@ module _ (id d : ℕ) (before xs : List ℕ) (rest : ℕ) (room : d < length bef
   written_digit zero h w = absurd (omega arith)
   written_digit (suc k) h w = subst (Written id d before (set xs (suc k) (digit0 + rest % 4)) (rest / 4)) (omega arith) (digit_more k w)
 
-  pub written_all : (k : ℕ) → k ≤ 0 → Written id d before xs rest k → set xs 0 (letter rest) ≡ name_at d id ++ drop (d + 1) before
+  pub written_all : (k : ℕ) → k < 1 → Written id d before xs rest k → set xs 0 (letter rest) ≡ name_at d id ++ drop (d + 1) before
   unfolding digits
   written_all zero h w =
       let r : rest ≡ id / 4 ^ d = omega (arith, w.front) in

@@ -2,14 +2,15 @@
 #![tactic(auto)]
 
 ghost use Rattle.std.specs.Prelude.{◌≡◌, true, cond, ◌++◌, ◌+◌, ◌%◌, ◌≤◌, ◌<◌, eqb, length, drop};
-ghost use Rattle.answer.specs.Calls.{number_of};
+ghost use Rattle.answer.specs.Calls.{answer_of};
 ghost use Rattle.mesh.specs.Identifiers.{depth_of};
 ghost use Rattle.mesh.specs.Names.{letter_s, digit0, letter, name_at, is_letter, is_digit, are_digits, is_name, value_of, identifier_of};
 ghost use Rattle.mesh.specs.Answers.{name_answer, name_after};
 
-use answer::{NAME, Number, SPACE};
+use answer::Refusal;
 
 // The depth of an identifier, 1 to 31; 0 where it is none. An identifier of depth d has 2·d + 2 bits.
+// Kept: 0 and no Option, as the rule's `depth_of` gives 0 where a number is no identifier.
 pub fn depth_of(id: u64) -> u32
     ensures value { result ≡ depth_of id }
     ensures upper_bound { result ≤ 31 }
@@ -44,55 +45,46 @@ fn write_name(id: u64, depth: usize, out: &mut [u8])
     ensures { out.new ≡ name_at depth id ++ drop (depth + 1) out.old }
 {
     let mut rest = id;
-    let mut at = depth;
-    while 0 < at {
+    for at in (1..=depth).rev() {
         out[at] = last_digit(rest);
         rest /= 4;
-        at -= 1;
     }
     out[0] = letter_of(rest);
 }
 
 // The name of an identifier, written at the beginning of `out`: its length, or a refusal (11, then 10), and then nothing is written.
-pub fn name_of(id: u64, out: &mut [u8]) -> Number
-    ensures result_value { number_of result ≡ name_answer id out.old }
+pub fn name_of(id: u64, out: &mut [u8]) -> Result<u64, Refusal>
+    ensures result_value { answer_of result ≡ name_answer id out.old }
     ensures out_after { out.new ≡ name_after id out.old }
 {
     let depth = depth_of(id) as usize;
     if depth == 0 {
-        return Number::Refused(NAME);
+        return Err(Refusal::Name);
     }
     if out.len() <= depth {
-        return Number::Refused(SPACE);
+        return Err(Refusal::Space);
     }
     write_name(id, depth, out);
-    Number::Gives(depth as u64 + 1)
+    Ok(depth as u64 + 1)
 }
 
 fn is_letter(c: u8) -> bool
     ensures { result ≡ is_letter c }
 {
-    c == b'S' || c == b'N'
+    matches!(c, b'S' | b'N')
 }
 
 fn is_digit(c: u8) -> bool
     ensures { result ≡ is_digit c }
 {
-    b'0' <= c && c <= b'3'
+    matches!(c, b'0'..=b'3')
 }
 
-// Whether all bytes after the first are digits.
-fn are_digits(name: &[u8]) -> bool
-    ensures { result ≡ are_digits (drop 1 name.now) }
+// Whether all bytes are digits.
+fn are_digits(bytes: &[u8]) -> bool
+    ensures { result ≡ are_digits bytes.now }
 {
-    let mut i = 1;
-    while i < name.len() {
-        if !is_digit(name[i]) {
-            return false;
-        }
-        i += 1;
-    }
-    true
+    bytes.iter().all(|c| is_digit(*c))
 }
 
 // The longest name: a letter and 31 digits.
@@ -111,7 +103,7 @@ fn is_name(name: &[u8]) -> bool
     if !is_letter(name[0]) {
         return false;
     }
-    are_digits(name)
+    are_digits(&name[1..])
 }
 
 // What a letter stands for: 2 or 3.
@@ -127,21 +119,19 @@ fn value_of(name: &[u8]) -> u64
     ensures { result ≡ value_of name.now }
 {
     let mut id = letter_value(name[0]);
-    let mut i = 1;
-    while i < name.len() {
-        id = 4 * id + (name[i] - b'0') as u64;
-        i += 1;
+    for &c in &name[1..] {
+        id = 4 * id + u64::from(c - b'0');
     }
     id
 }
 
 // The identifier of a name, or the refusal 11.
-pub fn id_of(name: &[u8]) -> Number
-    ensures { number_of result ≡ identifier_of name.now }
+pub fn id_of(name: &[u8]) -> Result<u64, Refusal>
+    ensures { answer_of result ≡ identifier_of name.now }
 {
     if is_name(name) {
-        Number::Gives(value_of(name))
+        Ok(value_of(name))
     } else {
-        Number::Refused(NAME)
+        Err(Refusal::Name)
     }
 }

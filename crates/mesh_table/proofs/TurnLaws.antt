@@ -1,4 +1,4 @@
--- A rotation undone: each sign taken twice is none, and so is the swapping. And signs and choices of numbers that are handed on by their bits.
+-- A rotation undone: each sign taken twice is none, and so is the swapping. And signs of numbers that are handed on by their bits.
 -- Assumes nothing.
 use mathlib.Core.Path.{◌≡◌, refl, sym, ap, subst, ◌∙◌}
 use mathlib.Core.Bool.{Bool, true, false, cond}
@@ -22,14 +22,15 @@ swapped_back : (s : Bool) (a b : ℤ) → (cond s (cond s a b) (cond s b a) ≡ 
 swapped_back true a b = refl
 swapped_back false a b = refl
 
--- the signs first, then the swapping
-abbrev pub back_by : Rotation → Vec3 → Vec3
-back_by k p =
-    let x = negated_if k.x p.x in
-    let y = negated_if k.y p.y in
-    vec (cond k.swaps y x) (cond k.swaps x y) (negated_if k.z p.z)
+-- x and y swapped where s says so
+abbrev pub swapped_by : Bool → Vec3 → Vec3
+swapped_by s a = vec (cond s a.y a.x) (cond s a.x a.y) a.z
 
-pub turned_there : (k : Rotation) (p : Vec3) → turned_by k (back_by k p) ≡ p
+abbrev pub signed_by : Rotation → Vec3 → Vec3
+signed_by k a = vec (negated_if k.x a.x) (negated_if k.y a.y) (negated_if k.z a.z)
+
+-- the signs first, then the swapping
+pub turned_there : (k : Rotation) (p : Vec3) → turned_by k (swapped_by k.swaps (signed_by k p)) ≡ p
 turned_there k p =
     let x = negated_if k.x p.x in
     let y = negated_if k.y p.y in
@@ -44,9 +45,6 @@ bits z = to_z w64 (of_z w64 z)
 
 pub sign : (b : Bool) {n m r : ℤ} → Upto Kℕ n → r ≡ negated_if b (bits n) → n ≡ m → r ≡ negated_if b m
 sign b h e is = e ∙ ap (negated_if b) ((held h tt).eq ∙ is)
-
-pub choice : (b : Bool) {n m n' m' r : ℤ} → Upto Kℕ n → Upto Kℕ m → r ≡ cond b (bits n) (bits m) → n ≡ n' → m ≡ m' → r ≡ cond b n' m'
-choice b h k e is is' = e ∙ (λ j. cond b (((held h tt).eq ∙ is) j) (((held k tt).eq ∙ is') j))
 
 pub built : {x y z : ℤ} {v : Vec3} → Upto Kℕ x → Upto Kℕ y → Upto Kℕ z → vec x y z ≡ v
     → (vec (bits x) (bits y) (bits z) ≡ v) × Small (vec (bits x) (bits y) (bits z))

@@ -5,6 +5,7 @@
 ghost use Rattle.std.specs.Prelude.{◌≡◌, cond, ◌+◌, ◌<◌};
 ghost use Rattle.algebra.proofs.Sizes.{Upto};
 ghost use Rattle.vector.specs.Numbers.{Kℕ};
+ghost use Rattle.vector.specs.Vectors.{vec};
 ghost use Rattle.vector.proofs.Sizes.{Small};
 ghost use Rattle.mesh.specs.Rotations as rule;
 ghost use Rattle.mesh_trixels.specs.Corners.{triple_of, SmallCorners};
@@ -14,6 +15,7 @@ use mesh::{Corners, Rotation};
 use vector::Vec3;
 
 // x y z of v0 v1 v2 p0 p1 p2 of each trixel, in identifier order, four trixels for each child of S0. Printed by tools/table.py.
+// Kept: the clauses of `row`, `vector_at` and `corners_at` speak of a row as numbers (`row_of`, `Row`), so it is no struct and no array of vectors.
 #[rattlefmt::skip]
 const FIRST_ROW: [i32; 72] = [
     1048576, 0, 0, 968758, 0, -401272, 968758, 401272, 0, 434333, -1048576, 1048576, 0, 0, -1048576, 0, 1048576, 0,
@@ -51,16 +53,12 @@ pub fn row(d: u64) -> [i32; 72]
     requires { d < 4 }
     ensures { result ≡ row_of d }
 {
-    if d == 0 {
-        return FIRST_ROW;
+    match d {
+        0 => FIRST_ROW,
+        1 => SECOND_ROW,
+        2 => THIRD_ROW,
+        _ => LAST_ROW,
     }
-    if d == 1 {
-        return SECOND_ROW;
-    }
-    if d == 2 {
-        return THIRD_ROW;
-    }
-    LAST_ROW
 }
 
 // Vector k of a row: corner or normal number k % 6 of its trixel k / 6.
@@ -96,11 +94,32 @@ fn negated_if(b: bool, n: i64) -> i64
     if b { -n } else { n }
 }
 
-fn either(b: bool, n: i64, m: i64) -> i64
-    requires { Upto Kℕ n × Upto Kℕ m }
-    ensures { (result ≡ cond b n m) × Upto Kℕ result }
+// A vector with each component negated where the rotation says so.
+fn signed(k: Rotation, a: Vec3) -> Vec3
+    requires { Small a }
+    ensures { (result ≡ vec (rule.negated_if k.x a.x) (rule.negated_if k.y a.y) (rule.negated_if k.z a.z)) × Small result }
 {
-    if b { n } else { m }
+    Vec3 {
+        x: negated_if(k.x, a.x),
+        y: negated_if(k.y, a.y),
+        z: negated_if(k.z, a.z),
+    }
+}
+
+// A vector with x and y in each other's place where b says so.
+fn swapped_if(b: bool, a: Vec3) -> Vec3
+    requires { Small a }
+    ensures { (result ≡ vec (cond b a.y a.x) (cond b a.x a.y) a.z) × Small result }
+{
+    if b {
+        Vec3 {
+            x: a.y,
+            y: a.x,
+            z: a.z,
+        }
+    } else {
+        a
+    }
 }
 
 // The vector that a rotation turns to p.
@@ -108,13 +127,7 @@ pub fn turned_back(k: Rotation, p: Vec3) -> Vec3
     requires { Small p }
     ensures { (rule.turned_by k result ≡ p) × Small result }
 {
-    let x = negated_if(k.x, p.x);
-    let y = negated_if(k.y, p.y);
-    Vec3 {
-        x: either(k.swaps, y, x),
-        y: either(k.swaps, x, y),
-        z: negated_if(k.z, p.z),
-    }
+    swapped_if(k.swaps, signed(k, p))
 }
 
 // A vector of the table, turned.
@@ -122,11 +135,7 @@ fn turned(k: Rotation, a: Vec3) -> Vec3
     requires { Small a }
     ensures { (result ≡ rule.turned_by k a) × Small result }
 {
-    Vec3 {
-        x: negated_if(k.x, either(k.swaps, a.y, a.x)),
-        y: negated_if(k.y, either(k.swaps, a.x, a.y)),
-        z: negated_if(k.z, a.z),
-    }
+    signed(k, swapped_if(k.swaps, a))
 }
 
 // The corners v0 v1 v2 of the entry that begins at vector i of a row.
@@ -136,10 +145,11 @@ pub fn corners_at(row: &[i32; 72], i: usize) -> Corners
     ensures value { result ≡ triple_of (vector_in row.now i) (vector_in row.now (i + 1)) (vector_in row.now (i + 2)) }
     ensures small_corners { SmallCorners result }
 {
-    let v0 = vector_at(row, i);
-    let v1 = vector_at(row, i + 1);
-    let v2 = vector_at(row, i + 2);
-    mesh_trixels::triple(v0, v1, v2)
+    mesh_trixels::triple(
+        vector_at(row, i),
+        vector_at(row, i + 1),
+        vector_at(row, i + 2),
+    )
 }
 
 // The corners of an entry of S0's, turned to a root.
@@ -148,8 +158,5 @@ pub fn turned_corners(k: Rotation, c: Corners) -> Corners
     ensures value { result ≡ triple_of (rule.turned_by k c.v0) (rule.turned_by k c.v1) (rule.turned_by k c.v2) }
     ensures small_corners { SmallCorners result }
 {
-    let v0 = turned(k, c.v0);
-    let v1 = turned(k, c.v1);
-    let v2 = turned(k, c.v2);
-    mesh_trixels::triple(v0, v1, v2)
+    mesh_trixels::triple(turned(k, c.v0), turned(k, c.v1), turned(k, c.v2))
 }

@@ -3,18 +3,20 @@
 #![tactic(auto)]
 
 ghost use Rattle.std.specs.Prelude.{◌≡◌, ◌*◌, ◌^◌, ◌≤◌, ◌<◌};
+ghost use Rattle.answer.specs.Calls.{answer_of};
 ghost use Rattle.vector.proofs.Sizes.{Small};
 ghost use Rattle.vector.specs.Vectors.{unit, plus};
 ghost use Rattle.mesh.specs.Trixels as rule;
 ghost use Rattle.mesh.specs.Identifiers as identifiers;
 ghost use Rattle.mesh_trixels.specs.Corners.{triple_of, bare, SmallCorners, SmallTrixel, SmallCut};
-ghost use Rattle.mesh.specs.Answers.{corners_given};
 ghost use Rattle.vector.specs.Vectors as vectors;
 
-use answer::NAME;
+use answer::Refusal;
 use limits::{K, MINUS_K};
-use mesh::{Corners, CornersOf, Cut, Trixel};
+use mesh::{Corners, Cut, Trixel};
 use vector::Vec3;
+
+// Kept: the rule makes trixels, cuts and corners of any vectors (`child`, `corners_of`), and `lookup` takes any, so that they are small is a clause, no invariant.
 
 // Three corners.
 pub fn triple(a: Vec3, b: Vec3, c: Vec3) -> Corners
@@ -59,51 +61,34 @@ pub fn root_corners(k: u64) -> Corners
         y: 0,
         z: MINUS_K,
     };
-    if k == 0 {
-        return triple(x, down, y);
+    match k {
+        0 => triple(x, down, y),
+        1 => triple(y, down, left),
+        2 => triple(left, down, back),
+        3 => triple(back, down, x),
+        4 => triple(x, z, back),
+        5 => triple(back, z, left),
+        6 => triple(left, z, y),
+        _ => triple(y, z, x),
     }
-    if k == 1 {
-        return triple(y, down, left);
-    }
-    if k == 2 {
-        return triple(left, down, back);
-    }
-    if k == 3 {
-        return triple(back, down, x);
-    }
-    if k == 4 {
-        return triple(x, z, back);
-    }
-    if k == 5 {
-        return triple(back, z, left);
-    }
-    if k == 6 {
-        return triple(left, z, y);
-    }
-    triple(y, z, x)
 }
 
-// The corners of the child number k, by the table of children; 3 and above is the one in the middle.
-fn child_corners(c: Corners, k: u64) -> Corners
+// The corners of the child number k, by the table of children; 3 and above is the one in the middle. At a corner only two midpoints are found.
+#[inline]
+pub fn child_corners(c: Corners, k: u64) -> Corners
     requires { SmallCorners c }
     ensures { (result ≡ identifiers.corners_of (rule.child k (bare c))) × SmallCorners result }
 {
-    let v0 = c.v0;
-    let v1 = c.v1;
-    let v2 = c.v2;
-    let w0 = midpoint(v1, v2);
-    let w1 = midpoint(v0, v2);
-    let w2 = midpoint(v0, v1);
-    if k == 0 {
-        return triple(v0, w2, w1);
+    match k {
+        0 => triple(c.v0, midpoint(c.v0, c.v1), midpoint(c.v0, c.v2)),
+        1 => triple(c.v1, midpoint(c.v1, c.v2), midpoint(c.v0, c.v1)),
+        2 => triple(c.v2, midpoint(c.v0, c.v2), midpoint(c.v1, c.v2)),
+        _ => triple(
+            midpoint(c.v1, c.v2),
+            midpoint(c.v0, c.v2),
+            midpoint(c.v0, c.v1),
+        ),
     }
-    if k == 1 {
-        return triple(v1, w0, w2);
-    }
-    if k == 2 {
-        return triple(v2, w1, w0);
-    }
-    triple(w0, w1, w2)
 }
 
 // The identifier of S0: the roots are 8 to 15.
@@ -122,14 +107,14 @@ fn corners_below(id: u64, n: u32) -> Corners
 }
 
 // The corners of a trixel to depth 12, or the refusal 11.
-pub fn corners_of(id: u64) -> CornersOf
-    ensures { corners_given result ≡ identifiers.corners id }
+pub fn corners_of(id: u64) -> Result<Corners, Refusal>
+    ensures { answer_of result ≡ identifiers.corners id }
 {
     let depth = mesh_names::depth_of(id);
     if !limits::is_depth(depth) {
-        return CornersOf::Refused(NAME);
+        return Err(Refusal::Name);
     }
-    CornersOf::Gives(corners_below(id, depth - 1))
+    Ok(corners_below(id, depth - 1))
 }
 
 // A root: S0 S1 S2 S3 N0 N1 N2 N3 are 0 to 7. Its normals are its corners.
@@ -138,16 +123,13 @@ pub fn root(k: u64) -> Trixel
     ensures { (result ≡ rule.root_trixel k) × SmallTrixel result }
 {
     let c = root_corners(k);
-    let v0 = c.v0;
-    let v1 = c.v1;
-    let v2 = c.v2;
     Trixel {
-        v0: v0,
-        v1: v1,
-        v2: v2,
-        p0: v0,
-        p1: v1,
-        p2: v2,
+        v0: c.v0,
+        v1: c.v1,
+        v2: c.v2,
+        p0: c.v0,
+        p1: c.v1,
+        p2: c.v2,
     }
 }
 
@@ -165,16 +147,13 @@ pub fn cut(t: Trixel) -> Cut
     requires { SmallTrixel t }
     ensures { (result ≡ rule.cut t) × SmallCut result }
 {
-    let v0 = t.v0;
-    let v1 = t.v1;
-    let v2 = t.v2;
-    let w0 = midpoint(v1, v2);
-    let w1 = midpoint(v0, v2);
-    let w2 = midpoint(v0, v1);
+    let w0 = midpoint(t.v1, t.v2);
+    let w1 = midpoint(t.v0, t.v2);
+    let w2 = midpoint(t.v0, t.v1);
     Cut {
-        w0: w0,
-        w1: w1,
-        w2: w2,
+        w0,
+        w1,
+        w2,
         c0: normal(w2, w1),
         c1: normal(w0, w2),
         c2: normal(w1, w0),
@@ -187,19 +166,13 @@ pub fn child0(t: Trixel, c: Cut) -> Trixel
     requires small_cut { SmallCut c }
     ensures { (result ≡ rule.child0 t c) × SmallTrixel result }
 {
-    let v0 = t.v0;
-    let w1 = c.w1;
-    let w2 = c.w2;
-    let c0 = c.c0;
-    let p1 = t.p1;
-    let p2 = t.p2;
     Trixel {
-        v0: v0,
-        v1: w2,
-        v2: w1,
-        p0: c0,
-        p1: p1,
-        p2: p2,
+        v0: t.v0,
+        v1: c.w2,
+        v2: c.w1,
+        p0: c.c0,
+        p1: t.p1,
+        p2: t.p2,
     }
 }
 
@@ -209,19 +182,13 @@ pub fn child1(t: Trixel, c: Cut) -> Trixel
     requires small_cut { SmallCut c }
     ensures { (result ≡ rule.child1 t c) × SmallTrixel result }
 {
-    let v1 = t.v1;
-    let w0 = c.w0;
-    let w2 = c.w2;
-    let c1 = c.c1;
-    let p0 = t.p0;
-    let p2 = t.p2;
     Trixel {
-        v0: v1,
-        v1: w0,
-        v2: w2,
-        p0: c1,
-        p1: p2,
-        p2: p0,
+        v0: t.v1,
+        v1: c.w0,
+        v2: c.w2,
+        p0: c.c1,
+        p1: t.p2,
+        p2: t.p0,
     }
 }
 
@@ -231,19 +198,13 @@ pub fn child2(t: Trixel, c: Cut) -> Trixel
     requires small_cut { SmallCut c }
     ensures { (result ≡ rule.child2 t c) × SmallTrixel result }
 {
-    let v2 = t.v2;
-    let w0 = c.w0;
-    let w1 = c.w1;
-    let c2 = c.c2;
-    let p0 = t.p0;
-    let p1 = t.p1;
     Trixel {
-        v0: v2,
-        v1: w1,
-        v2: w0,
-        p0: c2,
-        p1: p0,
-        p2: p1,
+        v0: t.v2,
+        v1: c.w1,
+        v2: c.w0,
+        p0: c.c2,
+        p1: t.p0,
+        p2: t.p1,
     }
 }
 
@@ -252,18 +213,12 @@ pub fn child3(t: Trixel, c: Cut) -> Trixel
     requires { SmallCut c }
     ensures { (result ≡ rule.child3 t c) × SmallTrixel result }
 {
-    let w0 = c.w0;
-    let w1 = c.w1;
-    let w2 = c.w2;
-    let c0 = c.c0;
-    let c1 = c.c1;
-    let c2 = c.c2;
     Trixel {
-        v0: w0,
-        v1: w1,
-        v2: w2,
-        p0: vector_products::negated(c0),
-        p1: vector_products::negated(c1),
-        p2: vector_products::negated(c2),
+        v0: c.w0,
+        v1: c.w1,
+        v2: c.w2,
+        p0: vector_products::negated(c.c0),
+        p1: vector_products::negated(c.c1),
+        p2: vector_products::negated(c.c2),
     }
 }

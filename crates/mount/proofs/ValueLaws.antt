@@ -18,7 +18,7 @@ use borrow.Author.Tests.{le-leb, lt-leb, leb-true, leb-false}
 use Rattle.answer.specs.Answer as answer
 use Rattle.answer.specs.Answer.{Answer, gives, check}
 use Rattle.vector.specs.Numbers.{signed}
-use Rattle.mount.specs.Floats.{width_of, negative, field, fraction, denominator, usable, component, component_of}
+use Rattle.mount.specs.Floats.{width_of, negative, fraction, denominator, usable, component, component_of}
 use Rattle.mount.specs.Values as values
 use Rattle.mount.proofs.WidthLaws.{component_is}
 

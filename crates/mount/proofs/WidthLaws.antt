@@ -201,14 +201,8 @@ signed_zero true = refl
 signed_zero false = refl
 
 module _ {w : Width} {unit half sign : ℕ} (k : WidthPowers w unit half sign) where
-  pub unit_some : 0 < unit
-  unit_some = rw k.unit_is (pow_pos w.fraction)
-
   pub unit_high : unit ≤ 2 ^ 52
   unit_high = rw k.unit_is (pow_mono k.usual.short)
-
-  pub sign_some : 0 < sign
-  sign_some = rw k.sign_is (pow_pos (w.exponent + w.fraction))
 
   pub half_high : half ≤ 1024
   half_high = rw k.half_is (omega (arith, bias_high w k.usual))
@@ -228,9 +222,6 @@ module _ {w : Width} {unit half sign : ℕ} (k : WidthPowers w unit half sign) w
 
       field_is : b % sign / unit ≡ field w b
       field_is = rw (k.unit_is, k.sign_is) (pow.field b w.exponent w.fraction)
-
-      pub field_fits : b % sign / unit ≤ half - 1
-      field_fits = rw (field_is, k.half_is) (field_high w k.usual b at_most_one)
 
       pub answered_zero : b % sign / unit + 20 < half - 1 → gives (pos 0) ≡ component w b
       answered_zero l =

@@ -10,15 +10,13 @@
 --   scaled w b        the float times 2^20, truncated toward zero
 --   component w b     the answer: check 12
 --   component_of f v   the component of a float v of a format f, by its bits
---   component_given r   the answer of a function in code
 use Rattle.std.specs.Prelude.{ℕ, ◌+◌, ◌-◌, ◌*◌, ◌/◌, ◌%◌, ◌^◌, max, Bool, cond, not, ◌&&◌, leb, eqb, ℤ, pos, ◌*ℤ◌}
 use Rattle.std.specs.Float.Ieee as Ieee
 use Rattle.std.specs.Float.{Format, binary32, binary64}
 use Rattle.std.specs.Float.Ieee.{to_bits}
-use Rattle.answer.specs.Answer.{Answer, gives, check, Float, refused}
+use Rattle.answer.specs.Answer.{Answer, gives, check, Float}
 use Rattle.vector.specs.Numbers.{signed, quot}
 use Rattle.mount.specs.declared.Width.{Width}
-use Rattle.mount.specs.declared.ComponentOf.{ComponentOf}
 
 abbrev pub single : Width
 single = record { exponent = 8; fraction = 23 }
@@ -71,7 +69,3 @@ component w b = check Float (usable w b) (gives (scaled w b))
 
 abbrev pub component_of : Format → Ieee.Float → Answer ℤ
 component_of f v = component (width_of f) (to_bits f v)
-
-abbrev pub component_given : ComponentOf → Answer ℤ
-component_given (ComponentOf.Gives n) = gives n
-component_given (ComponentOf.Refused n) = refused n

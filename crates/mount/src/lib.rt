@@ -3,17 +3,16 @@
 #![tactic(auto)]
 
 ghost use Rattle.std.specs.Prelude.{◌≡◌, ◌^◌, ◌≤◌, ◌<◌};
+ghost use Rattle.answer.specs.Calls.{answer_of};
 ghost use Rattle.vector.specs.Numbers.{signed};
-ghost use Rattle.vector.specs.Answers.{vector_given};
 ghost use Rattle.mount.specs.Floats as floats;
 ghost use Rattle.mount.specs.Values.{component_of};
 ghost use Rattle.mount.specs.Widths.{Usual};
 ghost use Rattle.mount.specs.Reports as reports;
-ghost use Rattle.mount.specs.Floats.{component_given};
 ghost use Rattle.mount.specs.Reports.{three_of};
 
-use answer::FLOAT;
-use vector::{Vec3, VectorOf};
+use answer::Refusal;
+use vector::Vec3;
 
 // ---- a component
 
@@ -27,20 +26,6 @@ pub struct Width {
     pub fraction: u64,
 }
 
-// A component, or the number of the check that failed.
-#[derive(Clone, Copy)]
-pub enum ComponentOf {
-    Gives(i64),
-    Refused(u32),
-}
-
-fn power_of_two(n: u64) -> u64
-    requires { n < 64 }
-    ensures { result ≡ 2 ^ n }
-{
-    1 << n
-}
-
 fn with_sign(negative: bool, n: u64) -> i64
     requires { n ≤ 2 ^ 20 }
     ensures { result ≡ signed negative n }
@@ -51,56 +36,57 @@ fn with_sign(negative: bool, n: u64) -> i64
 
 // The component of the float with these bits, at any width. Without the sign they are at most those of 1 where the float is at most 1 in size; an
 // infinity's and a NaN's are above. Below 2^-20 nothing is left; from there on the significand loses its last digits.
-fn component(bits: u64, w: Width) -> ComponentOf
+fn component(bits: u64, w: Width) -> Result<i64, Refusal>
     requires { Usual w }
-    ensures { component_given result ≡ floats.component w bits }
+    ensures { answer_of result ≡ floats.component w bits }
 {
     let f = w.fraction;
-    let unit = power_of_two(f);
-    let bias = power_of_two(w.exponent - 1) - 1;
-    let sign = power_of_two(w.exponent + f);
+    let unit: u64 = 1 << f;
+    let bias = (1 << (w.exponent - 1)) - 1;
+    let sign = 1 << (w.exponent + f);
     let size = bits % sign;
     if bias * unit < size {
-        return ComponentOf::Refused(FLOAT);
+        return Err(Refusal::Float);
     }
     let field = size / unit;
     if field + SCALE_BITS < bias {
-        return ComponentOf::Gives(0);
+        return Ok(0);
     }
     let n = (unit + size % unit) >> (bias + f - SCALE_BITS - field);
-    ComponentOf::Gives(with_sign(sign <= bits, n))
+    Ok(with_sign(sign <= bits, n))
 }
 
+// The width of an f32.
+const SINGLE: Width = Width {
+    exponent: 8,
+    fraction: 23,
+};
+
+// The width of an f64.
+const DOUBLE: Width = Width {
+    exponent: 11,
+    fraction: 52,
+};
+
 // The component of an f32. Every NaN is refused, whatever its bits.
-fn of_single(s: f32) -> ComponentOf
-    ensures { component_given result ≡ component_of s }
+// Kept: one function for each type of float, as a trait with its bits, its NaNs and its width would say the same in two impls, and the laws besides.
+fn of_single(s: f32) -> Result<i64, Refusal>
+    ensures { answer_of result ≡ component_of s }
 {
-    if s != s {
-        return ComponentOf::Refused(FLOAT);
+    if s.is_nan() {
+        return Err(Refusal::Float);
     }
-    component(
-        f32::to_bits(s) as u64,
-        Width {
-            exponent: 8,
-            fraction: 23,
-        },
-    )
+    component(u64::from(s.to_bits()), SINGLE)
 }
 
 // The component of an f64.
-fn of_double(d: f64) -> ComponentOf
-    ensures { component_given result ≡ component_of d }
+fn of_double(d: f64) -> Result<i64, Refusal>
+    ensures { answer_of result ≡ component_of d }
 {
-    if d != d {
-        return ComponentOf::Refused(FLOAT);
+    if d.is_nan() {
+        return Err(Refusal::Float);
     }
-    component(
-        f64::to_bits(d),
-        Width {
-            exponent: 11,
-            fraction: 52,
-        },
-    )
+    component(d.to_bits(), DOUBLE)
 }
 
 // ---- a report
@@ -128,24 +114,22 @@ pub enum Report {
 }
 
 // The pointing of three components, or the first refusal among them.
-fn three_of(x: ComponentOf, y: ComponentOf, z: ComponentOf) -> VectorOf
-    ensures { vector_given result ≡ three_of (component_given x) (component_given y) (component_given z) }
+fn three_of(
+    x: Result<i64, Refusal>,
+    y: Result<i64, Refusal>,
+    z: Result<i64, Refusal>,
+) -> Result<Vec3, Refusal>
+    ensures { answer_of result ≡ three_of (answer_of x) (answer_of y) (answer_of z) }
 {
-    match x {
-        ComponentOf::Gives(a) => match y {
-            ComponentOf::Gives(b) => match z {
-                ComponentOf::Gives(c) => VectorOf::Gives(Vec3 { x: a, y: b, z: c }),
-                ComponentOf::Refused(n) => VectorOf::Refused(n),
-            },
-            ComponentOf::Refused(n) => VectorOf::Refused(n),
-        },
-        ComponentOf::Refused(n) => VectorOf::Refused(n),
-    }
+    let x = x?;
+    let y = y?;
+    let z = z?;
+    Ok(Vec3 { x, y, z })
 }
 
 // The pointing of a report; refusal 12.
-pub fn pointing(report: Report) -> VectorOf
-    ensures { vector_given result ≡ reports.pointing report }
+pub fn pointing(report: Report) -> Result<Vec3, Refusal>
+    ensures { answer_of result ≡ reports.pointing report }
 {
     match report {
         Report::Single(s) => three_of(of_single(s.x), of_single(s.y), of_single(s.z)),

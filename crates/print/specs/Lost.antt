@@ -1,5 +1,5 @@
--- The place after a write that failed: past every place of the buffer, and past its end.
-use Rattle.std.specs.Prelude.{ℕ}
+-- The end of what is collected, after a write that failed.
+use Rattle.std.specs.Prelude.{ℕ, Option, None}
 
-abbrev pub lost : ℕ
-lost = 65537
+abbrev pub lost : Option ℕ
+lost = None

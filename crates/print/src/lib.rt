@@ -1,12 +1,16 @@
-// What the programs print: bytes, numbers, names and refusals, collected in a lent buffer. Each function takes the place in the buffer where it begins
-// and gives the one where it ends. After a write that failed the place is LOST, and nothing more is written.
+// What the programs print: bytes, numbers, names and refusals, collected until a buffer is full. After a write that failed nothing more is written.
 #![tactic(auto)]
 
-ghost use Rattle.std.specs.Prelude.{◌≤◌, ◌≡◌, nat_abs};
+ghost use Rattle.std.specs.Prelude.{◌≡◌, ◌≤◌, Some};
+ghost use Rattle.std.specs.Option.{ForSome};
 ghost use Rattle.print.specs.Lost.{lost};
+ghost use Rattle.print.specs.Texts.{refused_text, point_text};
 
-use answer::Number;
+use answer::Refusal;
+use std::fmt;
+use std::fmt::Write;
 use streams::Streams;
+use vector::Vec3;
 
 pub mod covers;
 pub mod regions;
@@ -17,93 +21,144 @@ const SIZE: usize = 65536;
 // How many bytes a name has at most: a letter and 31 digits.
 const NAME_BYTES: usize = 32;
 
-// How many digits a number of 64 bits has at most.
-const DIGITS: usize = 20;
-
 pub type Buffer = [u8; SIZE];
 
-// Past every place of the buffer, and past its end.
-pub const LOST: usize = SIZE + 1;
-
-pub fn byte(streams: Streams, out: &mut Buffer, at: usize, b: u8) -> usize
-    ensures { at ≡ lost → result ≡ lost }
-{
-    if at < SIZE {
-        out[at] = b;
-        return at + 1;
-    }
-    if flush(streams, out, at) == LOST {
-        return LOST;
-    }
-    out[0] = b;
-    1
+// Why a line has no answer but `usage` or a refusal, or none at all: it is malformed, it is refused, or standard output takes no more.
+#[derive(Clone, Copy)]
+pub enum Fault {
+    Malformed,
+    Refused(Refusal),
+    Lost,
 }
 
-pub fn text(streams: Streams, out: &mut Buffer, at: usize, bytes: &[u8]) -> usize {
-    let mut end = at;
-    for i in 0..bytes.len() {
-        end = byte(streams, out, end, bytes[i]);
-    }
-    end
-}
-
-// A number, and the byte that parts it from what follows; `digits` and `integer` without that byte.
-pub fn natural(streams: Streams, out: &mut Buffer, at: usize, n: u64, then: u8) -> usize {
-    let end = digits(streams, out, at, n);
-    byte(streams, out, end, then)
-}
-
-pub fn digits(streams: Streams, out: &mut Buffer, at: usize, n: u64) -> usize {
-    let mut digits = [0u8; DIGITS];
-    let k = io::decimal(n, &mut digits);
-    text(streams, out, at, &digits[..k])
-}
-
-pub fn whole(streams: Streams, out: &mut Buffer, at: usize, n: i64, then: u8) -> usize {
-    let end = integer(streams, out, at, n);
-    byte(streams, out, end, then)
-}
-
-pub fn integer(streams: Streams, out: &mut Buffer, at: usize, n: i64) -> usize {
-    if n < 0 {
-        let end = byte(streams, out, at, b'-');
-        return digits(streams, out, end, size(n));
-    }
-    digits(streams, out, at, size(n))
-}
-
-// How far a number is from 0.
-fn size(n: i64) -> u64
-    ensures { result ≡ nat_abs n }
-{
-    if n < 0 {
-        (-(n + 1)) as u64 + 1
-    } else {
-        n as u64
+impl From<Refusal> for Fault {
+    fn from(n: Refusal) -> Fault {
+        Fault::Refused(n)
     }
 }
 
-// The name of an identifier, or the refusal of a number that is none.
-pub fn name(streams: Streams, out: &mut Buffer, at: usize, id: u64) -> usize {
-    let mut name = [0u8; NAME_BYTES];
-    match htm::name(id, &mut name) {
-        Number::Gives(n) => {
-            let k = least(n, NAME_BYTES);
-            text(streams, out, at, &name[0..k])
-        },
-        Number::Refused(n) => refusal(streams, out, at, n),
+impl From<fmt::Error> for Fault {
+    fn from(_e: fmt::Error) -> Fault {
+        Fault::Lost
     }
 }
 
-// The answer of a lookup, and the line's end: identifier and name, or the refusal.
-pub fn located(streams: Streams, out: &mut Buffer, at: usize, answer: Number) -> usize {
-    match answer {
-        Number::Gives(id) => {
-            let end = natural(streams, out, at, id, b' ');
-            let end = name(streams, out, end, id);
-            byte(streams, out, end, b'\n')
-        },
-        Number::Refused(n) => refused(streams, out, at, n),
+// What is collected for standard output: so many bytes at the buffer's beginning, or none after a write that failed.
+#[derive(Drop)]
+pub struct Output {
+    streams: Streams,
+    buffer: Buffer,
+    end: Option<usize>,
+    ghost within: { ForSome end (λ n. n ≤ 65536) },
+}
+
+impl Output {
+    // With nothing collected.
+    pub fn new(streams: Streams) -> Output {
+        Output {
+            streams,
+            buffer: io::large_buffer(),
+            end: Some(0),
+        }
+    }
+
+    fn byte(&mut self, b: u8) -> fmt::Result
+        ensures { self.old.end ≡ lost → self.new.end ≡ lost }
+    {
+        let mut end = self.end.ok_or(fmt::Error)?;
+        if end == SIZE {
+            self.flush()?;
+            end = 0;
+        }
+        self.buffer[end] = b;
+        self.end = Some(end + 1);
+        Ok(())
+    }
+
+    pub fn bytes(&mut self, part: &[u8]) -> fmt::Result
+        ensures { self.old.end ≡ lost → self.new.end ≡ lost }
+    {
+        for b in part {
+            self.byte(*b)?;
+        }
+        Ok(())
+    }
+
+    // The name of an identifier, or the refusal of a number that is none.
+    pub fn name(&mut self, id: u64) -> fmt::Result {
+        let mut name = [0u8; NAME_BYTES];
+        match htm::name(id, &mut name) {
+            Ok(n) => self.bytes(&name[..least(n, NAME_BYTES)]),
+            Err(n) => write!(self, "{}", Refused(n)),
+        }
+    }
+
+    // The identifier that a lookup gives, its name, and the line's end.
+    pub fn located(&mut self, id: u64) -> fmt::Result {
+        write!(self, "{id} ")?;
+        self.name(id)?;
+        self.write_str("\n")
+    }
+
+    // The numbers, each behind a blank.
+    pub fn list<T: fmt::Display>(&mut self, numbers: &[T]) -> fmt::Result {
+        for n in numbers {
+            write!(self, " {n}")?;
+        }
+        Ok(())
+    }
+
+    // The end of an answer: what is printed where it was not given.
+    pub fn ended(&mut self, answer: Result<(), Fault>) -> fmt::Result {
+        match answer {
+            Ok(()) => Ok(()),
+            Err(Fault::Malformed) => self.write_str("usage\n"),
+            Err(Fault::Refused(n)) => writeln!(self, "{}", Refused(n)),
+            Err(Fault::Lost) => Err(fmt::Error),
+        }
+    }
+
+    // Writes what was collected.
+    pub fn flush(&mut self) -> fmt::Result
+        ensures { self.old.end ≡ lost → self.new.end ≡ lost }
+    {
+        let end = self.end.ok_or(fmt::Error)?;
+        self.end = None;
+        if self.streams.write(&self.buffer[..end]) {
+            self.end = Some(0);
+            return Ok(());
+        }
+        Err(fmt::Error)
+    }
+}
+
+impl Write for Output {
+    fn write_str(&mut self, s: &str) -> fmt::Result {
+        self.bytes(s.as_bytes())
+    }
+}
+
+// A refusal, as it is printed.
+#[derive(Clone, Copy)]
+pub struct Refused(pub Refusal);
+
+impl fmt::Display for Refused {
+    ghost output = { λ r. Some (refused_text r.0) };
+
+    fn fmt<W: fmt::Write>(&self, f: &mut fmt::Formatter<W>) -> fmt::Result {
+        write!(f, "refused {}", self.0.number())
+    }
+}
+
+// A vector, as it is printed.
+#[derive(Clone, Copy)]
+pub struct Point(pub Vec3);
+
+impl fmt::Display for Point {
+    ghost output = { λ p. Some (point_text p.0) };
+
+    fn fmt<W: fmt::Write>(&self, f: &mut fmt::Formatter<W>) -> fmt::Result {
+        write!(f, "{} {} {}", self.0.x, self.0.y, self.0.z)
     }
 }
 
@@ -111,35 +166,5 @@ pub fn located(streams: Streams, out: &mut Buffer, at: usize, answer: Number) ->
 pub fn least(n: u64, most: usize) -> usize
     ensures { result ≤ most }
 {
-    if n < most as u64 { n as usize } else { most }
-}
-
-// A refusal, and one that is a line of its own.
-fn refusal(streams: Streams, out: &mut Buffer, at: usize, number: u32) -> usize {
-    let end = text(streams, out, at, b"refused ");
-    digits(streams, out, end, number as u64)
-}
-
-pub fn refused(streams: Streams, out: &mut Buffer, at: usize, number: u32) -> usize {
-    let end = refusal(streams, out, at, number);
-    byte(streams, out, end, b'\n')
-}
-
-pub fn usage(streams: Streams, out: &mut Buffer, at: usize) -> usize {
-    text(streams, out, at, b"usage\n")
-}
-
-// Writes what was collected. The place is then the buffer's beginning, or LOST.
-pub fn flush(streams: Streams, out: &Buffer, at: usize) -> usize
-    ensures { at ≡ lost → result ≡ lost }
-{
-    let all: &[u8] = out;
-    if all.len() < at {
-        return LOST;
-    }
-    if streams::write(streams, &all[0..at]) {
-        0
-    } else {
-        LOST
-    }
+    n.min(most as u64) as usize
 }

@@ -24,12 +24,9 @@
 
 use streams::Streams;
 
+// Kept: like archive's, but for the usage and the commands; a function of both would hold no more than these.
 fn main(rt: HostRuntime) {
-    let streams = Streams {
-        input: rt.stdin(),
-        output: rt.stdout(),
-        errors: rt.stderr(),
-    };
+    let streams = Streams::of(&rt);
     if streams::has_no_argument(&rt, streams, b"usage: query < LINES\n") {
         query_commands::answer_lines(streams);
     }

@@ -1,108 +1,52 @@
-// The commands of query about trixels: lookup, line, name, id, corners. Each is answered from the word at `next` on.
-use answer::Number;
-use command_words::{FILE_CAPACITY, Natural, NaturalAt, PointAt};
-use mesh::{Corners, CornersOf};
-use print::Buffer;
-use streams::Streams;
-use vector::Vec3;
+// The commands of query about trixels: lookup, line, name, id, corners. Each is answered from the words behind its name.
+use command_words::{FILE_CAPACITY, Words};
+use print::{Fault, Output, Point};
+use std::fmt::Write;
 
 // lookup X Y Z DEPTH
-pub fn lookup(line: &[u8], next: usize, streams: Streams, out: &mut Buffer, at: usize) -> usize {
-    let PointAt::Is {
-        x,
-        y,
-        z,
-        next: depth_at,
-    } = command_words::point_at(line, next)
-    else {
-        return print::usage(streams, out, at);
-    };
-    let NaturalAt::Is(depth, end) = command_words::natural_at(line, depth_at) else {
-        return print::usage(streams, out, at);
-    };
-    if !command_words::is_over(line, end) {
-        return print::usage(streams, out, at);
-    }
-    print::located(streams, out, at, htm::locate(x, y, z, depth))
+pub fn lookup(mut words: Words<'_>, out: &mut Output) -> Result<(), Fault> {
+    let (x, y, z) = words.point()?;
+    let depth = words.natural()?;
+    words.end()?;
+    out.located(htm::locate(x, y, z, depth)?)?;
+    Ok(())
 }
 
 // line HEX DEPTH
-pub fn line(line: &[u8], next: usize, streams: Streams, out: &mut Buffer, at: usize) -> usize {
-    let NaturalAt::Is(depth, end) = command_words::natural_at(
-        line,
-        command_words::after(line, next),
-    ) else {
-        return print::usage(streams, out, at);
-    };
-    if !command_words::is_over(line, end) {
-        return print::usage(streams, out, at);
-    }
+pub fn line(mut words: Words<'_>, out: &mut Output) -> Result<(), Fault> {
     let mut bytes = [0u8; FILE_CAPACITY];
-    let n = command_words::file(command_words::word(line, next), &mut bytes);
-    locate_line(&bytes, n, depth, streams, out, at)
-}
-
-// The lookup of a catalogue line of n bytes, if it has a length.
-fn locate_line(
-    bytes: &[u8; FILE_CAPACITY],
-    n: usize,
-    depth: u32,
-    streams: Streams,
-    out: &mut Buffer,
-    at: usize,
-) -> usize {
-    let all: &[u8] = bytes;
-    if all.len() < n {
-        return print::usage(streams, out, at);
-    }
-    print::located(streams, out, at, htm::locate_line(&all[0..n], depth))
+    let line = words.file(&mut bytes)?;
+    let depth = words.natural()?;
+    words.end()?;
+    out.located(htm::locate_line(line, depth)?)?;
+    Ok(())
 }
 
 // name ID
-pub fn name(line: &[u8], next: usize, streams: Streams, out: &mut Buffer, at: usize) -> usize {
-    match command_words::identifier(line, next) {
-        Natural::Is(i) => print_name(streams, out, at, i),
-        Natural::Not => print::usage(streams, out, at),
-    }
+pub fn name(mut words: Words<'_>, out: &mut Output) -> Result<(), Fault> {
+    let id = words.identifier()?;
+    words.end()?;
+    out.name(id)?;
+    out.write_str("\n")?;
+    Ok(())
 }
 
 // id NAME
-pub fn id(line: &[u8], next: usize, streams: Streams, out: &mut Buffer, at: usize) -> usize {
-    let word = command_words::last(line, next);
-    if word.len() == 0 {
-        return print::usage(streams, out, at);
+pub fn id(mut words: Words<'_>, out: &mut Output) -> Result<(), Fault> {
+    let name = words.word()?;
+    words.end()?;
+    if name.is_empty() {
+        return Err(Fault::Malformed);
     }
-    match htm::identifier(word) {
-        Number::Gives(i) => print::natural(streams, out, at, i, b'\n'),
-        Number::Refused(n) => print::refused(streams, out, at, n),
-    }
+    writeln!(out, "{}", htm::identifier(name)?)?;
+    Ok(())
 }
 
 // corners ID
-pub fn corners(line: &[u8], next: usize, streams: Streams, out: &mut Buffer, at: usize) -> usize {
-    let Natural::Is(i) = command_words::identifier(line, next) else {
-        return print::usage(streams, out, at);
-    };
-    match htm::corners(i) {
-        CornersOf::Gives(c) => print_corners(streams, out, at, c),
-        CornersOf::Refused(n) => print::refused(streams, out, at, n),
-    }
-}
-
-// The name of an identifier, and the line's end.
-fn print_name(streams: Streams, out: &mut Buffer, at: usize, i: u64) -> usize {
-    let end = print::name(streams, out, at, i);
-    print::byte(streams, out, end, b'\n')
-}
-
-fn print_corners(streams: Streams, out: &mut Buffer, at: usize, c: Corners) -> usize {
-    let end = print_vector(streams, out, at, c.v0, b' ');
-    let end = print_vector(streams, out, end, c.v1, b' ');
-    print_vector(streams, out, end, c.v2, b'\n')
-}
-
-fn print_vector(streams: Streams, out: &mut Buffer, at: usize, v: Vec3, then: u8) -> usize {
-    let end = print::whole(streams, out, at, v.x, b' ');
-    let end = print::whole(streams, out, end, v.y, b' ');
-    print::whole(streams, out, end, v.z, then)
+pub fn corners(mut words: Words<'_>, out: &mut Output) -> Result<(), Fault> {
+    let id = words.identifier()?;
+    words.end()?;
+    let c = htm::corners(id)?;
+    writeln!(out, "{} {} {}", Point(c.v0), Point(c.v1), Point(c.v2))?;
+    Ok(())
 }

@@ -8,13 +8,14 @@ use native.Mathlib.Omega.{arith}
 use lib.ListN.{length, set}
 use borrow.Author.Tests.{lt-ltb, le-ltb}
 use Rattle.ranges_stored.specs.declared.MinHint.{MinHint}
+use Rattle.std.specs.Prelude.{Some, None}
 use Rattle.ranges_stored.specs.declared.Pending.{Pending}
+use Rattle.ranges_stored.specs.declared.Range as last
 use Rattle.ranges.specs.Ranges.{Range, pairs, range, ranges_in}
 use Rattle.ranges.specs.Lists.{touch, without}
 use Rattle.ranges.proofs.Pushing.{empty, growing, inner_full, inner_close, inner_push, inner_end}
 use Rattle.algebra.proofs.Moves.{shifted_down}
 use Rattle.ranges_stored.specs.Stored.{differences, written, Writes, Hinted, PointsAt, state_of, Stores}
-use Rattle.ranges.proofs.Loop.{length_snoc}
 use Rattle.ranges.proofs.InnerPass.{length_without, length_inner_full}
 use Rattle.ranges_stored.proofs.StoredLaws.{length_in, written_in, in_written, write_append}
 use Rattle.ranges_stored.proofs.ShiftLaws.{shifted_down_removes}
@@ -66,12 +67,8 @@ module _ (B n : ℕ) (l : List ℕ) (low high : ℕ) (fits : 2 * n ≤ length l)
   stored : length (ranges_in n l) ≡ n
   stored = length_in n l
 
-  pub close_appends : n < B → 2 * B ≤ length l → Writes (inner_close B (ranges_in n l) (range low high)) l (set (set l (2 * n) low) (2 * n + 1) high) (n + 1)
-  close_appends h k =
-      writes (close_append B (ranges_in n l) (range low high) (omega (arith, stored)))
-      (omega (arith, stored, length_snoc (ranges_in n l) (range low high)))
-      (ap (λ m. set (set m (2 * n) low) (2 * n + 1) high) (sym (written_in n l fits))
-      ∙ write_append (ranges_in n l) l low high (2 * n) (2 * n + 1) (omega (arith, stored)) (omega (arith, stored)) (omega (arith, stored)))
+  pub close_appends : {m : List ℕ} {k : ℕ} → n < B → Writes (ranges_in n l ++ range low high ∷ []) l m k → Writes (inner_close B (ranges_in n l) (range low high)) l m k
+  close_appends {m} {k} h w = subst (λ ys. Writes ys l m k) (sym (close_append B (ranges_in n l) (range low high) (omega (arith, stored)))) w
 
   pub close_full : (m : List ℕ) → 1 ≤ n → B ≤ n → m ≡ written (inner_full (ranges_in n l) (range low high)) l → Writes (inner_close B (ranges_in n l) (range low high)) l m n
   close_full m one h e =
@@ -84,46 +81,46 @@ module _ (B n : ℕ) (l : List ℕ) (low high : ℕ) (fits : 2 * n ≤ length l)
 
 -- ---- a range is pushed
 
-pub state_none : (p : Pending) (l : List ℕ) → p.some ≡ false → state_of p l ≡ empty
+pub state_none : (p : Pending) (l : List ℕ) → p.last ≡ None → state_of p l ≡ empty
 unfolding state_of
 state_none p l e = rw e
 
-pub state_some : (p : Pending) (l : List ℕ) → p.some ≡ true → state_of p l ≡ growing (ranges_in p.n l) (range p.low p.high)
+pub state_some : (p : Pending) (l : List ℕ) (r : last.Range) → p.last ≡ Some r → state_of p l ≡ growing (ranges_in p.n l) (range r.low r.high)
 unfolding state_of
-state_some p l e = rw e
+state_some p l r e = rw e
 
 -- the ranges xs are stored, and a range beside them
-beside : {xs : List Range} {l l' : List ℕ} {n : ℕ} (low high : ℕ) (h : MinHint) → Writes xs l l' n
-    → Stores (growing xs (range low high)) l l' (record { n = n; some = true; low = low; high = high; hint = h })
-beside {xs} {l} {l'} {n} low high h w =
+beside : {xs : List Range} {l l' : List ℕ} {n : ℕ} (r : last.Range) (h : MinHint) → Writes xs l l' n
+    → Stores (growing xs (range r.low r.high)) l l' (record { n = n; last = Some r; hint = h })
+beside {xs} {l} {l'} {n} r h w =
     record {
-      state = state_some (record { n = n; some = true; low = low; high = high; hint = h }) l' refl
-          ∙ ap (λ ys. growing ys (range low high)) (ap₂ ranges_in w.count w.list ∙ in_written xs l);
+      state = state_some (record { n = n; last = Some r; hint = h }) l' r refl
+          ∙ ap (λ ys. growing ys (range r.low r.high)) (ap₂ ranges_in w.count w.list ∙ in_written xs l);
       stored = w;
     }
 
-module _ (B : ℕ) (p : Pending) (l : List ℕ) (low high : ℕ) (h : MinHint) where
-  pub pending_first : p.some ≡ false → Stores (inner_push B (state_of p l) (range low high)) l l (record { n = 0; some = true; low = low; high = high; hint = h })
+module _ (B : ℕ) (p : Pending) (l : List ℕ) (r : last.Range) (h : MinHint) where
+  pub pending_first : p.last ≡ None → Stores (inner_push B (state_of p l) (range r.low r.high)) l l (record { n = 0; last = Some r; hint = h })
   unfolding inner_push pairs
-  pending_first e = rw (state_none p l e) (beside low high h (record { count = refl; list = refl }))
+  pending_first e = rw (state_none p l e) (beside r h (record { count = refl; list = refl }))
 
-  module _ (is : p.some ≡ true) where
-    pub pending_grows : 2 * p.n ≤ length l → touch (range p.low p.high) (range low high) ≡ true
-        → Stores (inner_push B (state_of p l) (range low high)) l l (record { n = p.n; some = true; low = p.low; high = high; hint = h })
+  module _ (a : last.Range) (is : p.last ≡ Some a) where
+    pub pending_grows : 2 * p.n ≤ length l → touch (range a.low a.high) (range r.low r.high) ≡ true
+        → Stores (inner_push B (state_of p l) (range r.low r.high)) l l (record { n = p.n; last = Some (record { low = a.low; high = r.high }); hint = h })
     unfolding inner_push
-    pending_grows k t = rw (state_some p l is, t) (beside p.low high h (record { count = sym (length_in p.n l); list = sym (written_in p.n l k) }))
+    pending_grows k t = rw (state_some p l a is, t) (beside (record { low = a.low; high = r.high }) h (record { count = sym (length_in p.n l); list = sym (written_in p.n l k) }))
 
-    pub pending_closes : (m : ℕ) (l' : List ℕ) → touch (range p.low p.high) (range low high) ≡ false
-        → Writes (inner_close B (ranges_in p.n l) (range p.low p.high)) l l' m
-        → Stores (inner_push B (state_of p l) (range low high)) l l' (record { n = m; some = true; low = low; high = high; hint = h })
+    pub pending_closes : (m : ℕ) (l' : List ℕ) → touch (range a.low a.high) (range r.low r.high) ≡ false
+        → Writes (inner_close B (ranges_in p.n l) (range a.low a.high)) l l' m
+        → Stores (inner_push B (state_of p l) (range r.low r.high)) l l' (record { n = m; last = Some r; hint = h })
     unfolding inner_push
-    pending_closes m l' t w = rw (state_some p l is, t) (beside low high h w)
+    pending_closes m l' t w = rw (state_some p l a is, t) (beside r h w)
 
 module _ (B : ℕ) (p : Pending) (l : List ℕ) where
-  pub end_none : p.some ≡ false → Writes (inner_end B (state_of p l)) l l 0
+  pub end_none : p.last ≡ None → Writes (inner_end B (state_of p l)) l l 0
   unfolding inner_end pairs
   end_none e = rw (state_none p l e) (record { count = refl; list = refl })
 
-  pub end_some : p.some ≡ true → (l' : List ℕ) (m : ℕ) → Writes (inner_close B (ranges_in p.n l) (range p.low p.high)) l l' m → Writes (inner_end B (state_of p l)) l l' m
+  pub end_some : (a : last.Range) → p.last ≡ Some a → (l' : List ℕ) (m : ℕ) → Writes (inner_close B (ranges_in p.n l) (range a.low a.high)) l l' m → Writes (inner_end B (state_of p l)) l l' m
   unfolding inner_end
-  end_some e l' m w = rw (state_some p l e) w
+  end_some a e l' m w = rw (state_some p l a e) w

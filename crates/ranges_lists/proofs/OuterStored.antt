@@ -8,7 +8,7 @@ use lib.Dec.{eqb}
 use lib.ListN.{length, get_or, set}
 use borrow.Author.Tests.{le-ltb, lt-ltb}
 use Rattle.ranges_stored.specs.declared.MinHint.{MinHint}
-use Rattle.ranges.specs.Ranges.{Range, pairs, range, ranges_in}
+use Rattle.ranges.specs.Ranges.{Range, range, ranges_in}
 use Rattle.ranges.specs.Lists.{gaps, join_at}
 use Rattle.ranges.proofs.Pushing.{last_high, extend, new_gap, outer_full, outer_new, outer_push}
 use Rattle.algebra.proofs.Moves.{shifted_down}
@@ -66,6 +66,13 @@ module _ (n : ℕ) (l : List ℕ) (low high g end : ℕ) (fits : 2 * n ≤ lengt
 
 -- ---- a range is pushed
 
+pub appended : (n : ℕ) (l : List ℕ) (low high : ℕ) → 2 * n + 2 ≤ length l → Writes (ranges_in n l ++ range low high ∷ []) l (set (set l (2 * n) low) (2 * n + 1) high) (n + 1)
+appended n l low high h =
+    let stored : length (ranges_in n l) ≡ n = length_in n l in
+    writes refl (omega (arith, stored, length_snoc (ranges_in n l) (range low high)))
+    (ap (λ m. set (set m (2 * n) low) (2 * n + 1) high) (sym (written_in n l (omega arith)))
+    ∙ write_append (ranges_in n l) l low high (2 * n) (2 * n + 1) (omega (arith, stored)) (omega (arith, stored)) (omega (arith, stored)))
+
 push_touching : (B : ℕ) (xs : List Range) (r : Range) → 0 < length xs → eqb (last_high xs + 1) r.low ≡ true → outer_push B xs r ≡ extend xs r
 push_touching B xs r h t = push_some B xs r h ∙ rw t
 
@@ -80,10 +87,9 @@ new_full : (B : ℕ) (xs : List Range) (r : Range) → B ≤ length xs → outer
 unfolding outer_new
 new_full B xs r h = rw (le-ltb (length xs) B h)
 
-pub push_first : (B n : ℕ) (l : List ℕ) (low high : ℕ) → n ≡ 0 → 2 ≤ length l → Writes (outer_push B (ranges_in n l) (range low high)) l (set (set l 0 low) 1 high) 1
-unfolding outer_push ranges_in pairs
-push_first B n l low high e h =
-    writes {ys = range low high ∷ []} (ap (λ m. outer_push B (ranges_in m l) (range low high)) e) refl (write_append [] l low high 0 1 refl refl h)
+pub push_first : (B n : ℕ) (l : List ℕ) (r : Range) {m : List ℕ} {k : ℕ} → n ≡ 0 → Writes (ranges_in 0 l ++ r ∷ []) l m k → Writes (outer_push B (ranges_in n l) r) l m k
+unfolding outer_push ranges_in
+push_first B n l r {m} {k} e w = subst (λ i. Writes (outer_push B (ranges_in i l) r) l m k) (sym e) w
 
 module _ (B n : ℕ) (l : List ℕ) (low high end : ℕ) (some : 0 < n) (fits : 2 * n ≤ length l) (last : end + 1 ≡ 2 * n) where
   stored : length (ranges_in n l) ≡ n
@@ -108,12 +114,10 @@ module _ (B n : ℕ) (l : List ℕ) (low high end : ℕ) (some : 0 < n) (fits : 
         subst (λ ys. Hinted h (gaps ys))
         (sym (push_apart B (ranges_in n l) (range low high) (omega (arith, stored)) (at_end t) ∙ new_full B (ranges_in n l) (range low high) (omega (arith, stored)))) p
 
-    pub push_appends : n < B → 2 * B ≤ length l → Writes (outer_push B (ranges_in n l) (range low high)) l (set (set l (end + 1) low) (end + 2) high) (n + 1)
-    push_appends h k =
-        writes (push_apart B (ranges_in n l) (range low high) (omega (arith, stored)) (at_end t) ∙ new_append B (ranges_in n l) (range low high) (omega (arith, stored)))
-        (omega (arith, stored, length_snoc (ranges_in n l) (range low high)))
-        (ap (λ m. set (set m (end + 1) low) (end + 2) high) (sym (written_in n l fits))
-        ∙ write_append (ranges_in n l) l low high (end + 1) (end + 2) (omega (arith, stored)) (omega (arith, stored)) (omega (arith, stored)))
+    pub push_appends : {m : List ℕ} {k : ℕ} → n < B → Writes (ranges_in n l ++ range low high ∷ []) l m k → Writes (outer_push B (ranges_in n l) (range low high)) l m k
+    push_appends {m} {k} h w =
+        subst (λ ys. Writes ys l m k)
+        (sym (push_apart B (ranges_in n l) (range low high) (omega (arith, stored)) (at_end t) ∙ new_append B (ranges_in n l) (range low high) (omega (arith, stored)))) w
 
     pub push_full : (m : List ℕ) → B ≤ n → m ≡ written (outer_full (ranges_in n l) (range low high)) l → Writes (outer_push B (ranges_in n l) (range low high)) l m n
     push_full m h e =

@@ -16,7 +16,7 @@
 --   closed s         the closed ranges of the inner list s: all but the last, which may still grow
 --   state_of p l      the inner list that p and the lent list l stand for
 --   Stores ..        p and `after` stand for s, and `after` is `before` with the closed ranges of s, as many as p counts, at its front
-use Rattle.std.specs.Prelude.{ℕ, ◌-◌, ◌≤◌, ◌<◌, ◌≡◌, false, cond, List, [], map, length, get_or, drop}
+use Rattle.std.specs.Prelude.{ℕ, ◌-◌, ◌≤◌, ◌<◌, ◌≡◌, Some, None, List, [], map, length, get_or, drop}
 use Rattle.ranges_stored.specs.declared.MinHint.{MinHint}
 use Rattle.ranges_stored.specs.declared.Pending.{Pending}
 use Rattle.answer.specs.Lent.{put}
@@ -59,14 +59,14 @@ pub record PointsAt (h : MinHint) (gs : List ℕ) : Type 0 where
   pub is : get_or gs h.from 0 ≡ h.floor
 
 abbrev pub nothing_yet : Pending
-nothing_yet = record { n = 0; some = false; low = 0; high = 0; hint = no_hint }
+nothing_yet = record { n = 0; last = None; hint = no_hint }
 
 abbrev pub closed : Inner → List Range
 closed empty = []
 closed (growing xs r) = xs
 
 unfoldable pub state_of : Pending → List ℕ → Inner
-state_of p l = cond p.some (growing (ranges_in p.n l) (range p.low p.high)) empty
+state_of p l = elim p.last [ Some r ↦ growing (ranges_in p.n l) (range r.low r.high) | None ↦ empty ]
 
 pub record Stores (s : Inner) (before after : List ℕ) (p : Pending) : Type 0 where
   pub state : state_of p after ≡ s

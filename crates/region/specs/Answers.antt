@@ -5,15 +5,12 @@
 --   file_into file_answer file_after      a call that writes a file, by the file or its refusal: the file's length; the file at the list's beginning
 --   write_answer write_after             the plain writer; the grouped one and the conversions have `file_answer` and `file_after` of what they write
 --   point_test f p                      whether the region of the file f holds the point p
---   header_given r, held_given r         the answers of the reader and of the point test
 use Rattle.std.specs.Prelude.{ℕ, Bool, List, length, ℤ}
-use Rattle.answer.specs.Answer.{Answer, refused, gives, check, then, with_value, Vector}
+use Rattle.answer.specs.Answer.{Answer, gives, check, then, with_value, Vector}
 use Rattle.answer.specs.Lent.{put, stored, room}
 use Rattle.vector.specs.declared.Vec3.{Vec3}
 use Rattle.vector.specs.Vectors.{is_vector}
 use Rattle.region.specs.declared.Header.{Header}
-use Rattle.region.specs.declared.HeaderOf.{HeaderOf}
-use Rattle.region.specs.declared.HeldOf.{HeldOf}
 use Rattle.region.specs.Regions.{holds}
 use Rattle.region.specs.Building.{total}
 use Rattle.region.specs.Rows.{rows}
@@ -58,13 +55,3 @@ write_after d b rs before = file_after (write d b rs) before
 
 unfoldable pub point_test : List ℕ → Vec3 → Answer Bool
 point_test f p = then (read f) (λ x. check Vector (is_vector p) (gives (holds x.region p)))
-
--- ---- the answers of the calls
-
-abbrev pub header_given : HeaderOf → Answer Header
-header_given (HeaderOf.Gives h) = gives h
-header_given (HeaderOf.Refused n) = refused n
-
-abbrev pub held_given : HeldOf → Answer Bool
-held_given (HeldOf.Gives b) = gives b
-held_given (HeldOf.Refused n) = refused n

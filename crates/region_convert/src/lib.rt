@@ -4,16 +4,17 @@
 
 ghost use Rattle.std.specs.Prelude.{◌≡◌, ◌≤◌, length};
 ghost use Rattle.answer.specs.Answer.{gives};
-ghost use Rattle.answer.specs.Calls.{number_of};
+ghost use Rattle.answer.specs.Calls.{answer_of};
 ghost use Rattle.answer.specs.Lent.{put};
 ghost use Rattle.region.specs.Converting as converting;
 ghost use Rattle.region.specs.Answers.{file_answer, file_after};
 
-use answer::{Number, SPACE};
+use answer::Refusal;
 use limits::HALFSPACES;
-use region::{HeaderOf, Style};
+use region::Style;
 
 // Copies a file to the beginning of `out`.
+// Kept: byte after byte by hand, as the library's `copy_from_slice` between two lent slices needs memmove, and include/htm.h promises memcpy and memset alone.
 fn copy(file: &[u8], out: &mut [u8])
     requires { length file.now ≤ length out.old }
     ensures { out.new ≡ put 0 file.now out.old }
@@ -26,33 +27,28 @@ fn copy(file: &[u8], out: &mut [u8])
 }
 
 // A file as it is, at the beginning of `out`, and its length; or the refusal 10.
-fn as_it_is(file: &[u8], out: &mut [u8]) -> Number
-    ensures result_value { number_of result ≡ file_answer (gives file.now) out.old }
+fn as_it_is(file: &[u8], out: &mut [u8]) -> Result<u64, Refusal>
+    ensures result_value { answer_of result ≡ file_answer (gives file.now) out.old }
     ensures out_after { out.new ≡ file_after (gives file.now) out.old }
 {
     if out.len() < file.len() {
-        return Number::Refused(SPACE);
+        return Err(Refusal::Space);
     }
     copy(file, out);
-    Number::Gives(file.len() as u64)
+    Ok(file.len() as u64)
 }
 
 // The file in the wanted style, at the beginning of `out`, and its length; or the refusal of the file's first failed check, 10 last, and then nothing is
 // written.
-pub fn convert(style: Style, file: &[u8], out: &mut [u8]) -> Number
-    ensures result_value { number_of result ≡ file_answer (converting.convert style file.now) out.old }
+pub fn convert(style: Style, file: &[u8], out: &mut [u8]) -> Result<u64, Refusal>
+    ensures result_value { answer_of result ≡ file_answer (converting.convert style file.now) out.old }
     ensures out_after { out.new ≡ file_after (converting.convert style file.now) out.old }
 {
     let mut rows = [0i32; 5 * HALFSPACES];
-    let said = region_reader::decode(file, &mut rows);
-    match said {
-        HeaderOf::Gives(h) => {
-            if region_reader::same_style(style, region_reader::style_of(file)) {
-                return as_it_is(file, out);
-            }
-            let n = 5 * (h.count as usize);
-            region_writer::write(style, h.depth, h.budget, &rows[..n], out)
-        }
-        HeaderOf::Refused(n) => Number::Refused(n),
+    let h = region_reader::decode(file, &mut rows)?;
+    if style == region_reader::style_of(file) {
+        return as_it_is(file, out);
     }
+    let n = 5 * (h.count as usize);
+    region_writer::write(style, h.depth, h.budget, &rows[..n], out)
 }

@@ -6,10 +6,13 @@ use mathlib.Core.Path.{◌≡◌, refl, sym, ap, ◌∙◌}
 use mathlib.Core.Bool.{Bool}
 use mathlib.Core.List.{List, ◌∷◌}
 use lib.Dec.{leb}
-use lib.ListN.{length, take, drop, length-drop}
-use lib.Seq.{take_all, drop-drop}
+use lib.ListN.{length, take, drop}
+use lib.Seq.{drop-drop}
 use lib.IntN.{ℤ}
 use borrow.Author.Tests.{le-leb, lt-leb}
+use Rattle.std.proofs.lemmas.List.{get_or-take}
+use Rattle.vector.specs.Vectors.{vec}
+use Rattle.region.specs.Bytes.{word, signed_of, signed}
 use Rattle.answer.specs.Answer.{Answer, refused, gives, check, then, Crowd}
 use Rattle.region.specs.declared.Halfspace.{Halfspace}
 use Rattle.region.specs.Regions.{Convex}
@@ -18,7 +21,22 @@ use Rattle.region.specs.Reader.{File, convex_in, halfspace_of, halfspace_in, hal
 use Rattle.region_rows.specs.declared.counts.RegionSize.{RegionSize}
 use Rattle.region_rows.specs.RegionSizes.{region_size}
 use Rattle.region_payloads.specs.Payloads.{region_size_after, StandsFor, SizeAfterBy}
-use Rattle.region_payloads.proofs.OutcomeLaws.{counted_refused, counted_gives, counted_as, counted_gave, counted_refuses, convex_counted}
+use Rattle.region_payloads.proofs.StepLaws.{counted_refused, counted_gives, counted_as, counted_gave, counted_refuses, convex_counted}
+
+-- ---- a halfspace stands in 16 bytes
+
+word_first : (s : List ℕ) (k : ℕ) → k + 2 ≤ 16 → word (take 16 s) k ≡ word s k
+word_first s k h = λ i. get_or-take 16 s k 0 (omega arith) i + 256 * get_or-take 16 s (k + 1) 0 (omega arith) i
+
+signed_first : (s : List ℕ) (k : ℕ) → k + 4 ≤ 16 → signed (take 16 s) k ≡ signed s k
+signed_first s k h = λ i. signed_of (word_first s k (omega arith) i + 65536 * word_first s (k + 2) (omega arith) i)
+
+halfspace_first : (s : List ℕ) → halfspace_of (take 16 s) ≡ halfspace_of s
+halfspace_first s =
+    λ i. record {
+      n = vec (signed_first s 0 (omega arith) i) (signed_first s 4 (omega arith) i) (signed_first s 8 (omega arith) i);
+      d = signed_first s 12 (omega arith) i;
+    }
 
 -- ---- i of n halfspaces are taken
 
@@ -51,14 +69,12 @@ first_taken y h hs a q = ap (λ a. then a (λ z. halfspaces_in z hs)) q
 
 module _ (p : List ℕ) (n : ℕ) (rs₀ : List ℤ) (k₀ : RegionSize) (rs : List ℤ) (k : RegionSize) (i : ℕ) (d : Passing p n rs₀ k₀ rs k i) where
   -- h is the next halfspace, read from the bytes left
-  module _ (h : Halfspace) (e : h ≡ halfspace_of (take (length p - 16 * i) (drop (16 * i) p))) (l : i < n) where
+  module _ (h : Halfspace) (e : h ≡ halfspace_of (take 16 (drop (16 * i) p))) (l : i < n) where
     abbrev left : Convex
     left = halfspaces_of (n - (i + 1)) (drop (16 * (i + 1)) p)
 
     next : halfspaces_of (n - i) (drop (16 * i) p) ≡ h ∷ left
-    next =
-        let all = take_all (length p - 16 * i) (drop (16 * i) p) (omega (arith, length-drop (16 * i) p)) in
-        opened p n i l ∙ ap (λ h. h ∷ left) (sym (e ∙ ap halfspace_of all))
+    next = opened p n i l ∙ ap (λ h. h ∷ left) (sym (e ∙ halfspace_first (drop (16 * i) p)))
 
     goes_on : (x y : File) (a : Answer File) → halfspaces_in x (halfspaces_of n p) ≡ halfspaces_in y (halfspaces_of (n - i) (drop (16 * i) p)) → halfspace_in y h ≡ a
         → halfspaces_in x (halfspaces_of n p) ≡ then a (λ z. halfspaces_in z left)

@@ -1,3 +1,3 @@
 pub mod GroupLaws
-pub mod OutcomeLaws
+pub mod StepLaws
 pub mod RowLaws

@@ -10,7 +10,6 @@ use lib.Seq.{get_or-drop, drop-drop}
 use lib.IntN.{ℤ, pos, negsuc}
 use borrow.Author.Tests.{eq-eqb, ne_eqb}
 use Rattle.algebra.specs.Lists.{every, some}
-use Rattle.algebra.proofs.Tests.{split}
 use Rattle.vector.specs.declared.Vec3.{Vec3}
 use Rattle.vector.specs.Numbers.{eq_z}
 use Rattle.region.specs.declared.Halfspace.{Halfspace}
@@ -18,7 +17,6 @@ use Rattle.region.specs.Regions.{Convex, Region, holds_halfspace, holds_convex, 
 use Rattle.region.specs.Building.{total}
 use Rattle.region.proofs.FilledLaws.{Filled}
 use Rattle.region.specs.Rows.{row, convex_rows, rows_from, rows, halfspace_at}
-use Rattle.region.proofs.WriteBack.{eq_z_eq}
 use Rattle.region_points.specs.declared.Scan.{Scan}
 use Rattle.region_points.specs.Points.{state, scanned, scan, rows_hold}
 
@@ -101,12 +99,6 @@ module _ (p : Vec3) where
 eq_z_yes : (a : ℤ) → eq_z a a ≡ true
 eq_z_yes (pos n) = eq-eqb n n refl
 eq_z_yes (negsuc n) = eq-eqb n n refl
-
-pub scanned_same : (s : Scan) (number : ℤ) (here : Bool) → number ≡ s.number → state s.number (s.all && here) s.any ≡ scanned s number here
-scanned_same s number here e = rw (ap (λ k. eq_z k s.number) e ∙ eq_z_yes s.number)
-
-pub scanned_other : (s : Scan) (number : ℤ) (here : Bool) → (number ≡ s.number → ⊥) → state number here (s.any || s.all) ≡ scanned s number here
-scanned_other s number here f = split (eq_z number s.number) (λ e. absurd (f (eq_z_eq number s.number e))) (λ e. rw e)
 
 -- ---- the scan row by row
 

@@ -23,8 +23,8 @@ use Rattle.region.proofs.ReaderLaws.{record_keeps, record_whole, one_more}
 use Rattle.region_rows.specs.declared.counts.RegionSize.{RegionSize}
 use Rattle.region_rows.specs.RegionSizes.{region_size}
 use Rattle.region_payloads.specs.declared.State.{State}
-use Rattle.region_payloads.specs.declared.Outcome.{Outcome}
-use Rattle.region_payloads.specs.Payloads.{state_of, outcome_of, StandsFor, RecordAfter}
+use Rattle.region_payloads.specs.declared.Step.{Step}
+use Rattle.region_payloads.specs.Payloads.{state_of, step_of, StandsFor, RecordAfter}
 use Rattle.region_reader.specs.Reading.{RecordStep, headed_file, records_after, RowsGiven}
 use Rattle.region_records.proofs.FrameLaws.{whole_says, after_at}
 
@@ -59,7 +59,7 @@ module _ (t : Style) (n : ℕ) (x : File) (rest : List ℕ) where
   unfolding records_in
   stopped k e = ap (λ a. then a (λ z. elim (eqb (kind_of rest) 4) [ true ↦ gives z | false ↦ records_in (Styles.only t) n z (after rest) ])) e
 
--- ---- what an outcome says of the answer
+-- ---- what a step says of the answer
 
 record More (end : Bool) (next : ℕ) (a : Answer File) (s : State) : Type 0 where
   file : File
@@ -67,10 +67,10 @@ record More (end : Bool) (next : ℕ) (a : Answer File) (s : State) : Type 0 whe
   goes : end ≡ false
   state : s ≡ state_of next file.region
 
-outcome_more : (end : Bool) (next : ℕ) (a : Answer File) (s : State) → Outcome.More s ≡ outcome_of end next a → More end next a s
-outcome_more end next (refused n) s e = let z : ◌≡◌ {A = ℕ} 0 1 = cc in absurd (omega arith)
-outcome_more true next (gives y) s e = let z : ◌≡◌ {A = ℕ} 0 1 = cc in absurd (omega arith)
-outcome_more false next (gives y) s e = record { file = y; gave = refl; goes = refl; state = cc }
+step_more : (end : Bool) (next : ℕ) (a : Answer File) (s : State) → gives (Step.More s) ≡ step_of end next a → More end next a s
+step_more end next (refused n) s e = let z : ◌≡◌ {A = ℕ} 0 1 = cc in absurd (omega arith)
+step_more true next (gives y) s e = let z : ◌≡◌ {A = ℕ} 0 1 = cc in absurd (omega arith)
+step_more false next (gives y) s e = record { file = y; gave = refl; goes = refl; state = cc }
 
 record Done (end : Bool) (a : Answer File) (n : ℕ) : Type 0 where
   file : File
@@ -78,15 +78,15 @@ record Done (end : Bool) (a : Answer File) (n : ℕ) : Type 0 where
   ends : end ≡ true
   count : n ≡ total file.region
 
-outcome_done : (end : Bool) (next : ℕ) (a : Answer File) (n : ℕ) → Outcome.Done n ≡ outcome_of end next a → Done end a n
-outcome_done end next (refused k) n e = let z : ◌≡◌ {A = ℕ} 0 1 = cc in absurd (omega arith)
-outcome_done true next (gives y) n e = record { file = y; gave = refl; ends = refl; count = cc }
-outcome_done false next (gives y) n e = let z : ◌≡◌ {A = ℕ} 0 1 = cc in absurd (omega arith)
+step_done : (end : Bool) (next : ℕ) (a : Answer File) (n : ℕ) → gives (Step.Done n) ≡ step_of end next a → Done end a n
+step_done end next (refused k) n e = let z : ◌≡◌ {A = ℕ} 0 1 = cc in absurd (omega arith)
+step_done true next (gives y) n e = record { file = y; gave = refl; ends = refl; count = cc }
+step_done false next (gives y) n e = let z : ◌≡◌ {A = ℕ} 0 1 = cc in absurd (omega arith)
 
-outcome_refused : (end : Bool) (next : ℕ) (a : Answer File) (n : ℕ) → Outcome.Refused n ≡ outcome_of end next a → a ≡ refused n
-outcome_refused end next (refused k) n e = cc
-outcome_refused true next (gives y) n e = let z : ◌≡◌ {A = ℕ} 0 1 = cc in absurd (omega arith)
-outcome_refused false next (gives y) n e = let z : ◌≡◌ {A = ℕ} 0 1 = cc in absurd (omega arith)
+step_refused : (end : Bool) (next : ℕ) (a : Answer File) (n : ℕ) → refused n ≡ step_of end next a → a ≡ refused n
+step_refused end next (refused k) n e = cc
+step_refused true next (gives y) n e = let z : ◌≡◌ {A = ℕ} 0 1 = cc in absurd (omega arith)
+step_refused false next (gives y) n e = let z : ◌≡◌ {A = ℕ} 0 1 = cc in absurd (omega arith)
 
 -- ---- the records after the header h
 
@@ -113,7 +113,7 @@ reading_none t f h before l k e = record {
   same = enough t (headed_file h) (drop 8 f) (length (drop 8 f)) (length f) (omega arith) (omega (arith, length-drop 8 f));
 }
 
-module _ (t : Style) (f : List ℕ) (h : Header) (before rs : List ℤ) (s : State) (d : Reading t f h before rs s) (o : Outcome) (rs' : List ℤ)
+module _ (t : Style) (f : List ℕ) (h : Header) (before rs : List ℤ) (s : State) (d : Reading t f h before rs s) (o : Answer Step) (rs' : List ℤ)
     (r : RecordStep t f s rs o rs') where
   abbrev rest : List ℕ
   rest = drop s.at f
@@ -130,9 +130,9 @@ module _ (t : Style) (f : List ℕ) (h : Header) (before rs : List ℤ) (s : Sta
       record_keeps (λ z. (z.depth ≡ h.depth) × (z.budget ≡ h.budget)) (λ z c k. k) (λ z g p q k. k)
       (Styles.only t) d.file y rest e (d.depth, d.budget)
 
-  module _ (next : State) (e : o ≡ Outcome.More next) where
+  module _ (next : State) (e : o ≡ gives (Step.More next)) where
     found : More (eqb (kind_of (drop s.at f)) 4) (s.at + length_of (drop s.at f)) (record_in (Styles.only t) d.file (drop s.at f)) next
-    found = outcome_more _ _ _ next (sym e ∙ taken.outcome)
+    found = step_more _ _ _ next (sym e ∙ taken.step)
 
     place : next.at ≡ s.at + length_of (drop s.at f)
     place = ap (λ u. u.at) found.state
@@ -161,11 +161,11 @@ module _ (t : Style) (f : List ℕ) (h : Header) (before rs : List ℤ) (s : Sta
               ∙ opened;
         }
 
-  pub reading_done : (n : ℕ) → o ≡ Outcome.Done n
+  pub reading_done : (n : ℕ) → o ≡ gives (Step.Done n)
       → (gives (record { count = n; depth = h.depth; budget = h.budget }) ≡ with_value header_of (records_after t h f))
       × RowsGiven (records_after t h f) before rs'
   reading_done n e =
-      let c = outcome_done _ _ _ n (sym e ∙ taken.outcome) in
+      let c = step_done _ _ _ n (sym e ∙ taken.step) in
       let y = c.file in
       let a : records_after t h f ≡ gives y = sym opened ∙ ended t (length rest) d.file rest y c.gave c.ends in
       let k = kept y c.gave in (
@@ -173,10 +173,10 @@ module _ (t : Style) (f : List ℕ) (h : Header) (before rs : List ℤ) (s : Sta
         λ x q. taken.rows y c.gave ∙ ap (λ z. put 0 (rows z.region) before) (same_value y x (sym a ∙ q)),
       )
 
-  pub reading_refused : (n : ℕ) → o ≡ Outcome.Refused n
+  pub reading_refused : (n : ℕ) → o ≡ refused n
       → (refused n ≡ with_value header_of (records_after t h f))
       × RowsGiven (records_after t h f) before rs'
   reading_refused n e =
-      let c = outcome_refused _ _ _ n (sym e ∙ taken.outcome) in
+      let c = step_refused _ _ _ n (sym e ∙ taken.step) in
       let a : records_after t h f ≡ refused n = sym opened ∙ stopped t (length rest) d.file rest n c in
       (ap (with_value header_of) (sym a), λ x q. refused_gives n x (sym a ∙ q))

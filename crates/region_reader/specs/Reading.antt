@@ -1,6 +1,6 @@
 -- What a pass over the records gives, in the terms of region/specs/Reader (document 01, 'Regions'; document 02, F-7). `StandsFor` and `RecordAfter` stand in
 -- region_payloads/specs/Payloads.
---   RecordStep ..          outcome and array after the next record of a file of the style t, for every region that state and array stand for
+--   RecordStep ..          step and array after the next record of a file of the style t, for every region that state and array stand for
 --   records_after t h f     the records of the file f, of the style t, after its header h
 --   RowsGiven a before rs  the array after a pass with the answer a: `before` with the rows of the file that a gives at the beginning
 --   FilledRows g n rs      the array begins with the n rows of the region g, of 1 to 64 convexes, each with a halfspace
@@ -16,10 +16,10 @@ use Rattle.region.specs.Records.{Styles}
 use Rattle.region.specs.Reader.{File, length_of, kind_of, record_in, records_in}
 use Rattle.region.proofs.FilledLaws.{Filled}
 use Rattle.region_payloads.specs.declared.State.{State}
-use Rattle.region_payloads.specs.declared.Outcome.{Outcome}
+use Rattle.region_payloads.specs.declared.Step.{Step}
 use Rattle.region_payloads.specs.Payloads.{StandsFor, RecordAfter}
 
-abbrev pub RecordStep : Style → List ℕ → State → List ℤ → Outcome → List ℤ → Type 0
+abbrev pub RecordStep : Style → List ℕ → State → List ℤ → Answer Step → List ℤ → Type 0
 RecordStep t f s rs o rs' = (x : File) (before : List ℤ) → StandsFor before x.region s.counts rs
     → RecordAfter before (eqb (kind_of (drop s.at f)) 4) (s.at + length_of (drop s.at f)) (record_in (Styles.only t) x (drop s.at f)) o rs'
 

@@ -1,25 +1,30 @@
 -- A record's length and kind, where they stand in the file: the checks 2 and 3, and what a record gives once they have passed.
 -- Reading byte k of what is left is reading byte `at + k` of the file. Assumes nothing.
-use Prim.Native.Nat.{ℕ, ◌+◌, ◌*◌, ◌-◌, ◌/◌, ◌≤◌, ◌<◌}
+use Prim.Native.Nat.{ℕ, ◌+◌, ◌*◌, ◌-◌, ◌≤◌, ◌<◌}
 use native.Mathlib.Nat.{add-zero}
 use native.Mathlib.Omega.{arith}
 use mathlib.Core.Path.{◌≡◌, refl, sym, ap, ◌∙◌}
 use mathlib.Core.Bool.{Bool, true, false, cond, ◌&&◌}
-use mathlib.Core.List.{List}
+use mathlib.Core.List.{List, [], ◌∷◌}
 use lib.Dec.{leb, eqb}
 use lib.ListN.{length, take, drop, get_or, length-drop}
 use lib.Seq.{get_or-drop, drop-drop}
-use borrow.Author.Tests.{leb-true, lt-leb, le-leb}
-use Rattle.algebra.proofs.Tests.{and_left, and_right, and_then, and_else}
-use Rattle.answer.specs.Answer.{Answer, refused, gives, check, then, Torn, Kind, Mixed}
+use borrow.Author.Tests.{leb-true}
+use Rattle.algebra.proofs.Tests.{and_left, and_right}
+use Rattle.std.specs.Prelude.{Option, Some, None, ok_or, option_map}
+use Rattle.std.specs.List.{find}
+use Rattle.answer.specs.declared.Refusal.{Refusal}
+use Rattle.answer.specs.Calls.{answer_of}
+use Rattle.answer.specs.Answer.{Answer, refused, gives, check, then, Torn, Order, Mixed}
+use Rattle.answer.proofs.AnswerLaws.{value_gives, value_refused}
 use Rattle.region.specs.declared.Record.{Record}
 use Rattle.region.specs.Building.{most_in_convex}
 use Rattle.region.specs.Bytes.{word}
-use Rattle.region.specs.Records.{kind, size, allowed, is, record_of, Styles, fits}
+use Rattle.region.specs.Records.{kind, is, first_of, record_of, Styles, fits}
 use Rattle.region.specs.Reader.{File, length_of, kind_of, payload, after, whole, record_at, header_in, header, part_in, record_in}
 use Rattle.region.proofs.ReaderLaws.{Begins, begins, header_read}
 use Rattle.region_records.specs.declared.Frame.{Frame}
-use Rattle.region_records.specs.Frames.{frame_by, frame_of}
+use Rattle.region_records.specs.Frames.{framed, frame_by, frame_of}
 
 -- ---- the file from a position on
 
@@ -61,17 +66,6 @@ whole_says rest w =
     }
 
 module _ (f : List ℕ) (at : ℕ) where
-  pub whole_short : length f - at < 4 → false ≡ whole (drop at f)
-  whole_short h =
-      let e = lt-leb 4 (length (drop at f)) (omega (arith, length-drop at f)) in
-      sym e ∙ and_else _ e
-
-  pub whole_is : (len : ℕ) → len ≡ word f at → 4 ≤ length f - at → (leb 4 len && leb len (length f - at)) ≡ whole (drop at f)
-  whole_is len e h =
-      let l = sym (length-drop at f) in
-      let w = e ∙ sym (length_at f at) in
-      and_then _ (le-leb 4 (length f - at) h) ∙ (λ i. leb 4 (l i) && (leb 4 (w i) && leb (w i) (l i)))
-
   pub whole_left : whole (drop at f) ≡ true → 4 ≤ length f - at
   whole_left w = omega (arith, whole_says (drop at f) w, length-drop at f)
 
@@ -84,30 +78,27 @@ module _ (f : List ℕ) (at : ℕ) where
 few_bytes : (n : ℕ) → (leb 1 n && leb n most_in_convex) ≡ true → 4 + 16 * n < 65536
 few_bytes n e = omega (arith, leb-true n most_in_convex (and_right (leb 1 n) (leb n most_in_convex) e))
 
-pub allowed_size : (r : Record) → allowed r ≡ true → size r < 65536
-allowed_size Record.Header e = omega arith
-allowed_size Record.Convex e = omega arith
-allowed_size Record.Halfspace e = omega arith
-allowed_size Record.End e = omega arith
-allowed_size (Record.Group n) e = few_bytes n e
-
+-- the first of some records that passes is the rule's first of them, and where there is none the refusal is 3
 module _ (n len : ℕ) where
-  abbrev group : Record
-  group = Record.Group ((len - 4) / 16)
+  by_test : (r : Record) (rs : List Record) (t : Bool) → is n len r ≡ t → answer_of (ok_or (find (is n len) rs) Refusal.Kind) ≡ first_of n len rs
+      → answer_of (ok_or (cond t (Some r) (find (is n len) rs)) Refusal.Kind) ≡ cond t (gives r) (first_of n len rs)
+  by_test r rs true e f = refl
+  by_test r rs false e f = f
 
-  -- the first of the records whose test passes
-  abbrev passed : Bool → Bool → Bool → Bool → Bool → Answer Record
-  passed a b c d e =
-      cond a (gives Record.Header) (cond b (gives Record.Convex) (cond c (gives Record.Halfspace)
-      (cond d (gives Record.End) (cond e (gives group) (refused Kind)))))
+  first_is : (rs : List Record) → answer_of (ok_or (find (is n len) rs) Refusal.Kind) ≡ first_of n len rs
+  first_is [] = refl
+  first_is (r ∷ rs) = by_test r rs (is n len r) refl (first_is rs)
 
-  pub by_tests : (a b c d e : Bool) → is n len Record.Header ≡ a → is n len Record.Convex ≡ b → is n len Record.Halfspace ≡ c → is n len Record.End ≡ d
-      → is n len group ≡ e → passed a b c d e ≡ record_of n len
-  by_tests a b c d e ea eb ec ed ee = λ i. passed (sym ea i) (sym eb i) (sym ec i) (sym ed i) (sym ee i)
+  same_option : (o : Option Record) → option_map (λ r. r) o ≡ o
+  same_option None = refl
+  same_option (Some r) = refl
+
+  pub first_found : (rs : List Record) (o : Option Record) → option_map (λ r. r) o ≡ find (is n len) rs → answer_of (ok_or o Refusal.Kind) ≡ first_of n len rs
+  first_found rs o e = ap (λ o. answer_of (ok_or o Refusal.Kind)) (sym (same_option o) ∙ e) ∙ first_is rs
 
 -- ---- the frame
 
-pub frame_torn : (rest : List ℕ) → whole rest ≡ false → Frame.Refused Torn ≡ frame_of rest
+pub frame_torn : (rest : List ℕ) → whole rest ≡ false → refused Torn ≡ frame_of rest
 frame_torn rest e = ap (λ w. frame_by (length_of rest) (check Torn w (record_of (kind_of rest) (length_of rest)))) (sym e)
 
 pub frame_is : (f : List ℕ) (at len kind : ℕ) → len ≡ word f at → kind ≡ word f (at + 2) → whole (drop at f) ≡ true
@@ -125,20 +116,14 @@ pub record Framed (rest : List ℕ) (len : ℕ) (r : Record) : Type 0 where
   pub len_is : len ≡ length_of rest
   pub record_is : record_at rest ≡ gives r
 
-by_answer : (rest : List ℕ) (len : ℕ) (r : Record) (a : Answer Record) → record_at rest ≡ a → Frame.Of len r ≡ frame_by (length_of rest) a → Framed rest len r
-by_answer rest len r (refused n) e q = let z : ◌≡◌ {A = ℕ} 0 1 = cc in absurd (omega arith)
-by_answer rest len r (gives p) e q = let l : len ≡ length_of rest = cc in let s : r ≡ p = cc in record { len_is = l; record_is = e ∙ ap gives (sym s) }
+pub frame_says : (rest : List ℕ) (len : ℕ) (r : Record) → gives (framed len r) ≡ frame_of rest → Framed rest len r
+frame_says rest len r q =
+    let w = value_gives (framed (length_of rest)) (record_at rest) (framed len r) (sym q) in
+    record { len_is = sym (ap (λ f. f.len) w.2); record_is = w.1 ∙ ap (λ (f : Frame). gives f.«record») w.2 }
 
-pub frame_says : (rest : List ℕ) (len : ℕ) (r : Record) → Frame.Of len r ≡ frame_of rest → Framed rest len r
-frame_says rest len r q = by_answer rest len r (record_at rest) refl q
-
-no_record : (rest : List ℕ) (n : ℕ) (a : Answer Record) → Frame.Refused n ≡ frame_by (length_of rest) a → a ≡ refused n
-no_record rest n (refused m) q = cc
-no_record rest n (gives r) q = let z : ◌≡◌ {A = ℕ} 0 1 = cc in absurd (omega arith)
-
-module _ (rest : List ℕ) (n : ℕ) (q : Frame.Refused n ≡ frame_of rest) where
+module _ (rest : List ℕ) (n : ℕ) (q : refused n ≡ frame_of rest) where
   pub frame_refused : record_at rest ≡ refused n
-  frame_refused = no_record rest n (record_at rest) q
+  frame_refused = value_refused (framed (length_of rest)) (record_at rest) n (sym q)
 
   pub header_refused : header rest ≡ refused n
   unfolding header
@@ -164,6 +149,14 @@ module _ (f : List ℕ) (at len : ℕ) (r : Record) (d : Framed (drop at f) len 
   left_after = omega (arith, d.len_is, length-drop (length_of (drop at f)) (drop at f), length-drop at f)
 
 -- ---- a record by what it is
+
+-- the first record is a header
+pub header_first : (r : Record) → (r ≡ Record.Header → ⊥) → (s : List ℕ) → header_in r s ≡ refused Order
+header_first Record.Header n s = absurd (n refl)
+header_first Record.Convex n s = refl
+header_first Record.Halfspace n s = refl
+header_first Record.End n s = refl
+header_first (Record.Group k) n s = refl
 
 module _ (rest : List ℕ) (r : Record) (e : record_at rest ≡ gives r) where
   pub header_by : header rest ≡ header_in r (payload rest)

@@ -5,7 +5,7 @@ ghost use Rattle.algebra.proofs.Sizes.{Upto};
 ghost use Rattle.answer.specs.Lent.{put};
 ghost use Rattle.vector.specs.Numbers.{Kℕ};
 ghost use Rattle.vector.proofs.Sizes.{Small};
-ghost use Rattle.region.specs.Bytes.{word_bytes, bits_of, signed_bytes};
+ghost use Rattle.region.specs.Bytes.{word_bytes, signed_bytes};
 ghost use Rattle.region.specs.Records.{size};
 ghost use Rattle.region.specs.Writer.{begin, numbers_bytes};
 
@@ -16,20 +16,7 @@ pub fn put_word(out: &mut [u8], at: usize, n: u32)
     requires { (at + 2 ≤ length out.old) × (n < 65536) }
     ensures { out.new ≡ put at (word_bytes n) out.old }
 {
-    out[at] = (n % 256) as u8;
-    out[at + 1] = (n / 256) as u8;
-}
-
-// The 32 bits of a number with a sign.
-fn bits_of(z: i64) -> u32
-    requires { Upto Kℕ z }
-    ensures { result ≡ bits_of z }
-{
-    if z < 0 {
-        (crate::TWO_TO_32 + z) as u32
-    } else {
-        z as u32
-    }
+    out[at..at + 2].copy_from_slice(&(n as u16).to_le_bytes());
 }
 
 // Signed 32 bits at position `at`.
@@ -37,9 +24,8 @@ fn put_signed(out: &mut [u8], at: usize, z: i64)
     requires { (at + 4 ≤ length out.old) × Upto Kℕ z }
     ensures { out.new ≡ put at (signed_bytes z) out.old }
 {
-    let b = bits_of(z);
-    put_word(out, at, b % 65536);
-    put_word(out, at + 2, b / 65536);
+    let bytes = (z as i32).to_le_bytes();
+    out[at..at + 4].copy_from_slice(&bytes);
 }
 
 // Length and kind of a record at position `at`.

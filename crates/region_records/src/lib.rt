@@ -3,34 +3,28 @@
 #![tactic(auto)]
 
 ghost use Rattle.std.specs.Prelude.{◌≡◌, ◌+◌, ◌-◌, ◌≤◌, ◌<◌, length, drop};
+ghost use Rattle.answer.specs.Calls.{answer_of};
 ghost use Rattle.answer.specs.Answer.{with_value};
 ghost use Rattle.region.specs.Bytes as bytes;
 ghost use Rattle.region.specs.Records.{kind, size, allowed, is, record_of};
 ghost use Rattle.region.specs.Reader.{whole, header, halfspace_of};
 ghost use Rattle.region.specs.Reader as rule;
-ghost use Rattle.region.specs.Answers.{header_of, header_given};
-ghost use Rattle.region_records.specs.Frames.{record_given, frame_of};
+ghost use Rattle.region.specs.Answers.{header_of};
+ghost use Rattle.region_records.specs.Frames.{frame_of};
 
-use answer::{BUDGET, DEPTH, KIND, ORDER, TORN};
-use region::{Halfspace, Header, HeaderOf, Record};
+use answer::Refusal;
+use region::{Halfspace, Header, Record};
 use vector::Vec3;
 
 pub mod bytes;
 
 const IN_CONVEX: u32 = limits::IN_CONVEX as u32;
 
-// What a record is, or the refusal 3.
+// The length of a record in bytes, and what it is.
 #[derive(Clone, Copy)]
-pub enum RecordOf {
-    Gives(Record),
-    Refused(u32),
-}
-
-// The length of a record in bytes and what it is, or the refusal 2 or 3.
-#[derive(Clone, Copy)]
-pub enum Frame {
-    Of(usize, Record),
-    Refused(u32),
+pub struct Frame {
+    pub len: usize,
+    pub record: Record,
 }
 
 // The 16 bits that begin at byte k of s.
@@ -39,21 +33,7 @@ fn word(s: &[u8], k: usize) -> u32
     ensures value { result ≡ bytes.word s.now k }
     ensures upper_bound { result < 65536 }
 {
-    s[k] as u32 + 256 * (s[k + 1] as u32)
-}
-
-// 2^32: the number of values that 32 bits have.
-pub const TWO_TO_32: i64 = 4294967296;
-
-// 2^31: from here on 32 bits stand for a number below 0.
-const TWO_TO_31: u32 = 2147483648;
-
-// 32 bits read as a number with a sign.
-fn signed_of(n: u32) -> i64
-    ensures { result ≡ bytes.signed_of n }
-{
-    let z = n as i64;
-    if n < TWO_TO_31 { z } else { z - TWO_TO_32 }
+    u32::from(u16::from_le_bytes([s[k], s[k + 1]]))
 }
 
 // The signed 32 bits that begin at byte k of s.
@@ -61,7 +41,7 @@ fn signed(s: &[u8], k: usize) -> i64
     requires { k + 4 ≤ length s.now }
     ensures { result ≡ bytes.signed s.now k }
 {
-    signed_of(word(s, k) + 65536 * word(s, k + 2))
+    i64::from(i32::from_le_bytes([s[k], s[k + 1], s[k + 2], s[k + 3]]))
 }
 
 // 2: four bytes are left from `at` on, the length is four or more, and not past the end.
@@ -70,14 +50,11 @@ fn is_whole(file: &[u8], at: usize) -> bool
     ensures { result ≡ whole (drop at file.now) }
 {
     let left = file.len() - at;
-    if left < 4 {
-        return false;
-    }
-    let len = word(file, at) as usize;
-    4 <= len && len <= left
+    4 <= left && (4..=left).contains(&(word(file, at) as usize))
 }
 
 // The kind of a record.
+// Kept: a match and not `From`, since a record has two numbers, its kind and its length, and `u32::from` would not say which.
 pub fn kind_of(r: Record) -> u32
     ensures { (result ≡ kind r) × (result < 65536) }
 {
@@ -91,6 +68,7 @@ pub fn kind_of(r: Record) -> u32
 }
 
 // The length of a record in bytes.
+// Kept: a match, as above.
 pub fn size_of(r: Record) -> u32
     requires { size r < 65536 }
     ensures { (result ≡ size r) × (result < 65536) }
@@ -109,11 +87,8 @@ fn is_allowed(r: Record) -> bool
     ensures { result ≡ allowed r }
 {
     match r {
-        Record::Header => true,
-        Record::Convex => true,
-        Record::Halfspace => true,
-        Record::End => true,
-        Record::Group(n) => 1 <= n && n <= IN_CONVEX,
+        Record::Group(n) => (1..=IN_CONVEX).contains(&n),
+        _ => true,
     }
 }
 
@@ -125,81 +100,70 @@ fn is_record(kind: u32, len: u32, r: Record) -> bool
 }
 
 // What a record of this kind and length is, or the refusal 3.
-fn record_of(kind: u32, len: u32) -> RecordOf
+fn record_of(kind: u32, len: u32) -> Result<Record, Refusal>
     requires { 4 ≤ len }
-    ensures { record_given result ≡ record_of kind len }
+    ensures { answer_of result ≡ record_of kind len }
 {
-    if is_record(kind, len, Record::Header) {
-        return RecordOf::Gives(Record::Header);
-    }
-    if is_record(kind, len, Record::Convex) {
-        return RecordOf::Gives(Record::Convex);
-    }
-    if is_record(kind, len, Record::Halfspace) {
-        return RecordOf::Gives(Record::Halfspace);
-    }
-    if is_record(kind, len, Record::End) {
-        return RecordOf::Gives(Record::End);
-    }
-    let group = Record::Group((len - 4) / 16);
-    if is_record(kind, len, group) {
-        return RecordOf::Gives(group);
-    }
-    RecordOf::Refused(KIND)
+    let known = [
+        Record::Header,
+        Record::Convex,
+        Record::Halfspace,
+        Record::End,
+        Record::Group((len - 4) / 16),
+    ];
+    known
+        .iter()
+        .copied()
+        .find(|r| is_record(kind, len, *r))
+        .ok_or(Refusal::Kind)
 }
 
 // The length of the record at `at` and what it is, or the refusal 2 or 3.
-pub fn frame_at(file: &[u8], at: usize) -> Frame
+pub fn frame_at(file: &[u8], at: usize) -> Result<Frame, Refusal>
     requires { at ≤ length file.now }
-    ensures { result ≡ frame_of (drop at file.now) }
+    ensures { answer_of result ≡ frame_of (drop at file.now) }
 {
     if !is_whole(file, at) {
-        return Frame::Refused(TORN);
+        return Err(Refusal::Torn);
     }
     let len = word(file, at);
-    let found = record_of(word(file, at + 2), len);
-    match found {
-        RecordOf::Gives(r) => Frame::Of(len as usize, r),
-        RecordOf::Refused(n) => Frame::Refused(n),
-    }
+    let record = record_of(word(file, at + 2), len)?;
+    Ok(Frame {
+        len: len as usize,
+        record,
+    })
 }
 
 // The payload of kind 1: depth and budget.
-fn header_payload(s: &[u8]) -> HeaderOf
+fn header_payload(s: &[u8]) -> Result<Header, Refusal>
     requires { 4 ≤ length s.now }
-    ensures { header_given result ≡ with_value header_of (rule.header_of s.now) }
+    ensures { answer_of result ≡ with_value header_of (rule.header_of s.now) }
 {
     let depth = word(s, 0);
     let budget = word(s, 2);
     if !limits::is_depth(depth) {
-        return HeaderOf::Refused(DEPTH);
+        return Err(Refusal::Depth);
     }
     if !limits::is_budget(budget) {
-        return HeaderOf::Refused(BUDGET);
+        return Err(Refusal::Budget);
     }
-    HeaderOf::Gives(Header {
+    Ok(Header {
         count: 0,
-        depth: depth,
-        budget: budget,
+        depth,
+        budget,
     })
 }
 
 // The first record: the header, or the refusal 2 to 6.
-pub fn header_in(file: &[u8]) -> HeaderOf
-    ensures { header_given result ≡ with_value header_of (header file.now) }
+pub fn header_in(file: &[u8]) -> Result<Header, Refusal>
+    ensures { answer_of result ≡ with_value header_of (header file.now) }
 {
     let at = 0;
-    let frame = frame_at(file, at);
-    match frame {
-        Frame::Refused(n) => HeaderOf::Refused(n),
-        Frame::Of(len, record) => match record {
-            Record::Header => header_payload(&file[at + 4..at + len]),
-            Record::Convex => HeaderOf::Refused(ORDER),
-            Record::Halfspace => HeaderOf::Refused(ORDER),
-            Record::End => HeaderOf::Refused(ORDER),
-            Record::Group(_) => HeaderOf::Refused(ORDER),
-        },
+    let Frame { len, record } = frame_at(file, at)?;
+    if record != Record::Header {
+        return Err(Refusal::Order);
     }
+    header_payload(&file[at + 4..at + len])
 }
 
 // The halfspace of a payload of kind 3: x, y, z and d.
@@ -212,7 +176,7 @@ pub fn halfspace_of(s: &[u8]) -> Halfspace
     let z = signed(s, 8);
     let d = signed(s, 12);
     Halfspace {
-        n: Vec3 { x: x, y: y, z: z },
-        d: d,
+        n: Vec3 { x, y, z },
+        d,
     }
 }

@@ -1,3 +1,4 @@
 pub mod CheckingPass
+pub mod RowParts
 pub mod NumberLaws
 pub mod CountLaws

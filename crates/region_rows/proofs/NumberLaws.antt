@@ -1,14 +1,14 @@
 -- The checks of a row need only the size of the region so far. A row that passes adds one halfspace, and one convex where its number is the next.
 -- Assumes nothing.
-use Prim.Native.Nat.{ℕ, zero, suc, ◌+◌, ◌-◌, ◌≤◌, ◌<◌}
+use Prim.Native.Nat.{ℕ, ◌+◌, ◌-◌, ◌≤◌, ◌<◌}
 use native.Mathlib.Omega.{arith}
 use mathlib.Core.Path.{◌≡◌, refl, sym, ap, ◌∙◌}
 use mathlib.Core.Bool.{Bool, true, false, cond, ◌&&◌, ◌||◌}
-use lib.Dec.{ltb, eqb}
+use lib.Dec.{ltb}
 use lib.ListN.{length}
-use lib.IntN.{ℤ, pos, negsuc, ◌+ℤ◌}
-use borrow.Author.Tests.{leb-true, ltb-true, lt-ltb, le-leb, eqb-true, eqb-false, eq-eqb, ne_eqb}
-use Rattle.algebra.proofs.Tests.{and_left, split}
+use lib.IntN.{ℤ, pos, ◌+ℤ◌}
+use borrow.Author.Tests.{leb-true, ltb-true, le-leb}
+use Rattle.algebra.proofs.Tests.{and_left}
 use Rattle.answer.specs.Answer.{Answer, refused, gives, check, then, with_value, Order, Crowd}
 use Rattle.answer.proofs.AnswerLaws.{check_passed, check_gives}
 use Rattle.vector.specs.Numbers.{eq_z}
@@ -24,14 +24,6 @@ use Rattle.region_rows.proofs.CountLaws.{convex_counts, halfspace_counts}
 use Rattle.region_rows.specs.Opening.{opens_convex}
 
 -- ---- a row
-
--- c is one less than n
-pub number_before : (c : ℤ) (n : ℕ) → 0 < n → eq_z c (pos (n - 1)) ≡ eq_z (c +ℤ pos 1) (pos n)
-number_before (pos m) n h = split (eqb m (n - 1))
-    (λ e. e ∙ sym (eq-eqb (m + 1) n (omega (arith, eqb-true m (n - 1) e))))
-    (λ e. e ∙ sym (ne_eqb (m + 1) n (λ q. eqb-false m (n - 1) e (omega arith))))
-number_before (negsuc zero) n h = sym (ne_eqb 0 n (λ q. omega arith))
-number_before (negsuc (suc m)) n h = rw (lt-ltb 1 (suc (suc m)) (omega arith))
 
 -- after n convexes a row's number is that of a new convex or of the last one
 abbrev pub belongs_to : ℕ → ℤ → Bool

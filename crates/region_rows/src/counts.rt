@@ -1,10 +1,11 @@
 // The size of a region while it grows, in the reader and in the writer: a convex or a halfspace is added, within the stated limits. The rules stand in
 // region/specs/Building, and by counts alone in specs/RegionSizes.
 ghost use Rattle.std.specs.Prelude.{◌≡◌, ◌&&◌, [], ltb};
+ghost use Rattle.answer.specs.Calls.{answer_of};
 ghost use Rattle.region.specs.Building.{is_offset};
-ghost use Rattle.region_rows.specs.RegionSizes.{region_size, region_size_given, add_convex, add_halfspace};
+ghost use Rattle.region_rows.specs.RegionSizes.{region_size, add_convex, add_halfspace};
 
-use answer::{CROWD, OFFSET, VECTOR};
+use answer::Refusal;
 use limits::K;
 use region::Halfspace;
 
@@ -22,13 +23,6 @@ pub struct RegionSize {
     pub all: u16,
 }
 
-// A size, or the number of the first check that failed.
-#[derive(Clone, Copy)]
-pub enum RegionSizeOf {
-    Gives(RegionSize),
-    Refused(u32),
-}
-
 // The size of the region without convexes.
 pub fn none() -> RegionSize
     ensures { result ≡ region_size [] }
@@ -41,16 +35,16 @@ pub fn none() -> RegionSize
 }
 
 // The size with a new convex, which has no halfspace yet, or the refusal 7.
-pub fn with_convex(k: RegionSize) -> RegionSizeOf
-    ensures { region_size_given result ≡ add_convex k }
+pub fn with_convex(k: RegionSize) -> Result<RegionSize, Refusal>
+    ensures { answer_of result ≡ add_convex k }
 {
     if CONVEXES <= k.convexes {
-        return RegionSizeOf::Refused(CROWD);
+        return Err(Refusal::Crowd);
     }
-    RegionSizeOf::Gives(RegionSize {
+    Ok(RegionSize {
         convexes: k.convexes + 1,
         last: 0,
-        all: k.all,
+        ..k
     })
 }
 
@@ -58,10 +52,7 @@ pub fn with_convex(k: RegionSize) -> RegionSizeOf
 fn below_limits(k: RegionSize) -> bool
     ensures { result ≡ (ltb k.last 100 && ltb k.all 512) }
 {
-    if IN_CONVEX <= k.last {
-        return false;
-    }
-    k.all < HALFSPACES
+    k.last < IN_CONVEX && k.all < HALFSPACES
 }
 
 // 9: an offset from −K to K.
@@ -72,22 +63,21 @@ fn is_offset(d: i64) -> bool
 }
 
 // The size with another halfspace in the last convex, or the first refusal: 7, 8, 9.
-pub fn with_halfspace(k: RegionSize, h: Halfspace) -> RegionSizeOf
-    ensures { region_size_given result ≡ add_halfspace k h }
+pub fn with_halfspace(k: RegionSize, h: Halfspace) -> Result<RegionSize, Refusal>
+    ensures { answer_of result ≡ add_halfspace k h }
 {
     if !below_limits(k) {
-        return RegionSizeOf::Refused(CROWD);
+        return Err(Refusal::Crowd);
     }
-    let n = h.n;
-    if !vector_products::is_vector(n) {
-        return RegionSizeOf::Refused(VECTOR);
+    if !vector_products::is_vector(h.n) {
+        return Err(Refusal::Vector);
     }
     if !is_offset(h.d) {
-        return RegionSizeOf::Refused(OFFSET);
+        return Err(Refusal::Offset);
     }
-    RegionSizeOf::Gives(RegionSize {
-        convexes: k.convexes,
+    Ok(RegionSize {
         last: k.last + 1,
         all: k.all + 1,
+        ..k
     })
 }

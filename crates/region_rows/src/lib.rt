@@ -31,7 +31,7 @@ pub fn halfspace_at(rows: &[i32], k: usize) -> Halfspace
     let z = number_at(rows, k + 3);
     let d = number_at(rows, k + 4);
     Halfspace {
-        n: Vec3 { x: x, y: y, z: z },
-        d: d,
+        n: Vec3 { x, y, z },
+        d,
     }
 }

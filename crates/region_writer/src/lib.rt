@@ -5,7 +5,7 @@
 ghost use Rattle.std.specs.Prelude.{◌≡◌, ◌+◌, ◌*◌, ◌≤◌, ◌<◌, length};
 ghost use Rattle.algebra.proofs.Sizes.{Upto};
 ghost use Rattle.answer.specs.Answer.{gives};
-ghost use Rattle.answer.specs.Calls.{number_of};
+ghost use Rattle.answer.specs.Calls.{answer_of};
 ghost use Rattle.answer.specs.Lent.{put};
 ghost use Rattle.vector.specs.Numbers.{Kℕ};
 ghost use Rattle.vector.proofs.Sizes.{Small};
@@ -16,9 +16,9 @@ ghost use Rattle.region.specs.Answers.{file_answer, file_after};
 ghost use Rattle.region_writer.specs.Writing as writing;
 ghost use Rattle.region_writer.specs.Writing.{with_convex_at, with_halfspace_at, RegionStands, RowFits, FileFits, RowsStand};
 
-use answer::{BUDGET, DEPTH, Number, SPACE};
+use answer::Refusal;
 use region::{Halfspace, Record, Style};
-use region_rows::counts::{RegionSize, RegionSizeOf};
+use region_rows::counts::RegionSize;
 
 // Where the next record goes, how many convexes are written, and how many halfspaces of the last one.
 #[derive(Clone, Copy)]
@@ -29,6 +29,7 @@ pub struct WriteCursor {
 }
 
 // The bytes that a halfspace takes.
+// Kept: a length and no number for the style, so no conversion.
 fn width(style: Style) -> usize
     ensures { (result ≡ writing.width style) × (result ≤ 20) }
 {
@@ -81,22 +82,18 @@ fn put_halfspace(style: Style, out: &mut [u8], p: WriteCursor, h: Halfspace) -> 
         Style::Plain => {
             region_records::bytes::put_kind(out, at, Record::Halfspace);
             region_records::bytes::put_numbers(out, at + 4, h);
-            next
         }
         Style::Grouped => {
-            region_records::bytes::put_kind(
-                out,
-                at - (4 + 16 * (p.last as usize)),
-                Record::Group(n),
-            );
+            let begins = at - (4 + 16 * (p.last as usize));
+            region_records::bytes::put_kind(out, begins, Record::Group(n));
             region_records::bytes::put_numbers(out, at, h);
-            next
         }
     }
+    next
 }
 
 // Adds a row with the number c: a convex begins where c is the next number. The cursor after it.
-fn put_row(style: Style, out: &mut [u8], p: WriteCursor, c: i32, h: Halfspace) -> WriteCursor
+fn put_row(style: Style, out: &mut [u8], p: WriteCursor, c: i64, h: Halfspace) -> WriteCursor
     requires { RowFits style out.old p c h }
     ensures { (f : RowFits style out.old p c h) → RegionStands style f.next f.before out.new result }
 {
@@ -112,15 +109,15 @@ fn put_rows(style: Style, rows: &[i32], out: &mut [u8]) -> usize
     requires { FileFits style rows.now (length out.old) }
     ensures { RowsStand style rows.now out.old out.new result }
 {
+    let (fives, _) = rows.as_chunks::<5>();
     let mut p = WriteCursor {
         at: 8,
         convexes: 0,
         last: 0,
     };
-    let mut i = 0;
-    while i < rows.len() {
-        p = put_row(style, out, p, rows[i], region_rows::halfspace_at(rows, i));
-        i += 5;
+    for row in fives {
+        let number = region_rows::number_at(row, 0);
+        p = put_row(style, out, p, number, region_rows::halfspace_at(row, 0));
     }
     p.at
 }
@@ -149,25 +146,27 @@ fn file_length(style: Style, c: RegionSize) -> usize
 
 // The region file of rows, depth and budget, written at the beginning of `out`: its length, or the first refusal (5, 6, then no rows and whole
 // fives (4), then each row for 4, 7, 8, 9; 10 last), and then nothing is written.
-pub fn write(style: Style, depth: u32, budget: u32, rows: &[i32], out: &mut [u8]) -> Number
-    ensures result_value { number_of result ≡ file_answer (write_in style depth budget rows.now) out.old }
+pub fn write(
+    style: Style,
+    depth: u32,
+    budget: u32,
+    rows: &[i32],
+    out: &mut [u8],
+) -> Result<u64, Refusal>
+    ensures result_value { answer_of result ≡ file_answer (write_in style depth budget rows.now) out.old }
     ensures out_after { out.new ≡ file_after (write_in style depth budget rows.now) out.old }
 {
     if !limits::is_depth(depth) {
-        return Number::Refused(DEPTH);
+        return Err(Refusal::Depth);
     }
     if !limits::is_budget(budget) {
-        return Number::Refused(BUDGET);
+        return Err(Refusal::Budget);
     }
-    match region_rows::checks::checked(rows) {
-        RegionSizeOf::Refused(n) => Number::Refused(n),
-        RegionSizeOf::Gives(c) => {
-            let len = file_length(style, c);
-            if out.len() < len {
-                return Number::Refused(SPACE);
-            }
-            put_file(style, depth, budget, rows, out);
-            Number::Gives(len as u64)
-        }
+    let counts = region_rows::checks::checked(rows)?;
+    let len = file_length(style, counts);
+    if out.len() < len {
+        return Err(Refusal::Space);
     }
+    put_file(style, depth, budget, rows, out);
+    Ok(len as u64)
 }

@@ -2,13 +2,11 @@
 // and a failure is said on standard error.
 #![tactic(auto)]
 
-ghost use Rattle.std.specs.Prelude.{◌≡◌, ◌≤◌, length};
+ghost use Rattle.std.specs.Prelude.{◌≤◌, length, IfSome};
 ghost use Rattle.std.specs.Io.{ReadsAtMost};
 ghost use Rattle.std.specs.Io.KnownBytes.{ReadConsumes};
 ghost use Rattle.streams.specs.Input.{BytesIn};
-ghost use Rattle.streams.specs.declared.Input.{Input};
 
-use check::same;
 use std::env::{Env, FillError};
 use std::io;
 use std::io::{ErrorKind, Print, Read, Stderr, Stdin, Stdout, Write};
@@ -33,25 +31,68 @@ pub struct Streams {
     pub errors: Stderr,
 }
 
-// How many bytes were read, 0 at the input's end; or a read has failed.
-#[derive(Clone, Copy)]
-pub enum Input {
-    Bytes(usize),
-    Failed,
-}
+impl Streams {
+    pub fn of(rt: &HostRuntime) -> Streams {
+        Streams {
+            input: rt.stdin(),
+            output: rt.stdout(),
+            errors: rt.stderr(),
+        }
+    }
 
-// One read, to the beginning of `to`.
-pub fn read(streams: Streams, to: &mut [u8]) -> Input
-    ensures { BytesIn to.new result }
-{
-    let mut input = streams.input;
-    match read_from(&mut input, to) {
-        Ok(n) => Input::Bytes(n),
-        Err(e) => failed(streams, &e),
+    // One read, to the beginning of `to`: how many bytes were read, 0 at the input's end; none where it has failed.
+    pub fn read(self, to: &mut [u8]) -> Option<usize>
+        ensures { BytesIn to.new result }
+    {
+        let mut input = self.input;
+        match read_from(&mut input, to) {
+            Ok(n) => Some(n),
+            Err(e) => {
+                self.say("standard input is not read to its end", &e);
+                None
+            },
+        }
+    }
+
+    // Reads to the end of the input, or until `to` is full.
+    pub fn read_all(self, to: &mut [u8]) -> Option<usize>
+        ensures { BytesIn to.new result }
+    {
+        let mut done = 0;
+        // Kept: no index, but how much was read: a read gives as much as it likes, and read_exact fails at an early end.
+        while done < to.len() {
+            let n = self.read(&mut to[done..])?;
+            if n == 0 {
+                break;
+            }
+            done += n;
+        }
+        Some(done)
+    }
+
+    // Writes all of `bytes`, and answers whether that was done.
+    pub fn write(self, bytes: &[u8]) -> bool {
+        let mut output = self.output;
+        match Write::write_all(&mut output, bytes) {
+            Ok(()) => true,
+            Err(e) => {
+                self.say("standard output is cut short", &e);
+                false
+            },
+        }
+    }
+
+    // Says on standard error what has failed, and the system's text of why.
+    fn say(self, what: &str, e: &io::Error) {
+        let mut text = [0u8; REASON_BYTES];
+        let mut rest = &mut text[..];
+        let _ = write!(rest, "{e}");
+        let reason = reason_in(&text);
+        let _ = Print::println(&self.errors, format_args!("{what}: {reason}"));
     }
 }
 
-// As above, from any reader.
+// One read from any reader.
 fn read_from<R: Read>(input: &mut R, to: &mut [u8]) -> io::Result<usize>
     ensures bound { ReadsAtMost result to.new }
     ensures bytes { ReadConsumes (R.remaining input.old) (R.remaining input.new) result to.new }
@@ -69,51 +110,6 @@ fn read_from<R: Read>(input: &mut R, to: &mut [u8]) -> io::Result<usize>
     Err(io::Error::from(ErrorKind::Interrupted))
 }
 
-fn failed(streams: Streams, e: &io::Error) -> Input
-    ensures { result ≡ Input.Failed }
-{
-    say(streams, "standard input is not read to its end", e);
-    Input::Failed
-}
-
-// Reads to the end of the input, or until `to` is full.
-pub fn read_all(streams: Streams, to: &mut [u8]) -> Input
-    ensures { BytesIn to.new result }
-{
-    let mut done = 0;
-    while done < to.len() {
-        let Input::Bytes(n) = read(streams, &mut to[done..]) else {
-            return Input::Failed;
-        };
-        if n == 0 {
-            break;
-        }
-        done += n;
-    }
-    Input::Bytes(done)
-}
-
-// Writes all of `bytes`, and answers whether that was done.
-pub fn write(streams: Streams, bytes: &[u8]) -> bool {
-    let mut output = streams.output;
-    match Write::write_all(&mut output, bytes) {
-        Ok(()) => true,
-        Err(e) => {
-            say(streams, "standard output is cut short", &e);
-            false
-        },
-    }
-}
-
-// Says on standard error what has failed, and the system's text of why.
-fn say(streams: Streams, what: &str, e: &io::Error) {
-    let mut text = [0u8; REASON_BYTES];
-    let mut rest = &mut text[..];
-    let _ = write!(rest, "{e}");
-    let reason = reason_in(&text);
-    let _ = Print::println(&streams.errors, format_args!("{what}: {reason}"));
-}
-
 // The text of an error up to its number, which std puts behind it, or up to the first zero.
 fn reason_in(text: &[u8]) -> &str {
     let Ok(words) = str::from_utf8(text) else {
@@ -124,21 +120,19 @@ fn reason_in(text: &[u8]) -> &str {
     reason
 }
 
-// The argument at a place, at the beginning of `to`: its length, or 0 where there is none or `to` is too short for it.
-pub fn argument(rt: &impl Env, place: usize, to: &mut [u8]) -> usize
-    ensures { result ≤ length to.new }
+// The argument at a place, at the beginning of `to`; none where there is no such argument or `to` is too short for it.
+pub fn argument<'a>(rt: &impl Env, place: usize, to: &'a mut [u8]) -> Option<&'a [u8]>
+    ensures { IfSome result (λ word. length word.now ≤ length to.old) }
 {
-    rt.arg(place, to).unwrap_or(0)
+    let n = rt.arg(place, to).ok()?;
+    Some(&to[..n])
 }
 
 // How many arguments the program was started with, its own name among them.
 pub fn argument_count(rt: &impl Env) -> usize {
-    for n in 0..usize::MAX {
-        if let Err(FillError::NotPresent) = rt.arg(n, &mut []) {
-            return n;
-        }
-    }
-    usize::MAX
+    (0..usize::MAX)
+        .find(|n| matches!(rt.arg(*n, &mut []), Err(FillError::NotPresent)))
+        .unwrap_or(usize::MAX)
 }
 
 // Whether a program that takes no argument was given none. Else its usage is written: on standard output where it is asked for, on standard error
@@ -148,9 +142,8 @@ pub fn has_no_argument(rt: &impl Env, streams: Streams, usage: &[u8]) -> bool {
         return true;
     }
     let mut word = [0u8; WORD_BYTES];
-    let length = argument(rt, 1, &mut word);
-    if same(&word[..length], b"--help") {
-        write(streams, usage);
+    if matches!(argument(rt, 1, &mut word), Some(b"--help")) {
+        streams.write(usage);
     } else {
         let mut errors = streams.errors;
         let _ = Write::write_all(&mut errors, usage);

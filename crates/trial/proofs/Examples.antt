@@ -7,6 +7,8 @@
 --   buffer_examples    which buffer the part is of
 --   check_examples     18, the file, 5 and 6 of the first setting, those of the second, then 10 for each buffer
 use Prim.Native.Nat.{ℕ}
+use Rattle.std.specs.Prelude.{Result, Ok, Err}
+use Rattle.answer.specs.declared.Refusal.{Refusal}
 use mathlib.Core.Path.{◌≡◌, refl}
 use mathlib.Core.List.{List, [], ◌∷◌}
 use lib.ListN.{replicate}
@@ -31,7 +33,6 @@ use Rattle.trial.specs.declared.SettingResult.{SettingResult}
 use Rattle.trial.specs.declared.Choice.{Choice}
 use Rattle.trial.specs.declared.Choice.TheVariants.{First, Second}
 use Rattle.trial.specs.declared.Trial.{Trial}
-use Rattle.trial.specs.declared.TrialOf.{TrialOf}
 use Rattle.trial.specs.Trials.{result_of, spanned, choice_of}
 use Rattle.trial.specs.Answers.{trial_into, trial_list, part_of, buffer_of}
 use Rattle.region.specs.declared.Style.{Style}
@@ -81,7 +82,7 @@ pub list_example : (trial_list (tried First) ≡ 4 ∷ 2 ∷ 1 ∷ 2 ∷ 1 ∷ 3
 list_example = (refl, refl)
 
 abbrev part : Choice → List ℕ → List ℕ → List ℕ
-part c first second = part_of (TrialOf.Gives (tried c)) first second
+part c first second = part_of {E = Refusal} (Ok (tried c)) first second
 
 pub part_examples : (part First (1 ∷ 2 ∷ 3 ∷ []) (5 ∷ 6 ∷ 7 ∷ 8 ∷ []) ≡ [])
     × (part First (1 ∷ 2 ∷ 3 ∷ 4 ∷ []) [] ≡ 1 ∷ 2 ∷ 3 ∷ 4 ∷ [])
@@ -89,13 +90,13 @@ pub part_examples : (part First (1 ∷ 2 ∷ 3 ∷ []) (5 ∷ 6 ∷ 7 ∷ 8 ∷ 
     × (part Second (1 ∷ 2 ∷ 3 ∷ 4 ∷ []) (5 ∷ []) ≡ [])
     × (part Second [] (5 ∷ 6 ∷ []) ≡ 5 ∷ 6 ∷ [])
     × (part Second (1 ∷ 2 ∷ 3 ∷ 4 ∷ []) (5 ∷ 6 ∷ 7 ∷ 8 ∷ []) ≡ 5 ∷ 6 ∷ [])
-    × (part_of (TrialOf.Refused 4) (1 ∷ 2 ∷ []) (5 ∷ 6 ∷ []) ≡ [])
+    × (part_of (Err Refusal.Order) (1 ∷ 2 ∷ []) (5 ∷ 6 ∷ []) ≡ [])
 part_examples = (refl, refl, refl, refl, refl, refl, refl)
 
-abbrev buffer : TrialOf → ℕ
+abbrev buffer : Result Trial Refusal → ℕ
 buffer r = buffer_of r 1 2
 
-pub buffer_examples : (buffer (TrialOf.Gives (tried First)) ≡ 1) × (buffer (TrialOf.Gives (tried Second)) ≡ 2) × (buffer (TrialOf.Refused 4) ≡ 1)
+pub buffer_examples : (buffer (Ok (tried First)) ≡ 1) × (buffer (Ok (tried Second)) ≡ 2) × (buffer (Err Refusal.Order) ≡ 1)
 buffer_examples = (refl, refl, refl)
 
 -- ---- the checks

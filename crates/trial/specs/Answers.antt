@@ -4,7 +4,6 @@
 --   trial_into ..       the file that is tried, or the refusal: 18, the file's, 5, 6, 5, 6, 10
 --   trial_answer ..     both results, and the choice
 --   first_after ..      the first buffer afterwards, and second_after the second: the two lists of each setting, as a cover leaves them
---   trial_given r       what the call gave
 --   TrialCall ..       it gave r and left both buffers, all by these definitions: the contract of the call
 --   trial_list t        both results and the choice, as numbers, `trial_counts` of them: the five of the first, those of the second, and the choice, 1 or 2
 --   fitting n l        the first n elements of l; none where it has fewer
@@ -14,8 +13,11 @@
 --   buffer_of r ..      of two things, one for each buffer, that of the buffer which the part is of: of the first unless the second is chosen
 --   IsPart r first second part   a reference to that part, itself and not a copy: its elements, and where it points
 use Rattle.std.specs.Prelude.{ℕ, ◌*◌, ◌≡◌, cond, List, [], ◌∷◌, leb, length, take, ℤ}
+use Rattle.std.specs.Prelude.{Result, Ok, Err}
+use Rattle.answer.specs.declared.Refusal.{Refusal}
+use Rattle.answer.specs.Calls.{answer_of}
 use Rattle.std.specs.Borrow.{Bor}
-use Rattle.answer.specs.Answer.{Answer, refused, gives, check, then, with_value, Depth, Budget, Space, Owner}
+use Rattle.answer.specs.Answer.{Answer, gives, check, then, with_value, Depth, Budget, Space, Owner}
 use Rattle.answer.specs.Lent.{stored}
 use Rattle.vector.specs.Numbers.{is_depth}
 use Rattle.region.specs.Budgets.{is_budget, budget_of}
@@ -27,7 +29,6 @@ use Rattle.trial.specs.declared.Setting.{Setting}
 use Rattle.trial.specs.declared.Choice.{Choice}
 use Rattle.trial.specs.declared.Choice.TheVariants.{First, Second}
 use Rattle.trial.specs.declared.Trial.{Trial}
-use Rattle.trial.specs.declared.TrialOf.{TrialOf}
 use Rattle.trial.specs.Trials.{cover_by, trial_of}
 
 -- ---- the trial
@@ -56,12 +57,8 @@ first_after o l f s t first second = stored (lists_by s) (trial_into o l f s t f
 unfoldable pub second_after : ℕ → List ℤ → List ℕ → Setting → Setting → List ℕ → List ℕ → List ℕ
 second_after o l f s t first second = stored (lists_by t) (trial_into o l f s t first second) second
 
-abbrev pub trial_given : TrialOf → Answer Trial
-trial_given (TrialOf.Gives t) = gives t
-trial_given (TrialOf.Refused n) = refused n
-
-pub record TrialCall (o : ℕ) (l : List ℤ) (f : List ℕ) (s t : Setting) (first second : List ℕ) (r : TrialOf) (one two : List ℕ) : Type 0 where
-  pub answer : trial_given r ≡ trial_answer o l f s t first second
+pub record TrialCall (o : ℕ) (l : List ℤ) (f : List ℕ) (s t : Setting) (first second : List ℕ) (r : Result Trial Refusal) (one two : List ℕ) : Type 0 where
+  pub answer : answer_of r ≡ trial_answer o l f s t first second
   pub first_left : one ≡ first_after o l f s t first second
   pub second_left : two ≡ second_after o l f s t first second
 
@@ -87,17 +84,17 @@ fitting n l = cond (leb n (length l)) (take n l) []
 abbrev pub part_by : Trial → List ℕ → List ℕ → List ℕ
 part_by t first second = of_choice t.choice (fitting (2 * t.first.outer) first) (fitting (2 * t.second.outer) second)
 
-abbrev pub part_of : TrialOf → List ℕ → List ℕ → List ℕ
-part_of (TrialOf.Gives t) first second = part_by t first second
-part_of (TrialOf.Refused n) first second = []
+abbrev pub part_of : {E : Type 0} → Result Trial E → List ℕ → List ℕ → List ℕ
+part_of (Ok t) first second = part_by t first second
+part_of (Err e) first second = []
 
 abbrev pub buffer_by : {A : Type 0} → Trial → A → A → A
 buffer_by t first second = of_choice t.choice first second
 
-abbrev pub buffer_of : {A : Type 0} → TrialOf → A → A → A
-buffer_of (TrialOf.Gives t) first second = buffer_by t first second
-buffer_of (TrialOf.Refused n) first second = first
+abbrev pub buffer_of : {E A : Type 0} → Result Trial E → A → A → A
+buffer_of (Ok t) first second = buffer_by t first second
+buffer_of (Err e) first second = first
 
-pub record IsPart (r : TrialOf) (first second part : Bor (List ℕ)) : Type 0 where
+pub record IsPart {E : Type 0} (r : Result Trial E) (first second part : Bor (List ℕ)) : Type 0 where
   pub elements : part.now ≡ part_of r first.now second.now
   pub address : part.ref_ptr ≡ buffer_of r first.ref_ptr second.ref_ptr

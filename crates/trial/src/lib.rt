@@ -21,10 +21,10 @@ pub struct SettingResult {
     pub inner: u64,
 }
 
-// The setting chosen.
+// The setting chosen, by its number in a list.
 #[derive(Clone, Copy)]
 pub enum Choice {
-    First,
+    First = 1,
     Second,
 }
 
@@ -34,11 +34,4 @@ pub struct Trial {
     pub first: SettingResult,
     pub second: SettingResult,
     pub choice: Choice,
-}
-
-// A trial's result, or the number of the first check that failed.
-#[derive(Clone, Copy)]
-pub enum TrialOf {
-    Gives(Trial),
-    Refused(u32),
 }

@@ -1,12 +1,14 @@
 -- What the parts of a trial give. Document 02, F-13; the rules are those of trial/specs.
---   passing n a        the answer a, or the refusal n; 0 is none
---   SettingRefusal s r r is what the setting s is refused with, 0 for a good one
---   Checks ..          r is the first check that fails behind the file's, 0 for none, where the index has k elements and the buffers have m and n:
+--   passing r a        the answer a, or the refusal r
+--   SettingRefusal s r r is what the setting s is refused with, if it is none
+--   Checks ..          r is the first check that fails behind the file's, if one does, where the index has k elements and the buffers have m and n:
 --                      5, 6, 5, 6, 10
 --   score_of d r        the result and the share of the sky of a search at the depth d; trial_by a b: both results, and the choice
 --   Tries, TriesRows   the setting s tried on a region; on every region that has these rows
-use Rattle.std.specs.Prelude.{ℕ, ◌+◌, ◌-◌, ◌*◌, ◌^◌, ◌≡◌, cond, List, eqb, leb, ℤ}
-use Rattle.answer.specs.Answer.{Answer, refused, check, Space}
+use Rattle.std.specs.Prelude.{ℕ, ◌+◌, ◌-◌, ◌*◌, ◌^◌, ◌≡◌, List, leb, ℤ, Result}
+use Rattle.answer.specs.declared.Refusal.{Refusal}
+use Rattle.answer.specs.Calls.{answer_of}
+use Rattle.answer.specs.Answer.{Answer, check, then, Space}
 use Rattle.region.specs.Regions.{Region}
 use Rattle.region.specs.Budgets.{budget_of}
 use Rattle.region.specs.Reader.{File}
@@ -22,17 +24,17 @@ use Rattle.trial_calls.specs.declared.ScoredSetting.{ScoredSetting}
 
 -- ---- the checks
 
-abbrev pub passing : {A : Type 0} → ℕ → Answer A → Answer A
-passing n a = cond (eqb n 0) a (refused n)
+abbrev pub passing : {A : Type 0} → Result (Unit {0}) Refusal → Answer A → Answer A
+passing r a = then (answer_of r) (λ u. a)
 
-abbrev pub SettingRefusal : Setting → ℕ → Type 0
+abbrev pub SettingRefusal : Setting → Result (Unit {0}) Refusal → Type 0
 SettingRefusal s r = (a : Answer File) → check_setting s a ≡ passing r a
 
 -- those of the lists, by their lengths
 abbrev pub check_lengths : {A : Type 0} → ℕ → Setting → Setting → ℕ → ℕ → Answer A → Answer A
 check_lengths k s t m n a = check Space (leb (4 * budget_of s.budget) m) (check Space (leb (4 * budget_of t.budget) n) (check Space (leb IndexLength k) a))
 
-abbrev pub Checks : ℕ → Setting → Setting → ℕ → ℕ → ℕ → Type 0
+abbrev pub Checks : ℕ → Setting → Setting → ℕ → ℕ → Result (Unit {0}) Refusal → Type 0
 Checks k s t m n r = (a : Answer File) → check_setting s (check_setting t (check_lengths k s t m n a)) ≡ passing r a
 
 -- ---- one setting

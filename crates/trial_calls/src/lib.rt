@@ -5,21 +5,20 @@
 ghost use Rattle.std.specs.Prelude.{◌≡◌, true, List, ℕ, ◌+◌, ◌*◌, ◌^◌, ◌≤◌, leb, length};
 ghost use Rattle.region.specs.Budgets.{budget_of};
 ghost use Rattle.index.specs.Exposures.{is_owner};
-ghost use Rattle.index.specs.Entries.{IndexLength};
 ghost use Rattle.covering_walk.specs.Walk.{SomeRows};
 ghost use Rattle.covering_calls.specs.Decoded.{Decoded};
 ghost use Rattle.frames_calls.specs.Searches.{FileIs};
-ghost use Rattle.trial.specs.declared.TrialOf.TheVariants.{Gives};
 ghost use Rattle.trial.specs.Trials.{choice_of};
-ghost use Rattle.trial.specs.Answers.{TrialCall, fitting, IsPart};
+ghost use Rattle.trial.specs.Answers.{TrialCall, fitting, part_by, buffer_by, IsPart};
 ghost use Rattle.trial_calls.specs.Tries.{SettingRefusal, Checks, score_of, trial_by, TriesRows};
 
-use answer::{BUDGET, DEPTH, OWNER, SPACE};
+use answer::Refusal;
 use frames_calls::SearchResult;
+use frames_walk::lists::{OwnedEntries, RegionRows};
 use index::{INDEX_LENGTH, OWNER_CAPACITY, OWNERS};
 use limits::{HALFSPACES, MAX_DEPTH};
-use region::{Header, HeaderOf};
-use trial::{Choice, Setting, SettingResult, Trial, TrialOf};
+use region::Header;
+use trial::{Choice, Setting, SettingResult, Trial};
 
 // The result of one setting, and the share of the sky that its outer list spans, in identifiers of depth 12.
 #[derive(Clone, Copy)]
@@ -28,19 +27,17 @@ pub struct ScoredSetting {
     pub sky: u64,
 }
 
-// 5 or 6, where the setting is none; else 0.
-pub fn setting_refusal(s: Setting) -> u32
+// Whether a setting is one; refusals 5, 6.
+pub fn check_setting(s: Setting) -> Result<(), Refusal>
     ensures { SettingRefusal s result }
 {
-    let deep = limits::is_depth(s.depth);
-    let paid = limits::is_budget(s.budget);
-    if !deep {
-        return DEPTH;
+    if !limits::is_depth(s.depth) {
+        return Err(Refusal::Depth);
     }
-    if !paid {
-        return BUDGET;
+    if !limits::is_budget(s.budget) {
+        return Err(Refusal::Budget);
     }
-    0
+    Ok(())
 }
 
 // Whether n elements are room for both lists of a setting.
@@ -50,28 +47,22 @@ fn has_room(s: Setting, n: usize) -> bool
     4 * limits::budget_of(s.budget) <= n
 }
 
-// The number of the first check that fails, of those behind the file's; else 0. The lists are given by their lengths.
-fn refusal(index: usize, s: Setting, t: Setting, first: usize, second: usize) -> u32
+// The checks behind the file's, with the lists given by their lengths; refusals 5, 6, 5, 6, 10.
+fn checks(index: usize, s: Setting, t: Setting, first: usize, second: usize) -> Result<(), Refusal>
     ensures { Checks index s t first second result }
 {
-    let one = setting_refusal(s);
-    if one != 0 {
-        return one;
-    }
-    let two = setting_refusal(t);
-    if two != 0 {
-        return two;
-    }
+    check_setting(s)?;
+    check_setting(t)?;
     if !has_room(s, first) {
-        return SPACE;
+        return Err(Refusal::Space);
     }
     if !has_room(t, second) {
-        return SPACE;
+        return Err(Refusal::Space);
     }
     if index < INDEX_LENGTH {
-        return SPACE;
+        return Err(Refusal::Space);
     }
-    0
+    Ok(())
 }
 
 // The result and the share of the sky of a search at a depth.
@@ -79,7 +70,7 @@ fn score_of(depth: u32, made: SearchResult) -> ScoredSetting
     requires { (1 ≤ depth) × (depth ≤ 12) × (made.counts.full + made.counts.partial + made.counts.swallowed ≤ 2 ^ 25) }
     ensures { result ≡ score_of depth made }
 {
-    let span = covering_calls::power(MAX_DEPTH - depth);
+    let span = 4u64.pow(MAX_DEPTH - depth);
     ScoredSetting {
         result: SettingResult {
             unchecked: made.dispositions.unchecked,
@@ -92,30 +83,21 @@ fn score_of(depth: u32, made: SearchResult) -> ScoredSetting
     }
 }
 
-// One setting on the region of `count` rows: its lists in its buffer, and its result.
+// One setting on a region: its lists in its buffer, and its result.
 fn try_setting(
-    index: &[i64],
-    owner: u32,
+    entries: OwnedEntries,
+    region: RegionRows,
     s: Setting,
-    rows: &[i32; 5 * HALFSPACES],
-    count: usize,
     ranges: &mut [u64],
 ) -> ScoredSetting
-    requires le_depth { (1 ≤ s.depth) × (s.depth ≤ 12) × SomeRows count rows.now }
-    requires budget_in_bounds { (4 * budget_of s.budget ≤ length ranges.old) × (IndexLength ≤ length index.now) }
-    ensures { TriesRows owner index.now s rows.now count ranges.old result ranges.new }
+    requires le_depth { (1 ≤ s.depth) × (s.depth ≤ 12) × SomeRows region.count region.rows.now }
+    requires budget_in_bounds { 4 * budget_of s.budget ≤ length ranges.old }
+    ensures { TriesRows entries.entry.owner entries.entry.index.now s region.entry.rows.now region.entry.count
+        ranges.old result ranges.new }
 {
     let mut numbers = [0u32; OWNER_CAPACITY];
-    let made = frames_calls::search(
-        index,
-        owner,
-        s.depth,
-        limits::budget_of(s.budget),
-        rows,
-        count,
-        ranges,
-        &mut numbers,
-    );
+    let budget = limits::budget_of(s.budget);
+    let made = frames_calls::search(entries, region, s.depth, budget, ranges, &mut numbers);
     score_of(s.depth, made)
 }
 
@@ -134,11 +116,9 @@ fn choice(first: u64, second: u64) -> Choice
 fn compared(a: ScoredSetting, b: ScoredSetting) -> Trial
     ensures { result ≡ trial_by a b }
 {
-    let first = a.result;
-    let second = b.result;
     Trial {
-        first: first,
-        second: second,
+        first: a.result,
+        second: b.result,
         choice: choice(a.sky, b.sky),
     }
 }
@@ -153,19 +133,21 @@ fn trial_in(
     t: Setting,
     first: &mut [u64],
     second: &mut [u64],
-) -> TrialOf
+) -> Result<Trial, Refusal>
     requires file_is { FileIs h rows.now }
     requires owner_value { is_owner owner ≡ true }
     ensures { (f : List ℕ) → Decoded f h rows.now
         → TrialCall owner index.now f s t first.old second.old result first.new second.new }
 {
-    let refused = refusal(index.len(), s, t, first.len(), second.len());
-    if refused != 0 {
-        return TrialOf::Refused(refused);
-    }
-    let one = try_setting(index, owner, s, rows, h.count as usize, first);
-    let two = try_setting(index, owner, t, rows, h.count as usize, second);
-    TrialOf::Gives(compared(one, two))
+    checks(index.len(), s, t, first.len(), second.len())?;
+    let entries = OwnedEntries { index, owner };
+    let region = RegionRows {
+        rows,
+        count: h.count as usize,
+    };
+    let one = try_setting(entries, region, s, first);
+    let two = try_setting(entries, region, t, second);
+    Ok(compared(one, two))
 }
 
 // A trial: the two lists of each setting in its buffer, both results, and the choice; refusals 18, the file's, 5, 6, 5, 6, then 10.
@@ -177,19 +159,16 @@ pub fn trial(
     t: Setting,
     first: &mut [u64],
     second: &mut [u64],
-) -> TrialOf
+) -> Result<Trial, Refusal>
     ensures { TrialCall owner index.now file.now s t first.old second.old
         result first.new second.new }
 {
     if OWNERS <= owner {
-        return TrialOf::Refused(OWNER);
+        return Err(Refusal::Owner);
     }
     let mut rows = [0i32; 5 * HALFSPACES];
-    let said = region_reader::decode(file, &mut rows);
-    match said {
-        HeaderOf::Gives(h) => trial_in(index, owner, h, &rows, s, t, first, second),
-        HeaderOf::Refused(n) => TrialOf::Refused(n),
-    }
+    let h = region_reader::decode(file, &mut rows)?;
+    trial_in(index, owner, h, &rows, s, t, first, second)
 }
 
 // The first n pairs of a list; none where it has fewer.
@@ -204,21 +183,21 @@ fn front<'a>(n: u64, list: &'a [u64]) -> &'a [u64]
 
 // The outer list of the setting chosen, in its buffer.
 fn part_by<'a>(t: Trial, first: &'a [u64], second: &'a [u64]) -> &'a [u64]
-    ensures { IsPart (Gives t) first.entry second.entry result }
+    ensures elements { result.now ≡ part_by t first.now second.now }
+    ensures address { result.ref_ptr ≡ buffer_by t first.entry.ref_ptr second.entry.ref_ptr }
 {
-    let k = t.choice;
-    match k {
+    match t.choice {
         Choice::First => front(t.first.outer, first),
         Choice::Second => front(t.second.outer, second),
     }
 }
 
 // Of the two buffers of a trial the chosen one's outer list, itself and not a copy; the empty part after a refusal, or where the buffer is shorter.
-pub fn chosen<'a>(res: TrialOf, first: &'a [u64], second: &'a [u64]) -> &'a [u64]
+pub fn chosen<'a, E: Drop>(res: Result<Trial, E>, first: &'a [u64], second: &'a [u64]) -> &'a [u64]
     ensures { IsPart res first.entry second.entry result }
 {
     match res {
-        TrialOf::Gives(t) => part_by(t, first, second),
-        TrialOf::Refused(_) => &first[..0],
+        Ok(t) => part_by(t, first, second),
+        Err(_) => &first[..0],
     }
 }

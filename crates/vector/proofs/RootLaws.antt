@@ -2,11 +2,11 @@
 -- Of a fourth of s the root q has q² ≤ s / 4 < (q + 1)², so (2 q)² ≤ s < (2 q + 2)²: the root of s is 2 q or 2 q + 1. Assumes nothing.
 --   IsRoot s r     r² ≤ s < (r + 1)²: true of `root s` (`root_is`) and of no other number (`root_unique`)
 use Prim.Native.Nat.{ℕ, zero, suc, ◌+◌, ◌-◌, ◌*◌, ◌/◌, ◌^◌, ◌<◌, ◌≤◌}
-use mathlib.Core.Path.{◌≡◌, refl, sym, ap, ◌∙◌}
+use mathlib.Core.Path.{◌≡◌, refl, ap}
 use mathlib.Core.Bool.{Bool, true, false, cond, ◌&&◌}
 use native.Mathlib.Nat.{mul-le-mul}
 use native.Mathlib.Omega.{arith}
-use borrow.Author.Tests.{leb-true, leb-false, ltb-true, ltb-false, eqb-true, lt-ltb, le-ltb}
+use borrow.Author.Tests.{leb-true, leb-false, ltb-true, ltb-false, eqb-true}
 use lib.Dec.{leb, ltb, eqb}
 use lib.IntN.{pos, nat_abs}
 use Rattle.algebra.proofs.Ring.{con, ◌:+◌, ◌:*◌}
@@ -79,13 +79,6 @@ root_unique {s} {r} h = by (leb (root s) r) refl
 -- the second test by what is left of s
 next_square : (k : ℕ) → (k + 1) * (k + 1) ≡ k * k + 2 * k + 1
 next_square k = ap nat_abs (ring 1 (λ k. (k :+ `1) :* (k :+ `1) :≡ k :* k :+ con (pos 2) :* k :+ `1) refl (pos k))
-
-pub rest_tested : (s r : ℕ) → r * r ≤ s → leb (s - r * r) (2 * r) ≡ ltb s ((r + 1) * (r + 1))
-rest_tested s r h =
-    let e = next_square r in
-    split (leb (s - r * r) (2 * r))
-    (λ t. t ∙ sym (lt-ltb s ((r + 1) * (r + 1)) (omega (arith, leb-true (s - r * r) (2 * r) t))))
-    (λ t. t ∙ sym (le-ltb s ((r + 1) * (r + 1)) (omega (arith, leb-false (s - r * r) (2 * r) t))))
 
 -- what passes the two tests is the root
 pub root_tested : (s r : ℕ) → leb (r * r) s && ltb s ((r + 1) * (r + 1)) ≡ true → r ≡ root s

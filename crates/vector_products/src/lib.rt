@@ -14,6 +14,7 @@ use limits::K;
 use vector::Vec3;
 
 // a + b
+// Kept: that components are small is a clause (`Small`, `AtMost`) and no invariant of Vec3, as `is_vector` and `lookup` take any vector and refuse it.
 pub fn sum(a: Vec3, b: Vec3) -> Vec3
     requires at_most { AtMost (2 ^ 21) a }
     requires at_most_2 { AtMost (2 ^ 21) b }
@@ -91,7 +92,7 @@ fn is_small(p: Vec3) -> bool
 fn within(a: i64) -> bool
     ensures { result ≡ between (neg_ℤ K) K a }
 {
-    -K <= a && a <= K
+    (-K..=K).contains(&a)
 }
 
 // The squares of K - 2 and K + 2, between which the square length of a pointing lies.
@@ -105,10 +106,11 @@ fn has_unit_length(p: Vec3) -> bool
     ensures { result ≡ between ((K -ℤ pos 2) *ℤ (K -ℤ pos 2)) ((K +ℤ pos 2) *ℤ (K +ℤ pos 2)) (rule.dot p p) }
 {
     let s = square_length(p);
-    SHORTEST_SQUARE <= s && s <= LONGEST_SQUARE
+    (SHORTEST_SQUARE..=LONGEST_SQUARE).contains(&s)
 }
 
 // The vector whose numbers begin at number k.
+// Kept: vectors among numbers, as the index that C lends (htm_add, htm_index_entry) is a list of numbers, six for an entry.
 pub fn vec_in(xs: &[i64], k: usize) -> Vec3
     requires { k + 3 ≤ length xs.now }
     ensures { result ≡ vec_in xs.now k }

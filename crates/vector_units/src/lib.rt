@@ -47,14 +47,7 @@ pub fn largest(c: Vec3) -> u64
     requires { AtMost (2 ^ 41) c }
     ensures { result ≡ rule.largest c }
 {
-    larger(larger(size(c.x), size(c.y)), size(c.z))
-}
-
-// The larger of two numbers.
-fn larger(a: u64, b: u64) -> u64
-    ensures { result ≡ max a b }
-{
-    if a < b { b } else { a }
+    size(c.x).max(size(c.y)).max(size(c.z))
 }
 
 // The absolute value of a.
@@ -62,7 +55,7 @@ pub fn size(a: i64) -> u64
     requires { Upto (2 ^ 63 - 1) a }
     ensures { result ≡ nat_abs a }
 {
-    if a < 0 { -a as u64 } else { a as u64 }
+    a.unsigned_abs()
 }
 
 // K times s, divided by n: each component truncated toward zero, and all zero if n is 0.

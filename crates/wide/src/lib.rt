@@ -4,7 +4,9 @@
 ghost use Rattle.std.specs.Prelude.{◌≡◌, ◌+◌, ◌-◌, ◌*◌, ◌^◌, ◌<◌, ◌≤◌, ltb};
 ghost use Rattle.wide.specs.Value.{value_of};
 
-#[derive(Clone, Copy)]
+// The upper word and the lower one. The derived order compares the upper words first.
+// Kept: two words and not a u128: the edits carry_lost, column_left_out and upper_word_for_lower are of the words' sums and products.
+#[derive(Clone, Copy, PartialEq, Eq, PartialOrd, Ord)]
 pub struct Wide {
     pub hi: u64,
     pub lo: u64,
@@ -37,24 +39,18 @@ pub fn product(u: u64, v: u64) -> Wide
     let w = t % HALF + p01;
     let hi = p11 + t / HALF + w / HALF;
     let lo = w % HALF * HALF + p00 % HALF;
-    Wide { hi: hi, lo: lo }
+    Wide { hi, lo }
 }
 
-// A sum, where it fits two words. Where the lower words exceed one word, 1 is carried.
+// A sum, where it fits two words.
 pub fn sum(a: Wide, b: Wide) -> Wide
     requires { value_of a + value_of b < 2 ^ 128 }
     ensures { value_of result ≡ value_of a + value_of b }
 {
-    let left = u64::MAX - b.lo;
-    if a.lo <= left {
-        return Wide {
-            hi: a.hi + b.hi,
-            lo: a.lo + b.lo,
-        };
-    }
+    let (lo, carry) = a.lo.overflowing_add(b.lo);
     Wide {
-        hi: a.hi + b.hi + 1,
-        lo: a.lo - left - 1,
+        hi: a.hi + b.hi + u64::from(carry),
+        lo,
     }
 }
 
@@ -71,13 +67,9 @@ pub fn times(a: Wide, n: u64) -> Wide
     }
 }
 
-// Whether a is less than b: by the upper words, and where they are equal by the lower ones.
+// Whether a is less than b.
 pub fn less(a: Wide, b: Wide) -> bool
     ensures { result ≡ ltb (value_of a) (value_of b) }
 {
-    if a.hi == b.hi {
-        a.lo < b.lo
-    } else {
-        a.hi < b.hi
-    }
+    a < b
 }

@@ -1,12 +1,8 @@
 -- A minus is passed, where there is one. Assumes nothing.
-use native.Mathlib.Omega.{arith}
 use mathlib.Core.Path.{sym, ap, ◌∙◌}
 use Rattle.catalogue_line.specs.Reading.{valued}
-use Rattle.catalogue_line.proofs.ReadingLaws.{inside, minus_there, no_minus_there}
+use Rattle.catalogue_line.proofs.ReadingLaws.{minus_there, no_minus_there}
 use Rattle.catalogue_line.proofs.decimal_at.Goals as goal
-
-pub overflow_add-at : goal.overflow_add-at
-overflow_add-at c = let a = c.args in omega (arith, inside a.line.now a.at (omega (arith, c.byte_at.ensures, c.if-byte_at-eq45.true)))
 
 pub returns-then-byte_at-eq45 : goal.returns-then-byte_at-eq45
 returns-then-byte_at-eq45 c =

@@ -1,11 +1,11 @@
-use Prim.Native.Nat.{ℕ, ◌+◌, ◌*◌, ◌^◌, ◌≤◌, ◌<◌}
+use Prim.Native.Nat.{ℕ, ◌+◌, ◌-◌, ◌*◌, ◌^◌, ◌≤◌, ◌<◌}
 use native.Mathlib.Omega.{arith}
 use mathlib.Core.Path.{◌≡◌, sym, ap, ◌∙◌}
 use mathlib.Core.Bool.{true}
 use mathlib.Core.List.{List}
 use lib.ListN.{length, get_or}
 use Rattle.catalogue_line.specs.Lines.{is_digit_to, digit0}
-use Rattle.catalogue_line.proofs.ReadingLaws.{none_read, power_small, all_read, no_digits_left, no_digit, one_more, digit_inside}
+use Rattle.catalogue_line.proofs.ReadingLaws.{power_small, all_read, no_digits_left, no_digit, one_more, digit_inside}
 use Rattle.catalogue_line.proofs.digits.Goals as goal
 use Rattle.catalogue_line.proofs.digits.Goals.{Else-not-is_digit}
 
@@ -15,7 +15,7 @@ module _ (c : Else-not-is_digit) where
   line = c.args.line.now
 
   abbrev next : ℕ
-  next = c.loop-left.next
+  next = c.loop.next
 
   byte : c.byte_at-b.result ≡ get_or line next 0
   byte = c.byte_at-b.ensures
@@ -28,23 +28,14 @@ module _ (c : Else-not-is_digit) where
       let d = digit_inside 9 line next is_one in
       (d.0, omega (arith, byte, d.1), omega (arith, byte, d.2))
 
-  small : (c.loop-left.number < 2 * 10 ^ 7) × (c.loop-left.power ≤ 10 ^ 7)
+  small : (c.loop.number < 2 * 10 ^ 7) × (c.loop.power ≤ 10 ^ 7)
   small =
-      let r = c.loop-left.invariant in
+      let r = c.loop.invariant in
       let p = power_small _ _ _ _ _ _ _ r in
       (omega (arith, r.size, p), p)
 
-pub loop-left-init : goal.loop-left-init
-loop-left-init c = none_read _ _ _ c.requires
-
 pub overflow_mul-number : goal.overflow_mul-number
 overflow_mul-number c = omega (arith, small c)
-
-pub overflow_sub-number : goal.overflow_sub-number
-overflow_sub-number c = (there c).1
-
-pub overflow_cast-number : goal.overflow_cast-number
-overflow_cast-number c = omega (arith, there c)
 
 pub overflow_add-number : goal.overflow_add-number
 overflow_add-number c = omega (arith, small c, there c)
@@ -52,19 +43,16 @@ overflow_add-number c = omega (arith, small c, there c)
 pub overflow_mul-power : goal.overflow_mul-power
 overflow_mul-power c = omega (arith, small c)
 
-pub overflow_add-next : goal.overflow_add-next
-overflow_add-next c = omega (arith, there c)
+pub loop-preserved : goal.loop-preserved
+loop-preserved c = rw (byte c) (one_more _ _ _ _ _ _ (7 - c.loop.counter) (7 - (c.loop.counter + 1)) (omega arith) c.loop.invariant (is_one c))
 
-pub loop-left-preserved : goal.loop-left-preserved
-loop-left-preserved c = rw (byte c) (one_more _ _ _ _ _ _ _ c.loop-left-test.true c.loop-left.invariant (is_one c))
-
-pub returns-after-loop-left : goal.returns-after-loop-left
-returns-after-loop-left c =
-    let l = c.loop-left in
-    all_read _ _ _ _ _ _ _ l.invariant (no_digits_left l.next c.args.line.now _ c.loop-left-test.false)
+pub returns-after-loop : goal.returns-after-loop
+returns-after-loop c =
+    let l = c.loop in
+    all_read _ _ _ _ _ _ _ l.invariant (no_digits_left l.next c.args.line.now (7 - l.counter) (omega arith))
 
 pub returns-then-not-is_digit : goal.returns-then-not-is_digit
 returns-then-not-is_digit c =
-    let l = c.loop-left in
-    all_read _ _ _ _ _ _ _ l.invariant (no_digit l.next c.args.line.now l.left
+    let l = c.loop in
+    all_read _ _ _ _ _ _ _ l.invariant (no_digit l.next c.args.line.now (7 - l.counter)
     (ap (is_digit_to 9) (sym c.byte_at-b.ensures) ∙ sym c.is_digit.ensures ∙ c.if-not-is_digit.true))

@@ -22,9 +22,6 @@ module _ (c : Then-byte_at-eq10) where
   there : at < length line
   there = inside line at (omega (arith, fed))
 
-pub overflow_add-result : goal.overflow_add-result
-overflow_add-result c = omega (arith, there c)
-
 pub returns-then-byte_at-eq10 : goal.returns-then-byte_at-eq10
 returns-then-byte_at-eq10 c = ended (line c) (at c) (fed c)
 

@@ -1,12 +1,8 @@
 -- A blank is passed, and without one there is no decimal. Assumes nothing.
-use native.Mathlib.Omega.{arith}
 use mathlib.Core.Path.{sym, ap, ◌∙◌}
 use Rattle.catalogue_line.specs.Reading.{valued}
-use Rattle.catalogue_line.proofs.ReadingLaws.{inside, blank_there, no_blank_there}
+use Rattle.catalogue_line.proofs.ReadingLaws.{blank_there, no_blank_there}
 use Rattle.catalogue_line.proofs.next_at.Goals as goal
-
-pub overflow_add-at : goal.overflow_add-at
-overflow_add-at c = let a = c.args in omega (arith, inside a.line.now a.at (omega (arith, c.byte_at.ensures, c.if-byte_at-eq32.true)))
 
 pub returns-then-byte_at-eq32 : goal.returns-then-byte_at-eq32
 returns-then-byte_at-eq32 c =

@@ -7,7 +7,7 @@ use lib.IntN.{pos, neg_ℤ, +ℤ_idl}
 use mir.Syntax.{w64}
 use mir.Facts.{to_z_pos}
 use Rattle.algebra.proofs.Sizes.{Upto}
-use Rattle.algebra.proofs.Sized.{sfits, nat, lit, upto_neg, is_sub, fits_sub}
+use Rattle.algebra.proofs.Sized.{nat, lit, upto_neg, is_sub}
 use Rattle.vector.specs.Numbers.{Kℕ, signed}
 use Rattle.catalogue_line.proofs.scaled.Goals as goal
 
@@ -16,12 +16,6 @@ most n p h = le_trans (div-le_self (n * Kℕ) p) (omega arith)
 
 size : (n p : ℕ) → n < 2 ^ 32 → Upto (2 ^ 52) (pos (n * Kℕ / p))
 size n p h = record { le = most n p h }
-
-pub overflow_cast-size : goal.overflow_cast-size
-overflow_cast-size c = sfits w64 (size c.args.number c.args.power c.requires.0) tt
-
-pub overflow_sub-result : goal.overflow_sub-result
-overflow_sub-result c = fits_sub (lit 0 tt) (nat (most _ _ c.requires.0) tt) tt
 
 pub returns-then-negative : goal.returns-then-negative
 returns-then-negative c =

@@ -39,25 +39,10 @@ returns-then-not-is_digit c =
     let a = c.args in
     sym (no_whole a.negative a.line.now a.at (ap (is_digit_to 1) (sym c.byte_at-b.ensures) ∙ sym c.is_digit.ensures ∙ c.if-not-is_digit.true))
 
-pub overflow_add-at : goal.overflow_add-at
-overflow_add-at c = omega (arith, whole c)
-
 pub returns-then-byte_at-ne46 : goal.returns-then-byte_at-ne46
 returns-then-byte_at-ne46 c =
     let a = c.args in
     sym (no_point a.negative a.line.now a.at (λ q. c.if-byte_at-ne46.true (c.byte_at.ensures ∙ q)))
-
-pub overflow_add-at-2 : goal.overflow_add-at-2
-overflow_add-at-2 c = omega (arith, there c)
-
-pub overflow_sub-b : goal.overflow_sub-b
-overflow_sub-b c = (whole (goal.at.overflow_sub-b c).Else-not-is_digit).1
-
-pub overflow_cast-b : goal.overflow_cast-b
-overflow_cast-b c = omega (arith, whole (goal.at.overflow_cast-b c).Else-not-is_digit)
-
-pub digits-d-requires : goal.digits-d-requires
-digits-d-requires c = omega (arith, whole (goal.at.digits-d-requires c).Else-not-is_digit)
 
 pub returns-then-d-at : goal.returns-then-d-at
 returns-then-d-at c =

@@ -1,62 +1,29 @@
-use Prim.Native.Nat.{◌<◌}
-use native.Mathlib.Omega.{arith}
-use mathlib.Core.Path.{refl, ◌∙◌}
-use borrow.Author.Tests.{not-false}
-use lib.ListN.{length}
-use Rattle.classify_active.proofs.ActiveRegionLaws.{region_search_start, region_search_end, end_read, end_most}
+-- `classify_active::active_in_region` goes from convex to convex. Assumes nothing.
+use Rattle.std.proofs.Common.{rules, arith}
+use Rattle.classify_active.proofs.ActiveRegionLaws.{region_search_start, search_within, search_convex, search_stored, search_added, region_search_end}
 use Rattle.classify_active.proofs.active_in_region.Goals as goal
-use Rattle.classify_active.proofs.active_in_region.Goals.{In-loop-i}
 
-pub loop-i-init : goal.loop-i-init
-loop-i-init c = (refl, refl, (λ g p. region_search_start _ _ _ _ g p _ _ c.requires.anchor.1 c.requires.anchor.2), c.requires.ready)
+pub loop-end-init : goal.loop-end-init
+loop-end-init c = region_search_start _ _ _ c.args.active.now c.requires.none.0 c.requires.none.1
 
-pub add_convex-s-requires : goal.add_convex-s-requires
-add_convex-s-requires c = let p = c.requires.ready in record {
-  anchor = (c.requires.anchor.0, c.requires.anchor.3);
-  some_region_search = (_, omega (arith, c.loop-i-test.true), p.0, c.loop-i.invariant.2 p.0 p.1);
-}
+pub offset_bounds-halfspaces-start : goal.offset_bounds-halfspaces-start
+offset_bounds-halfspaces-start c = let w = search_within _ _ _ c.loop-end.invariant c.loop-end-test.true c.requires.ready in search (rules, w.0, w.1)
 
-pub shape_of-active-then-not-s : goal.shape_of-active-then-not-s
-shape_of-active-then-not-s c = c.add_convex-s.auto.active ∙ c.loop-i.invariant.0
+pub slice_bounds-add_convex-count : goal.slice_bounds-add_convex-count
+slice_bounds-add_convex-count c = (search_within _ _ _ c.loop-end.invariant c.loop-end-test.true c.requires.ready).0
 
-pub shape_of-stops-then-not-s : goal.shape_of-stops-then-not-s
-shape_of-stops-then-not-s c = c.add_convex-s.auto.stops ∙ c.loop-i.invariant.1
+pub slice_bounds-add_convex-start : goal.slice_bounds-add_convex-start
+slice_bounds-add_convex-start c = let w = search_within _ _ _ c.loop-end.invariant c.loop-end-test.true c.requires.ready in omega (arith, w.0, w.1)
 
-pub returns-then-not-s : goal.returns-then-not-s
-returns-then-not-s c h = absurd (omega arith)
+pub slice_bounds-add_convex-end : goal.slice_bounds-add_convex-end
+slice_bounds-add_convex-end c = let w = search_within _ _ _ c.loop-end.invariant c.loop-end-test.true c.requires.ready in omega (arith, w.0, w.1)
 
--- the next end is in its list
-reading : (c : In-loop-i) → c.loop-i.k < length c.args.ends.now
-reading c = let r = c.loop-i.invariant.3 in end_read _ _ _ _ _ (omega (arith, c.loop-i-test.true)) (c.loop-i.invariant.2 r.0 r.1)
+pub add_convex-requires-clause-ready : goal.add_convex-requires-clause-ready
+add_convex-requires-clause-ready c =
+    (search_convex _ _ _ c.loop-end.invariant c.loop-end-test.true c.requires.ready, search_stored _ _ _ c.loop-end.invariant c.loop-end-test.true c.requires.ready)
 
-pub offset_bounds-ends-k : goal.offset_bounds-ends-k
-offset_bounds-ends-k c = let h = reading (goal.at.offset_bounds-ends-k c).In-loop-i in omega arith
-
-pub bounds-ends-k : goal.bounds-ends-k
-bounds-ends-k c = reading (goal.at.bounds-ends-k c).In-loop-i
-
-pub overflow_add-k : goal.overflow_add-k
-overflow_add-k c = let h = reading (goal.at.overflow_add-k c).In-loop-i in omega arith
-
-pub loop-i-smaller : goal.loop-i-smaller
-loop-i-smaller c =
-    let r = c.loop-i.invariant.3 in
-    let h = end_most _ _ _ _ _ (omega (arith, c.loop-i-test.true)) (c.loop-i.invariant.2 r.0 r.1) in
-    omega arith
-
-pub loop-i-preserved : goal.loop-i-preserved
-loop-i-preserved c = (
-  c.add_convex-s.auto.active ∙ c.loop-i.invariant.0,
-  c.add_convex-s.auto.stops ∙ c.loop-i.invariant.1,
-  (λ g p. c.add_convex-s.ensures _ g (omega (arith, c.loop-i-test.true)) (c.loop-i.invariant.2 g p) (not-false _ c.if-not-s.false)),
-  c.loop-i.invariant.3,
-)
-
-pub shape_of-active : goal.shape_of-active
-shape_of-active c = c.loop-i.invariant.0
-
-pub shape_of-stops : goal.shape_of-stops
-shape_of-stops c = c.loop-i.invariant.1
+pub loop-end-preserved : goal.loop-end-preserved
+loop-end-preserved c = let e = c.in_ok-add_convex.ensures in search_added _ _ _ c.loop-end.invariant c.loop-end-test.true e
 
 pub returns : goal.returns
-returns c h g p = region_search_end _ _ _ _ g _ _ _ _ _ _ (c.loop-i.invariant.2 g p) (omega (arith, c.loop-i-test.false))
+returns c = region_search_end _ _ _ c.loop-end.invariant c.loop-end-test.false

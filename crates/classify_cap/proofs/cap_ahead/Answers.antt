@@ -2,7 +2,7 @@
 use native.Mathlib.Omega.{arith}
 use Prim.Native.Nat.{◌^◌}
 use mathlib.Core.Path.{sym, ap, subst, ◌∙◌}
-use mathlib.Core.Bool.{true}
+use Rattle.std.specs.Prelude.{Some}
 use lib.Dec.{lit≤}
 use lib.IntN.{pos, ◌-ℤ◌}
 use Rattle.algebra.proofs.Sizes.{Upto}
@@ -13,16 +13,13 @@ use Rattle.classify_cap.specs.Middle.{clearance_of}
 use Rattle.classify_cap.proofs.ClearanceLaws.{clearance_upto}
 use Rattle.classify_cap.proofs.cap_ahead.Goals as goal
 
-pub greatest_reach-n-requires : goal.greatest_reach-n-requires
-greatest_reach-n-requires c = c.requires.bounded
-
 pub overflow_cast-e : goal.overflow_cast-e
 overflow_cast-e c = record { sfits = omega arith }
 
 pub dot-requires : goal.dot-requires
 dot-requires c = record {
-  small = c.requires.small;
-  at_most = at_most_mono (lit≤ tt) c.requires.small;
+  small = c.requires;
+  at_most = at_most_mono (lit≤ tt) c.requires;
 }
 
 pub overflow_mul-rest : goal.overflow_mul-rest
@@ -46,4 +43,4 @@ returns c =
     let r = w.eq ∙ (λ i. c.dot.ensures.value i -ℤ square (pos (g i))) in
     let u = subst (Upto (2 ^ 62)) (sym c.clearance_of.ensures) (clearance_upto _ _) in
     let z = (held u tt).eq ∙ c.clearance_of.ensures ∙ (λ i. clearance_of (r i) (g i)) in
-    λ i. record { ahead = true; b = c.args.b; reach = e i; rest = r i; clearance = z i }
+    λ i. record { b = c.args.b; ahead = Some (record { reach = e i; rest = r i; clearance = z i }) }

@@ -20,6 +20,6 @@ unit-requires c = c.sum-2.ensures.at_most_3
 pub returns : goal.returns
 unfolding b_of
 returns c = record {
-  value = c.unit.ensures.value ∙ ap unit (c.sum-2.ensures.value ∙ ap (λ v. plus v c.args.t.v2) c.sum.ensures.value);
+  value = c.unit.ensures.value ∙ ap unit (c.sum-2.ensures.value ∙ ap (λ v. plus v c.args.t.now.v2) c.sum.ensures.value);
   small = c.unit.ensures.small;
 }

@@ -12,7 +12,7 @@ use Rattle.vector.specs.Numbers.{Kℕ}
 use Rattle.vector.specs.Vectors.{dot}
 use Rattle.vector.proofs.Sizes.{Small}
 use Rattle.vector.proofs.SizeLaws.{at_most_mono, dot_upto}
-use Rattle.classify.specs.Shape.{positive, beyond_edge}
+use Rattle.classify.specs.Shape.{positive}
 use Rattle.classify_prepared.specs.declared.PreparedHalfspace.{PreparedHalfspace}
 use Rattle.classify_prepared.specs.Measures.{SoundHalfspace, Rest}
 use Rattle.classify_prepared.proofs.PreparedLaws.{sound_small}
@@ -28,29 +28,25 @@ along h s e = subst (Upto (Kℕ * Kℕ + Kℕ * Kℕ + Kℕ * Kℕ)) (sym e) (do
 normal : {p : Vec3} {x : ℤ} → Small p → x ≡ dot p p → Rest x
 normal s e = subst Rest (sym e) (normal_rest s)
 
-pub vec_in-p-requires : goal.vec_in-p-requires
-vec_in-p-requires c = c.requires.k_in_bounds.0
-
 pub dot-behind-requires : goal.dot-behind-requires
 dot-behind-requires c = record {
   small = sound_small c.requires.sound_halfspace;
-  at_most = at_most_mono (lit≤ tt) (subst Small (sym c.vec_in-p.ensures) c.requires.k_in_bounds.1);
+  at_most = at_most_mono (lit≤ tt) c.requires.small;
 }
 
 pub overflow_sub-behind : goal.overflow_sub-behind
 overflow_sub-behind c =
-    let p = subst Small (sym c.vec_in-p.ensures) c.requires.k_in_bounds.1 in
-    fits_sub (lit 0 tt) (held (along c.requires.sound_halfspace p c.dot-behind.ensures.value) tt) tt
+    fits_sub (lit 0 tt) (held (along c.requires.sound_halfspace c.requires.small c.dot-behind.ensures.value) tt) tt
 
 pub dot-requires : goal.dot-requires
-dot-requires c = let p = subst Small (sym c.vec_in-p.ensures) c.requires.k_in_bounds.1 in record {
-  small = p;
-  at_most = at_most_mono (lit≤ tt) p;
+dot-requires c = record {
+  small = c.requires.small;
+  at_most = at_most_mono (lit≤ tt) c.requires.small;
 }
 
 pub square_exceeds-requires : goal.square_exceeds-requires
 square_exceeds-requires c =
-    let h = subst Small (sym c.vec_in-p.ensures) c.requires.k_in_bounds.1 in
+    let h = c.requires.small in
     let z = is_sub (lit 0 tt) (held (along c.requires.sound_halfspace h c.dot-behind.ensures.value) tt) tt in
     let p = rest_prepared c.requires.sound_halfspace in
     let q = normal h c.dot.ensures.value in
@@ -61,11 +57,10 @@ square_exceeds-requires c =
 
 pub returns : goal.returns
 returns c =
-    let h = subst Small (sym c.vec_in-p.ensures) c.requires.k_in_bounds.1 in
+    let h = c.requires.small in
     let z = (is_sub (lit 0 tt) (held (along c.requires.sound_halfspace h c.dot-behind.ensures.value) tt) tt).eq ∙ ap (λ x. pos 0 -ℤ x) c.dot-behind.ensures.value in
     let p = (held (rest_prepared c.requires.sound_halfspace).size tt).eq in
     let q = (held (normal h c.dot.ensures.value).size tt).eq ∙ c.dot.ensures.value in
     c.square_exceeds.ensures
     ∙ (λ i. positive (z i) && lt_z (p i *ℤ q i) (z i *ℤ z i))
-    ∙ edge_is c.requires.sound_halfspace c.vec_in-p.result
-    ∙ ap (beyond_edge c.args.q.f c.args.q.low) c.vec_in-p.ensures
+    ∙ edge_is c.requires.sound_halfspace c.args.p

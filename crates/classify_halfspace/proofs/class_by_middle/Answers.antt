@@ -8,20 +8,20 @@ use Rattle.classify_halfspace.proofs.class_by_middle.Goals as goal
 
 pub far_from-apart-requires : goal.far_from-apart-requires
 far_from-apart-requires c = record {
-  small_trixel = (c.requires.normals_in.small, c.requires.rays_of);
+  small_trixel = (c.requires.small_trixel, c.requires.rays_of);
   sound_halfspace = c.requires.sound_halfspace;
 }
 
 pub class_by_edges-requires : goal.class_by_edges-requires
 class_by_edges-requires c = record {
-  normals_in = c.requires.normals_in;
+  small_trixel = c.requires.small_trixel;
   sound_halfspace = c.requires.sound_halfspace;
 }
 
 pub returns-then-apart : goal.returns-then-apart
 returns-then-apart c =
     c.class_apart.ensures ∙ ap class_apart (held (sound_offset c.requires.sound_halfspace) tt).eq
-    ∙ sym (apart_far c.args.q c.args.t c.requires.t_value (sym c.far_from-apart.ensures ∙ c.if-apart.true))
+    ∙ sym (apart_far c.args.q c.args.t.now c.requires.t_value (sym c.far_from-apart.ensures ∙ c.if-apart.true))
 
 pub returns-else-apart : goal.returns-else-apart
-returns-else-apart c = c.class_by_edges.ensures ∙ sym (apart_near c.args.q c.args.t (sym c.far_from-apart.ensures ∙ c.if-apart.false))
+returns-else-apart c = c.class_by_edges.ensures ∙ sym (apart_near c.args.q c.args.t.now (sym c.far_from-apart.ensures ∙ c.if-apart.false))

@@ -23,14 +23,14 @@ oriented : {t : Trixel} {s : TrixelRays} → RaysOf t s → s.oriented ≡ true 
 oriented h e = sym h.oriented ∙ e
 
 -- whether all rays of the trixel pass
-rays : (c : After-all_pass-all) → c.all_pass-all.result ≡ all_pass c.args.q.f c.args.q.high c.args.t
+rays : (c : After-all_pass-all) → c.all_pass-all.result ≡ all_pass c.args.q.f c.args.q.high c.args.t.now
 rays c = rays_all c.args.q.f c.requires.rays_of.0 (held (sound_high c.requires.sound_halfspace) tt).eq c.all_pass-all.ensures
 
 -- where not all pass, the class is that by the edges
-edges : (c : Else-all) → rays_class c.args.q c.args.t ≡ edges_class c.args.q c.args.t
+edges : (c : Else-all) → rays_class c.args.q c.args.t.now ≡ edges_class c.args.q c.args.t.now
 edges c =
     let passed = rays_all c.args.q.f c.requires.rays_of.0 (held (sound_high c.requires.sound_halfspace) tt).eq c.all_pass-all.ensures in
-    rays_edges c.args.q c.args.t (oriented c.requires.rays_of.0 c.requires.rays_of.1) (sym passed ∙ c.if-all.false)
+    rays_edges c.args.q c.args.t.now (oriented c.requires.rays_of.0 c.requires.rays_of.1) (sym passed ∙ c.if-all.false)
 
 pub all_pass-all-requires : goal.all_pass-all-requires
 all_pass-all-requires c = record {
@@ -43,16 +43,16 @@ pub returns-then-all : goal.returns-then-all
 returns-then-all c =
     let r = rays (goal.at.returns-then-all c).After-all_pass-all in
     c.class_within.ensures ∙ ap class_within (held (sound_offset c.requires.sound_halfspace) tt).eq
-    ∙ sym (rays_within c.args.q c.args.t (oriented c.requires.rays_of.0 c.requires.rays_of.1) (sym r ∙ c.if-all.true))
+    ∙ sym (rays_within c.args.q c.args.t.now (oriented c.requires.rays_of.0 c.requires.rays_of.1) (sym r ∙ c.if-all.true))
 
 pub returns-then-q-le0 : goal.returns-then-q-le0
 returns-then-q-le0 c =
     let h = c.requires.sound_halfspace in
-    sym (edges (goal.at.returns-then-q-le0 c).Else-all ∙ flat c.args.q c.args.t h (ap (λ z. le_z z (pos 0)) (sym (held (sound_beside h).size tt).eq) ∙ c.if-q-le0.true))
+    sym (edges (goal.at.returns-then-q-le0 c).Else-all ∙ flat c.args.q c.args.t.now h (ap (λ z. le_z z (pos 0)) (sym (held (sound_beside h).size tt).eq) ∙ c.if-q-le0.true))
 
 pub class_by_edges-requires : goal.class_by_edges-requires
 class_by_edges-requires c = record {
-  normals_in = c.requires.normals_in;
+  small_trixel = c.requires.small_trixel;
   sound_halfspace = c.requires.sound_halfspace;
 }
 

@@ -10,12 +10,12 @@ use Rattle.classify_halfspace.proofs.classify_one.Goals as goal
 
 pub class_by_edges-requires : goal.class_by_edges-requires
 class_by_edges-requires c = record {
-  normals_in = c.requires.normals_in;
+  small_trixel = c.requires.small_trixel;
   sound_halfspace = c.requires.sound_halfspace;
 }
 
 pub returns-then-not-s : goal.returns-then-not-s
-returns-then-not-s c = c.class_by_edges.ensures ∙ sym (not_oriented c.args.q c.args.t (sym c.requires.rays_of.oriented ∙ not-true _ c.if-not-s.true))
+returns-then-not-s c = c.class_by_edges.ensures ∙ sym (not_oriented c.args.q c.args.t.now (sym c.requires.rays_of.oriented ∙ not-true _ c.if-not-s.true))
 
 pub far-requires : goal.far-requires
 far-requires c = record {
@@ -26,7 +26,7 @@ far-requires c = record {
 pub returns-then-far : goal.returns-then-far
 returns-then-far c =
     c.class_apart.ensures ∙ ap class_apart (held (sound_offset c.requires.sound_halfspace) tt).eq
-    ∙ sym (when_far c.args.q c.args.t (sym c.requires.rays_of.oriented ∙ not-false _ c.if-not-s.false) c.requires.sound_halfspace (sym c.far.ensures ∙ c.if-far.true))
+    ∙ sym (when_far c.args.q c.args.t.now (sym c.requires.rays_of.oriented ∙ not-false _ c.if-not-s.false) c.requires.sound_halfspace (sym c.far.ensures ∙ c.if-far.true))
 
 pub encloses-requires : goal.encloses-requires
 encloses-requires c = record {
@@ -37,14 +37,14 @@ encloses-requires c = record {
 pub returns-then-encloses : goal.returns-then-encloses
 returns-then-encloses c =
     c.class_within.ensures ∙ ap class_within (held (sound_offset c.requires.sound_halfspace) tt).eq
-    ∙ sym (when_enclosed c.args.q c.args.t (sym c.requires.rays_of.oriented ∙ not-false _ c.if-not-s.false) c.requires.sound_halfspace (sym c.encloses.ensures ∙ c.if-encloses.true))
+    ∙ sym (when_enclosed c.args.q c.args.t.now (sym c.requires.rays_of.oriented ∙ not-false _ c.if-not-s.false) c.requires.sound_halfspace (sym c.encloses.ensures ∙ c.if-encloses.true))
 
 pub class_by_rays-requires : goal.class_by_rays-requires
 class_by_rays-requires c = record {
   rays_of = (c.requires.rays_of, not-false _ c.if-not-s.false);
-  normals_in = c.requires.normals_in;
+  small_trixel = c.requires.small_trixel;
   sound_halfspace = c.requires.sound_halfspace;
 }
 
 pub returns : goal.returns
-returns c = c.class_by_rays.ensures ∙ sym (when_near c.args.q c.args.t (sym c.far.ensures ∙ c.if-far.false))
+returns c = c.class_by_rays.ensures ∙ sym (when_near c.args.q c.args.t.now (sym c.far.ensures ∙ c.if-far.false))

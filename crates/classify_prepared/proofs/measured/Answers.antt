@@ -20,5 +20,5 @@ returns c =
       r0 = subst (λ v. IsRay v c.ray_of.result) c.requires.r_value c.ray_of.ensures;
       r1 = c.cross_ray.ensures;
       r2 = c.cross_ray-2.ensures;
-      oriented = ap (lt_z (pos 0)) ((held c.dot.ensures.upto tt).eq ∙ c.dot.ensures.value ∙ ap (dot c.args.t.p0) c.requires.r_value);
+      oriented = ap (lt_z (pos 0)) ((held c.dot.ensures.upto tt).eq ∙ c.dot.ensures.value ∙ ap (dot c.args.t.now.p0) c.requires.r_value);
     }

@@ -1,34 +1,26 @@
--- Each return has the test that its branch made. n * 10 + digit is at most `most` just where digit is and n is at most (most - digit) / 10.
-use Rattle.std.proofs.Common.{◌+◌, ◌*◌, ◌-◌, ◌≤◌, ◌<◌, arith}
-use borrow.Author.Tests.{lt-leb, le-leb}
-use Rattle.command_words.specs.Numbers.{digits, value_from}
-use Rattle.command_words.proofs.NumberLaws.{and_false}
+-- Each return has the test that its branch made. What overflows is above `most`.
+use Rattle.std.proofs.Common.{◌≡◌, ◌+◌, ◌*◌, ◌-◌, ◌≤◌, ◌∙◌, subst, Some, [], ◌∷◌, arith}
+use Rattle.command_words.specs.Numbers.{natural_from}
+use Rattle.command_words.proofs.NumberLaws.{no_digit, past, fits}
 use Rattle.command_words.proofs.with_digit.Goals as goal
 
-pub returns-then-byte-lt48 : goal.returns-then-byte-lt48
-unfolding digits value_from
-returns-then-byte-lt48 c = simp (lt-leb _ _ c.if-byte-lt48.true)
+pub returns-then-not-is_ascii_digit : goal.returns-then-not-is_ascii_digit
+returns-then-not-is_ascii_digit c = no_digit _ _ _ c.if-not-is_ascii_digit.ensures.cases
 
-pub returns-then-byte-gt57 : goal.returns-then-byte-gt57
-unfolding digits value_from
-returns-then-byte-gt57 c = simp (lt-leb _ _ c.if-byte-gt57.true, and_false)
+pub returns-in_err-checked_mul : goal.returns-in_err-checked_mul
+returns-in_err-checked_mul c =
+    c.from_residual.ensures ∙ past _ _ _ c.if-not-is_ascii_digit.ensures.cases (omega (arith, c.in_err-checked_mul.ensures))
 
-pub returns-then-most-digit : goal.returns-then-most-digit
-unfolding digits value_from
-returns-then-most-digit c =
-    let past : c.args.most < c.args.n * 10 + (c.args.byte - 48) = omega arith in
-    simp (lt-leb _ _ past, and_false)
+pub returns-in_err-sum : goal.returns-in_err-sum
+returns-in_err-sum c =
+    c.from_residual-in_err-sum.ensures
+    ∙ past _ _ _ c.if-not-is_ascii_digit.ensures.cases (omega (arith, c.in_ok-checked_mul.ensures.1, c.in_err-sum.ensures))
 
-pub returns-then-most-digit-2 : goal.returns-then-most-digit-2
-unfolding digits value_from
-returns-then-most-digit-2 c =
-    let past : c.args.most < c.args.n * 10 + (c.args.byte - 48) = omega arith in
-    simp (lt-leb _ _ past, and_false)
+pub returns-then-most-sum : goal.returns-then-most-sum
+returns-then-most-sum c = past _ _ _ c.if-not-is_ascii_digit.ensures.cases (omega (arith, c.in_ok-checked_mul.ensures.1, c.in_ok-sum.ensures.1))
 
 pub returns : goal.returns
-unfolding digits value_from
 returns c =
-    let low : 48 ≤ c.args.byte = omega arith in
-    let high : c.args.byte ≤ 57 = omega arith in
-    let fits : c.args.n * 10 + (c.args.byte - 48) ≤ c.args.most = omega arith in
-    simp (le-leb _ _ low, le-leb _ _ high, le-leb _ _ fits)
+    let sum : c.args.n * 10 + (c.args.byte - 48) ≡ c.in_ok-sum.sum = omega (arith, c.in_ok-checked_mul.ensures.1, c.in_ok-sum.ensures.1) in
+    let most : c.args.n * 10 + (c.args.byte - 48) ≤ c.args.most = omega arith in
+    subst (λ m. Some m ≡ natural_from c.args.most c.args.n (c.args.byte ∷ [])) sum (fits _ _ _ c.if-not-is_ascii_digit.ensures.cases most)

@@ -4,7 +4,7 @@ use Rattle.covering_walk.proofs.VisitLaws.{cover_start, cover_contained, cover_e
 use Rattle.covering_calls.proofs.cover_prepared.Goals as goal
 
 pub visit_roots-requires : goal.visit_roots-requires
-visit_roots-requires c = cover_start c.requires.le_depth c.requires.ready c.requires.le_budget c.no_tally-s.ensures
+visit_roots-requires c = cover_start c.requires.le_depth c.requires.ready c.requires.le_budget c.new-s.ensures
 
 pub finish-requires : goal.finish-requires
 finish-requires c =
@@ -15,4 +15,4 @@ finish-requires c =
     }
 
 pub returns : goal.returns
-returns c = cover_end c.visit_roots.ensures c.no_tally-s.ensures (search rules) c.finish.ensures
+returns c = cover_end c.visit_roots.ensures c.new-s.ensures (search rules) c.finish.ensures

@@ -15,23 +15,22 @@ more_few l n i h f = omega (arith, identifiers_next i l, identifiers_first (suc 
 
 pub loop-i-init : goal.loop-i-init
 unfolding ranges_in identifiers
-loop-i-init c = (omega arith, refl)
+loop-i-init c = refl
 
 pub overflow_add-sum : goal.overflow_add-sum
-overflow_add-sum c =
-    omega (arith, c.above.ensures, more_few c.args.list.now c.args.n c.loop-i.i (omega arith) c.requires.1)
+overflow_add-sum c = omega (arith, c.saturating_sub.ensures, more_few c.args.list.now c.args.n c.loop-i.i (omega arith) c.requires.1)
 
 pub overflow_add-sum-in-loop-i : goal.overflow_add-sum-in-loop-i
 overflow_add-sum-in-loop-i c =
-    omega (arith, c.above.ensures, c.loop-i.invariant.1, more_few c.args.list.now c.args.n c.loop-i.i (omega arith) c.requires.1)
+    omega (arith, c.saturating_sub.ensures, c.loop-i.invariant, more_few c.args.list.now c.args.n c.loop-i.i (omega arith) c.requires.1)
 
 pub loop-i-preserved : goal.loop-i-preserved
 loop-i-preserved c =
     let xs = c.args.list.now in
     let i = c.loop-i.i in
-    (omega arith, omega (arith, c.above.ensures, c.loop-i.invariant.1, identifiers_next i xs, ap (λ k. identifiers (ranges_in k xs)) (add-one i)))
+    omega (arith, c.saturating_sub.ensures, c.loop-i.invariant, identifiers_next i xs, ap (λ k. identifiers (ranges_in k xs)) (add-one i))
 
 pub returns : goal.returns
 returns c =
     let e : c.loop-i.i ≡ c.args.n = omega arith in
-    c.loop-i.invariant.1 ∙ ap (λ k. identifiers (ranges_in k c.args.list.now)) e
+    c.loop-i.invariant ∙ ap (λ k. identifiers (ranges_in k c.args.list.now)) e

@@ -1,12 +1,8 @@
 -- `covering_calls::identifiers_in` adds up range by range; the first ranges have no more than all. Assumes nothing.
-use Prim.Native.Nat.{◌-◌, ◌≤◌}
 use mathlib.Core.Path.{◌≡◌}
 use Rattle.ranges.specs.Ranges.{ranges_in}
 use Rattle.ranges.specs.Contents.{identifiers}
 use Rattle.covering_calls.proofs.identifiers_in.Given as goal
 
 abbrev pub invariant-loop-i : goal.invariant-loop-i
-invariant-loop-i l = (l.i ≤ l.n) × (l.sum ≡ identifiers (ranges_in l.i l.list))
-
-abbrev pub decreases-loop-i : goal.decreases-loop-i
-decreases-loop-i l = l.n - l.i
+invariant-loop-i l = l.sum ≡ identifiers (ranges_in l.i l.list)

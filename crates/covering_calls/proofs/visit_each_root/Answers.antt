@@ -13,19 +13,18 @@ power-span-requires c = omega (arith, c.requires.root_needs.high)
 pub loop-k-init : goal.loop-k-init
 loop-k-init c = rooting_start c.requires.root_needs c.requires.active_lists_in refl c.power-span.ensures
 
-pub store_root-requires : goal.store_root-requires
-store_root-requires c = omega arith
+pub root-trixel-requires : goal.root-trixel-requires
+root-trixel-requires c = omega arith
 
 pub visit-requires : goal.visit-requires
 visit-requires c = let d = c.loop-k.invariant in record {
-  needs = root_needs d (omega arith) c.store_root.ensures.0;
+  needs = root_needs d (omega arith);
   active_lists_in = d.active;
 }
 
 pub loop-k-preserved : goal.loop-k-preserved
 loop-k-preserved c =
-    let k = c.store_root.ensures in
-    rooting_more c.loop-k.invariant (omega arith) k.0 k.1 c.visit.ensures
+    rooting_more c.loop-k.invariant (omega arith) c.root-trixel.ensures c.visit.ensures
 
 pub returns : goal.returns
 returns c = rooted c.loop-k.invariant (omega arith)

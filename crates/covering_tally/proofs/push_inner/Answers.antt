@@ -30,7 +30,7 @@ returns c =
       behind = record {
         rest = p.new.list;
         list = tail_back (2 * b) out h _;
-        stores = subst (λ l. Stores (inner_push b (state_of a.p l) (range a.low a.high)) l p.new.list p.result) (tail_lent (2 * b) out h) p.ensures.stores;
+        stores = subst (λ l. Stores (inner_push b (state_of a.p l) (range a.r.low a.r.high)) l p.new.list p.result) (tail_lent (2 * b) out h) p.ensures.stores;
       };
       few = p.ensures.n_le_budget;
       hinted = subst (λ l. Hinted p.result.hint (differences_in 0 0 p.result.n l)) (sym (tail_after (2 * b) out h _)) p.ensures.hinted_2;

@@ -1,21 +1,19 @@
 -- What each of the three hands on, and what it gives back, by VisitLaws. Assumes nothing.
 use native.Mathlib.Omega.{arith}
-use mathlib.Core.Path.{refl, ap}
-use Rattle.covering_walk.proofs.StoredTrixelLaws.{stored_small}
+use mathlib.Core.Path.{ap}
 use Rattle.covering_walk.proofs.VisitLaws.{visited_done, visited_cut, cut_needs, dividing_start, child_needs, dividing_more, divided}
 use Rattle.covering_walk.proofs.+children_children_by_active_visit.Goals as goal
 
 -- ---- children
 
 pub children-cut-cut-requires : goal.children-cut-cut-requires
-children-cut-cut-requires t c = stored_small c.trixel_in.ensures c.requires.cut_needs.trixel
+children-cut-cut-requires t c = c.args.trixel.now.small
 
 pub children-loop-k-init : goal.children-loop-k-init
-children-loop-k-init t c =
-    dividing_start c.requires.cut_needs c.requires.active_lists_in refl (rw c.trixel_in.ensures at c.cut-cut.ensures) refl
+children-loop-k-init t c = dividing_start c.requires.cut_needs c.requires.active_lists_in c.args.trixel.now.small c.cut-cut.ensures c.args.trixel.now.first
 
-pub children-store_child-requires : goal.children-store_child-requires
-children-store_child-requires t c = rw (c.trixel_in-in-loop-k.ensures, c.first_ray_in.ensures) (c.loop-k.invariant.parts, omega arith)
+pub children-child_of-child-requires : goal.children-child_of-child-requires
+children-child_of-child-requires t c = (c.loop-k.invariant.parts, omega arith)
 
 pub children-child_level-requires : goal.children-child_level-requires
 children-child_level-requires t c = (c.loop-k.invariant.needs.divisible, omega arith)
@@ -25,11 +23,11 @@ children-visit-requires t c =
     let d = c.loop-k.invariant in
     let e = c.child_level.ensures in (
       omega (arith, ap (λ m. m.left) e, d.needs.divisible.above),
-      (child_needs d (omega arith) (rw c.trixel_in-in-loop-k.ensures at c.store_child.ensures) e, d.active),
+      (child_needs d (omega arith) c.child_of-child.ensures e, d.active),
     )
 
 pub children-loop-k-preserved : goal.children-loop-k-preserved
-children-loop-k-preserved t c = dividing_more c.loop-k.invariant (omega arith) (rw c.trixel_in-in-loop-k.ensures at c.store_child.ensures) c.child_level.ensures c.visit.ensures
+children-loop-k-preserved t c = dividing_more c.loop-k.invariant (omega arith) c.child_of-child.ensures c.child_level.ensures c.visit.ensures
 
 pub children-returns : goal.children-returns
 children-returns t c = divided c.loop-k.invariant (omega arith)
@@ -37,7 +35,7 @@ children-returns t c = divided c.loop-k.invariant (omega arith)
 -- ---- children_by_active
 
 pub children_by_active-find_active-requires : goal.children_by_active-find_active-requires
-children_by_active-find_active-requires t c = record { stored_trixel = c.requires.trixel; ready = c.requires.ready }
+children_by_active-find_active-requires t c = c.requires.ready
 
 pub children_by_active-children-requires : goal.children_by_active-children-requires
 children_by_active-children-requires t c =
@@ -50,7 +48,6 @@ children_by_active-returns t c = c.children.ensures
 
 pub visit-classify_trixel-classified-requires : goal.visit-classify_trixel-classified-requires
 visit-classify_trixel-classified-requires t c = let n = c.requires.needs in record {
-  stored_trixel = n.trixel;
   ready = n.ready;
   active_lists_in = c.requires.active_lists_in;
 }

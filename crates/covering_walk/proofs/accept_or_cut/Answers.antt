@@ -1,21 +1,17 @@
 -- `covering_walk::accept_or_cut` goes by the class of the trixel. Assumes nothing.
 use native.Mathlib.Omega.{arith}
 use mathlib.Core.Path.{refl}
-use borrow.Author.Rules.{rules}
 use Rattle.covering_walk.proofs.VisitLaws.{range_fits, small_range, countable, done_outside, done_full, done_last, to_be_cut}
 use Rattle.covering_walk.proofs.accept_or_cut.Goals as goal
 
 pub seen_more-requires : goal.seen_more-requires
-seen_more-requires c = record {
-  s_len = search rules;
-  countable = countable c.requires.level_fits c.requires.tally_invariant;
-}
-
-pub overflow_mul-id : goal.overflow_mul-id
-overflow_mul-id c = omega (arith, (range_fits c.requires.level_fits).0)
+seen_more-requires c = countable c.requires.level_fits c.requires.tally_invariant
 
 pub overflow_mul-id-in-Full : goal.overflow_mul-id-in-Full
 overflow_mul-id-in-Full c = omega (arith, (range_fits c.requires.level_fits).0)
+
+pub overflow_mul-id : goal.overflow_mul-id
+overflow_mul-id c = omega (arith, (range_fits c.requires.level_fits).0)
 
 pub overflow_sub-span : goal.overflow_sub-span
 overflow_sub-span c = omega (arith, (range_fits c.requires.level_fits).1)
@@ -25,7 +21,6 @@ overflow_add-id c = omega (arith, (range_fits c.requires.level_fits).0)
 
 pub take_full-requires : goal.take_full-requires
 take_full-requires c = record {
-  s_len = search rules;
   tally_invariant = c.requires.tally_invariant;
   countable = countable c.requires.level_fits c.requires.tally_invariant;
   small_range = small_range c.requires.level_fits;
@@ -33,7 +28,6 @@ take_full-requires c = record {
 
 pub take_partial-requires : goal.take_partial-requires
 take_partial-requires c = record {
-  s_len = search rules;
   tally_invariant = c.requires.tally_invariant;
   countable = countable c.requires.level_fits c.requires.tally_invariant;
 }
@@ -45,10 +39,7 @@ pub returns-then-level-eq0 : goal.returns-then-level-eq0
 returns-then-level-eq0 c = done_last c.in-Partial.is c.if-level-eq0.true c.take_partial.ensures
 
 pub seen_more-requires-in-Partial : goal.seen_more-requires-in-Partial
-seen_more-requires-in-Partial c = record {
-  s_len = search rules;
-  countable = countable c.requires.level_fits c.requires.tally_invariant;
-}
+seen_more-requires-in-Partial c = countable c.requires.level_fits c.requires.tally_invariant
 
 pub returns-in-Outside : goal.returns-in-Outside
 returns-in-Outside c = done_outside c.in-Outside.is c.requires.tally_invariant c.seen_more.ensures refl

@@ -1,12 +1,12 @@
 -- `frames_calls::frames_in` checks the lengths of the lists, and searches. Assumes nothing.
 use Prim.Native.Nat.{ℕ, ◌*◌, ◌≤◌, ◌<◌}
+use Rattle.std.specs.Prelude.{Ok}
 use native.Mathlib.Omega.{arith}
 use mathlib.Core.Path.{◌≡◌, sym, subst}
 use lib.ListN.{length}
 use Rattle.region.specs.Budgets.{budget_of}
 use Rattle.region.proofs.BudgetLaws.{budget_one}
 use Rattle.covering_calls.proofs.DecodedLaws.{some_rows, depth_fits}
-use Rattle.frames.specs.declared.FramesOf.{FramesOf}
 use Rattle.frames.specs.Answers.{FramesCall}
 use Rattle.frames_calls.specs.Searches.{SearchesRows}
 use Rattle.frames_calls.proofs.AnswerLaws.{no_ranges, no_numbers, no_index, delivered}
@@ -46,7 +46,7 @@ search-made-requires c =
     let k = c.requires.file_is.1 in record {
       le_depth = ((depth_fits k).0, (depth_fits k).1, some_rows k);
       le_budget = (subst (λ n. 1 ≤ n) (sym c.budget_of-budget.ensures.0) (budget_one c.args.h.budget), omega (arith, c.if-ranges-budget.false));
-      in_bounds = (omega (arith, c.if-index-lt-INDEX_LENGTH.false), omega (arith, c.if-numbers-lt-OWNER_CAPACITY.false));
+      in_bounds = omega (arith, c.if-numbers-lt-OWNER_CAPACITY.false);
     }
 
 pub delivery-requires : goal.delivery-requires
@@ -64,5 +64,5 @@ returns c f k =
     let numbers = a.numbers.now in
     let long = long_ranges (goal.at.returns c).Else-ranges-budget in
     let w = subst (λ n. SearchesRows a.owner l a.h.depth n a.rows.now a.h.count ranges numbers c.search-made.result lists left) c.budget_of-budget.ensures.0 c.search-made.ensures in
-    subst (λ t. FramesCall a.owner l f ranges numbers (FramesOf.Gives t) lists left) (sym c.delivery.ensures)
+    subst (λ t. FramesCall a.owner l f ranges numbers (Ok t) lists left) (sym c.delivery.ensures)
     (delivered a.owner l f ranges numbers c.requires.owner_value a.h a.rows.now k long (omega (arith, c.if-numbers-lt-OWNER_CAPACITY.false)) (omega (arith, c.if-index-lt-INDEX_LENGTH.false)) c.search-made.result lists left w)

@@ -1,9 +1,12 @@
 -- `index_calls::count` is the count of a list that is long enough. Assumes nothing.
+use Rattle.std.proofs.lemmas.Result.{err_from_is_err_and}
 use Rattle.index_calls.proofs.CallLaws.{none_counted, is_counted}
 use Rattle.index_calls.proofs.count.Goals as goal
 
-pub returns-then-index-lt-INDEX_LENGTH : goal.returns-then-index-lt-INDEX_LENGTH
-returns-then-index-lt-INDEX_LENGTH c = none_counted c.args.index.now c.if-index-lt-INDEX_LENGTH.true
+pub returns-in_err-long_enough : goal.returns-in_err-long_enough
+returns-in_err-long_enough c =
+    let p = err_from_is_err_and c.from_residual.result c.from_residual.ensures.1 in
+    rw (p.1, p.2, c.in_err-long_enough.ensures.0) (none_counted c.args.index.now c.in_err-long_enough.ensures.1)
 
 pub returns : goal.returns
-returns c = is_counted c.args.index.now c.if-index-lt-INDEX_LENGTH.false c.count_in.result c.count_in.ensures.0
+returns c = is_counted c.args.index.now c.in_ok-long_enough.ensures c.count_in.result c.count_in.ensures.0

@@ -1,9 +1,13 @@
 -- `index_calls::remove` tests the owner, looks for the key, and moves the entries behind its entry down by one. Assumes nothing.
 use native.Mathlib.Omega.{arith}
 use borrow.Author.Tests.{lt-ltb, le-ltb}
-use lib.ListN.{length-set}
 use Rattle.index.specs.Exposures.{is_owner, key}
+use Rattle.std.proofs.lemmas.Result.{err_from_is_err_and}
 use Rattle.index_calls.proofs.CallLaws.{by_remove, no_owner, of_owner, too_short, is_absent, is_removed}
+use lib.ListN.{drop}
+use Rattle.std.specs.Prelude.{Err}
+use Rattle.index.specs.Entries.{entries_from}
+use Rattle.index_entries.specs.Steps.{Found}
 use Rattle.index_calls.proofs.remove.Goals as goal
 
 pub returns-then-owner-ge-OWNERS : goal.returns-then-owner-ge-OWNERS
@@ -12,35 +16,33 @@ returns-then-owner-ge-OWNERS c = let v = c.args in let both = by_remove _ _ _ _ 
   index_after = both.1;
 }
 
-pub returns-then-index-lt-INDEX_LENGTH : goal.returns-then-index-lt-INDEX_LENGTH
-returns-then-index-lt-INDEX_LENGTH c = let v = c.args in let both = by_remove _ _ _ _ (of_owner (lt-ltb v.owner 2 (omega arith)) (too_short v.index.now _ c.if-index-lt-INDEX_LENGTH.true)) in record {
-  result_value = both.0;
-  index_after = both.1;
-}
-
-pub returns-then-n-i : goal.returns-then-n-i
-returns-then-n-i c =
+pub returns-in_err-long_enough : goal.returns-in_err-long_enough
+returns-in_err-long_enough c =
     let v = c.args in
+    let p = err_from_is_err_and c.from_residual.result c.from_residual.ensures.1 in
+    let s = c.in_err-long_enough.ensures in
+    let both = by_remove _ _ _ _ (of_owner (lt-ltb v.owner 2 (omega arith)) (too_short v.index.now _ s.1)) in
+    rw (p.1, p.2, s.0) (record { result_value = both.0; index_after = both.1 })
+
+pub returns-in_default : goal.returns-in_default
+returns-in_default c =
+    let v = c.args in
+    let f : Found c.count_in-n.result (key v.owner v.number) (entries_from c.count_in-n.result (drop 1 v.index.now)) (Err c.in_default.field-0) = c.in_default.ensures in
     let both = by_remove _ _ _ _
     (of_owner (lt-ltb v.owner 2 (omega arith))
-    (is_absent v.index.now c.count_in-n.result c.if-index-lt-INDEX_LENGTH.false c.count_in-n.ensures.0 (key v.owner v.number) c.find-i.result.place c.find-i.ensures.place_value.0 (omega arith))) in record {
+    (is_absent v.index.now c.count_in-n.result c.in_ok-long_enough.ensures c.count_in-n.ensures.0 (key v.owner v.number) c.count_in-n.result f.0 (omega arith))) in record {
       result_value = both.0;
       index_after = both.1;
     }
 
-pub overflow_cast-index : goal.overflow_cast-index
-overflow_cast-index c = record { sfits = omega arith }
-
-pub shape_of-index : goal.shape_of-index
-shape_of-index c = simp length-set (omega arith)
-
 pub returns : goal.returns
 returns c =
     let v = c.args in
+    let f = c.in-Ok.ensures in
     let both = by_remove _ _ _ _
     (of_owner (lt-ltb v.owner 2 (omega arith))
-    (is_removed v.index.now c.count_in-n.result c.if-index-lt-INDEX_LENGTH.false c.count_in-n.ensures.0 (key v.owner v.number) c.find-i.result.place c.find-i.ensures.place_value.0 _
-    (omega arith) (omega arith) c.shift_down.ensures)) in record {
+    (is_removed v.index.now c.count_in-n.result c.in_ok-long_enough.ensures c.count_in-n.ensures.0 (key v.owner v.number) c.in-Ok.i f.0 _
+    f.1 (omega arith) c.shift_down.ensures)) in record {
       result_value = both.0;
       index_after = both.1;
     }

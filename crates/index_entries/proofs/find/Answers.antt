@@ -27,34 +27,19 @@ passed c = one_more c.args.index.now (key c.args.owner c.args.number) c.loop-i.i
 -- ---- the goals
 
 pub loop-i-init : goal.loop-i-init
-loop-i-init c =
-    let v = c.args in
-    let k = key v.owner v.number in
-    (omega arith, below_none (λ j. not (at v.index.now k j) ≡ true), none_owned v.index.now k)
+loop-i-init c = (omega arith, below_none (λ j. not (at c.args.index.now (key c.args.owner c.args.number) j) ≡ true), none_owned c.args.index.now (key c.args.owner c.args.number))
 
 pub returns-then-is_keyed : goal.returns-then-is_keyed
 returns-then-is_keyed c =
     let v = c.args in
     let x = goal.at.returns-then-is_keyed c in
-    record {
-      place_value = ends v.index.now (key v.owner v.number) v.n c.loop-i.i (omega arith) c.loop-i.invariant.1 (λ b. first x.After-is_keyed ∙ c.if-is_keyed.true);
-      owned_value = λ past. absurd (omega arith);
-    }
+    (ends v.index.now (key v.owner v.number) v.n c.loop-i.i (omega arith) c.loop-i.invariant.1 (λ b. first x.After-is_keyed ∙ c.if-is_keyed.true), omega arith)
 
 pub returns-then-is_keyed-2 : goal.returns-then-is_keyed-2
 returns-then-is_keyed-2 c =
     let v = c.args in
     let x = goal.at.returns-then-is_keyed-2 c in
-    record {
-      place_value = ends v.index.now (key v.owner v.number) v.n (c.loop-i.i + 1) (omega arith) (passed x.Else-is_keyed) (λ b. second x.After-is_keyed-in-loop-i ∙ c.if-is_keyed-2.true);
-      owned_value = λ past. absurd (omega arith);
-    }
-
-pub count_if_owned-requires : goal.count_if_owned-requires
-count_if_owned-requires c = omega (arith, c.loop-i.invariant.2.few)
-
-pub count_if_owned-owned-requires : goal.count_if_owned-owned-requires
-count_if_owned-owned-requires c = omega (arith, c.loop-i.invariant.2.few, c.count_if_owned.ensures.1)
+    (ends v.index.now (key v.owner v.number) v.n (c.loop-i.i + 1) (omega arith) (passed x.Else-is_keyed) (λ b. second x.After-is_keyed-in-loop-i ∙ c.if-is_keyed-2.true), omega arith)
 
 pub loop-i-preserved : goal.loop-i-preserved
 loop-i-preserved c =
@@ -73,19 +58,13 @@ returns-then-n-i c =
     let v = c.args in
     let k = key v.owner v.number in
     let e : v.n ≡ c.loop-i.i = omega arith in
-    record {
-      place_value = none v.index.now k v.n c.loop-i.i e c.loop-i.invariant.1;
-      owned_value = all_owned v.index.now k v.n c.loop-i.i c.loop-i.owned e c.loop-i.invariant.2;
-    }
+    (none v.index.now k v.n c.loop-i.i e c.loop-i.invariant.1, all_owned v.index.now k v.n c.loop-i.i c.loop-i.owned e c.loop-i.invariant.2)
 
 pub returns-then-is_keyed-3 : goal.returns-then-is_keyed-3
 returns-then-is_keyed-3 c =
     let v = c.args in
     let x = goal.at.returns-then-is_keyed-3 c in
-    record {
-      place_value = ends v.index.now (key v.owner v.number) v.n c.loop-i.i (omega arith) c.loop-i.invariant.1 (λ b. last x.After-is_keyed-2 ∙ c.if-is_keyed-3.true);
-      owned_value = λ past. absurd (omega arith);
-    }
+    (ends v.index.now (key v.owner v.number) v.n c.loop-i.i (omega arith) c.loop-i.invariant.1 (λ b. last x.After-is_keyed-2 ∙ c.if-is_keyed-3.true), omega arith)
 
 pub returns : goal.returns
 returns c =
@@ -94,7 +73,4 @@ returns c =
     let k = key v.owner v.number in
     let i = c.loop-i.i in
     let e : v.n ≡ i + 1 = omega arith in
-    let one = one_owned l k i c.loop-i.owned c.count_if_owned-2.result c.entry_at-e-2.result c.entry_at-e-2.ensures c.count_if_owned-2.ensures c.loop-i.invariant.2 in record {
-      place_value = none l k v.n (i + 1) e (one_more l k i c.loop-i.invariant.1 (last (goal.at.returns c).After-is_keyed-2 ∙ c.if-is_keyed-3.false));
-      owned_value = all_owned l k v.n (i + 1) c.count_if_owned-2.result e one;
-    }
+    let one = one_owned l k i c.loop-i.owned c.count_if_owned-2.result c.entry_at-e-2.result c.entry_at-e-2.ensures c.count_if_owned-2.ensures c.loop-i.invariant.2 in (none l k v.n (i + 1) e (one_more l k i c.loop-i.invariant.1 (last (goal.at.returns c).After-is_keyed-2 ∙ c.if-is_keyed-3.false)), all_owned l k v.n (i + 1) c.count_if_owned-2.result e one)

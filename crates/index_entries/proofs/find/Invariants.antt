@@ -33,11 +33,11 @@ module _ (l : List ℤ) (k : Key) where
   pub two_more : (i : ℕ) → Others (i + 1) → at (i + 1) ≡ false → Others (i + 2)
   two_more i h e j b = one_more (i + 1) h e j (omega arith)
 
-  pub ends : (n i : ℕ) → i ≤ n → Others i → (i < n → at i ≡ true) → (i ≡ leading (λ e. not (is_keyed k e)) (entries_from n (drop 1 l))) × (i ≤ n)
-  ends n i h all stop = (search_ends (λ e. not (is_keyed k e)) n l 1 i h all (λ b. ap not (stop b)), h)
+  pub ends : (n i : ℕ) → i ≤ n → Others i → (i < n → at i ≡ true) → i ≡ leading (λ e. not (is_keyed k e)) (entries_from n (drop 1 l))
+  ends n i h all stop = search_ends (λ e. not (is_keyed k e)) n l 1 i h all (λ b. ap not (stop b))
 
   -- all n have
-  pub none : (n i : ℕ) → n ≡ i → Others i → (n ≡ leading (λ e. not (is_keyed k e)) (entries_from n (drop 1 l))) × (n ≤ n)
+  pub none : (n i : ℕ) → n ≡ i → Others i → n ≡ leading (λ e. not (is_keyed k e)) (entries_from n (drop 1 l))
   none n i e all = ends n n (omega arith) (λ j b. all j (omega arith)) (λ b. absurd (omega arith))
 
   -- how many of the entries before number i are the owner's
@@ -69,8 +69,8 @@ module _ (l : List ℤ) (k : Key) where
   pub two_owned : (i w r : ℕ) (e : Entry) → e ≡ entry_at l (1 + Width * (i + 1)) → CountsIfOwned w r e → Owned (i + 1) w → Owned (i + 2) r
   two_owned i w r e is c h = let s : i + 1 + 1 ≡ i + 2 = omega arith in subst (λ j. Owned j r) s (one_owned (i + 1) w r e is c h)
 
-  pub all_owned : (n i w : ℕ) → n ≡ i → Owned i w → n ≤ n → w ≡ tally (is_owned k.owner) (entries_from n (drop 1 l))
-  all_owned n i w e h past = h.same ∙ ap (λ j. tally (is_owned k.owner) (entries_from j (drop 1 l))) (sym e)
+  pub all_owned : (n i w : ℕ) → n ≡ i → Owned i w → w ≡ tally (is_owned k.owner) (entries_from n (drop 1 l))
+  all_owned n i w e h = h.same ∙ ap (λ j. tally (is_owned k.owner) (entries_from j (drop 1 l))) (sym e)
 
 abbrev pub invariant-loop-i : goal.invariant-loop-i
 invariant-loop-i l = (l.i ≤ l.n) × Others l.index (key l.owner l.number) l.i × Owned l.index (key l.owner l.number) l.i l.owned

@@ -1,33 +1,11 @@
 -- `mesh_bends::bend_by` is the rule's bend: s is at most 2²⁶ and its square, divided, at most 2²⁸. Assumes nothing.
 use native.Mathlib.Omega.{arith}
-use Rattle.algebra.proofs.Sized.{held, lit, is_mul, is_add, is_div, fits_mul, fits_add, fits_div}
+use Rattle.algebra.proofs.Sized.{held, lit, is_mul, is_add, is_div, fits_mul, fits_add}
 use Rattle.mesh_bends.proofs.QuotientSizes.{is_quotient}
 use Rattle.mesh_bends.proofs.bend_by.Goals as goal
 
-pub overflow_mul-s2 : goal.overflow_mul-s2
-overflow_mul-s2 c = fits_mul (held c.requires tt) (held c.requires tt) tt
-
-pub nonzero_div-s2 : goal.nonzero_div-s2
-nonzero_div-s2 c = fits_div (is_mul (held c.requires tt) (held c.requires tt) tt) (lit 16777216 tt) (omega arith) tt
-
-pub nonzero_div-result : goal.nonzero_div-result
-nonzero_div-result c = fits_div (held c.requires tt) (lit 4 tt) (omega arith) tt
-
-pub nonzero_div-result-2 : goal.nonzero_div-result-2
-nonzero_div-result-2 c = let s2 = is_quotient 16777216 (omega arith) tt (is_mul (held c.requires tt) (held c.requires tt) tt) tt in fits_div s2 (lit 32 tt) (omega arith) tt
-
-pub overflow_add-result : goal.overflow_add-result
-overflow_add-result c =
-    let s2 = is_quotient 16777216 (omega arith) tt (is_mul (held c.requires tt) (held c.requires tt) tt) tt in
-    fits_add (is_div (held c.requires tt) (lit 4 tt) tt) (is_div s2 (lit 32 tt) tt) tt
-
 pub overflow_mul-result : goal.overflow_mul-result
 overflow_mul-result c = let s2 = is_quotient 16777216 (omega arith) tt (is_mul (held c.requires tt) (held c.requires tt) tt) tt in fits_mul s2 (held c.requires tt) tt
-
-pub nonzero_div-result-3 : goal.nonzero_div-result-3
-nonzero_div-result-3 c =
-    let s2 = is_quotient 16777216 (omega arith) tt (is_mul (held c.requires tt) (held c.requires tt) tt) tt in
-    fits_div (is_mul s2 (held c.requires tt) tt) (lit 2147483648 tt) (omega arith) tt
 
 pub overflow_add-result-2 : goal.overflow_add-result-2
 overflow_add-result-2 c =

@@ -7,7 +7,7 @@ use mir.Syntax.{w64}
 use mir.Val.{of_z}
 use mir.Facts.{to_z-of_z}
 use Rattle.algebra.proofs.Sizes.{Upto}
-use Rattle.algebra.proofs.Sized.{Is, held, lit, is_sub, fits_sub, fits_div}
+use Rattle.algebra.proofs.Sized.{Is, held, lit, is_sub}
 use Rattle.vector.specs.declared.Vec3.{Vec3}
 use Rattle.vector.specs.Vectors.{dot}
 use Rattle.vector.proofs.Sizes.{Small}
@@ -22,12 +22,6 @@ product {b} {c} p q e = let h = dot_upto p q in record { eq = (held (subst (Upto
 
 abbrev found : (c : goal.After-dot) → Is (of_z w64 c.dot.result) (dot c.args.b c.args.c) (3 * 2 ^ 40)
 found c = product c.requires.small c.requires.small_2 c.dot.ensures.value
-
-pub overflow_sub-dot : goal.overflow_sub-dot
-overflow_sub-dot c = fits_sub (lit 1099511627776 tt) (found c) tt
-
-pub nonzero_div-dot : goal.nonzero_div-dot
-nonzero_div-dot c = fits_div (is_sub (lit 1099511627776 tt) (found c) tt) (lit 65536 tt) (omega arith) tt
 
 pub bend_by-requires : goal.bend_by-requires
 bend_by-requires c = let s = is_quotient 65536 (omega arith) tt (is_sub (lit 1099511627776 tt) (found c) tt) tt in subst (Upto (2 ^ 26)) (sym s.eq) s.size

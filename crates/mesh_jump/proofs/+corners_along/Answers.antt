@@ -1,6 +1,5 @@
 -- `mesh_jump::corners_along` gives the corners along the digits: those of a child of the trixel one level above. Assumes nothing.
 use Prim.Native.Nat.{◌-◌, ◌/◌, ◌%◌}
-use native.Mathlib.Omega.{arith}
 use mathlib.Core.Path.{ap, ◌∙◌}
 use Rattle.mesh.specs.Trixels.{child}
 use Rattle.mesh.specs.Identifiers.{corners_of}
@@ -12,12 +11,6 @@ use Rattle.mesh_jump.proofs.+corners_along.Goals as goal
 
 pub returns-then-n-eq0 : goal.returns-then-n-eq0
 returns-then-n-eq0 t c = (ap corners_of (along_none c.args.n c.args.id (bare c.args.c) c.if-n-eq0.true), c.requires)
-
-pub corners_along-requires : goal.corners_along-requires
-corners_along-requires t c = (omega (arith, c.decreases), c.requires)
-
-pub child_corners-requires : goal.child_corners-requires
-child_corners-requires t c = c.corners_along.ensures.1
 
 pub returns : goal.returns
 returns t c =

@@ -1,38 +1,12 @@
 -- `mesh_jump::at_corner` gives the numbers of the child at the first corner; none of them is near 2⁶³. Assumes nothing.
-use mathlib.Core.Path.{◌≡◌, subst, sym, ◌∙◌}
+use mathlib.Core.Path.{◌≡◌, ◌∙◌}
 use lib.IntN.{pos, ◌*ℤ◌}
-use lib.Signed.{◌≤ℤ◌}
-use Rattle.algebra.proofs.Sized.{held, upto_held, lit, is_sub, is_mul, fits_sub, fits_mul}
+use Rattle.algebra.proofs.Sized.{held, lit, is_sub, is_mul}
 use Rattle.mesh_jump.specs.Jumps.{less_of, at_corner}
 use Rattle.mesh_jump.proofs.at_corner.Goals as goal
 
-pub overflow_sub-result : goal.overflow_sub-result
-overflow_sub-result c = let w = c.requires.within in fits_sub (held w.d0 tt) (held w.d1 tt) tt
-
-pub overflow_sub-result-2 : goal.overflow_sub-result-2
-overflow_sub-result-2 c = let w = c.requires.within in fits_sub (is_sub (held w.d0 tt) (held w.d1 tt) tt) (held w.d2 tt) tt
-
-pub twice_less-requires : goal.twice_less-requires
-twice_less-requires c =
-    let p = c.requires in
-    record {
-      pos_bound = (subst (λ z. pos 0 ≤ℤ z) (sym (held p.within.d1 tt).eq) p.not_negative.d1, upto_held p.within.d1 tt);
-      upto = upto_held p.upto.0 tt;
-    }
-
-pub twice_less-requires-2 : goal.twice_less-requires-2
-twice_less-requires-2 c =
-    let p = c.requires in
-    record {
-      pos_bound = (subst (λ z. pos 0 ≤ℤ z) (sym (held p.within.d2 tt).eq) p.not_negative.d2, upto_held p.within.d2 tt);
-      upto = upto_held p.upto.1 tt;
-    }
-
-pub overflow_mul-result : goal.overflow_mul-result
-overflow_mul-result c = let w = c.requires.within in fits_mul (lit 2 tt) (held w.margin tt) tt
-
 pub returns : goal.returns
-returns c =
+returns g c =
     let w = c.requires.within in
     let u = c.requires.upto in
     let a = (is_sub (is_sub (held w.d0 tt) (held w.d1 tt) tt) (held w.d2 tt) tt).eq in

@@ -1,6 +1,6 @@
 -- `mesh_jump::bent_digits` gives digits of the rule, and numbers that follow p. The loop's invariant: for whatever p and c the first numbers and bends were made,
--- what is left of the descent from here is what it was from the start, and the trixel here is known with its bends. The measure is the levels left. Assumes nothing.
-use Prim.Native.Nat.{◌-◌, ◌^◌, ◌≤◌, ◌<◌}
+-- what is left of the descent from here is what it was from the start, and the trixel here is known with its bends. Assumes nothing.
+use Prim.Native.Nat.{◌^◌, ◌≤◌, ◌<◌}
 use mathlib.Core.Path.{◌≡◌}
 use Rattle.vector.specs.declared.Vec3.{Vec3}
 use Rattle.vector.proofs.Sizes.{Small}
@@ -14,9 +14,6 @@ use Rattle.mesh_jump.proofs.bent_digits.Given as goal
 
 abbrev pub invariant-loop-k : goal.invariant-loop-k
 invariant-loop-k l =
-    (l.n ≤ 9) × (l.id < 2 ^ 40) × (l.limit ≤ l.n) × (l.limit ≤ 4) × (l.k ≤ l.limit)
+    (l.n ≤ 9) × (l.id < 2 ^ 40) × (l.limit ≤ l.n) × (l.limit ≤ 4) × (l.sure.count ≡ l.k)
     × ((p : Vec3) (c : Corners) → Small p → Entry c → l.initial.numbers ≡ begin_of p c → Started p l.initial.numbers → l.initial.bends ≡ bends_of c
-    → Jumping p c l.n l.id l.i l.k l.numbers × Known l.k l.bends (volume_of c) (along l.k l.i (bare c)))
-
-abbrev pub decreases-loop-k : goal.decreases-loop-k
-decreases-loop-k l = l.limit - l.k
+    → Jumping p c l.n l.id l.sure.id l.sure.count l.numbers × Known l.sure.count l.bends (volume_of c) (along l.sure.count l.sure.id (bare c)))

@@ -1,59 +1,21 @@
 -- `mesh_jump::in_middle` gives the numbers of the child in the middle; none of them is near 2⁶³. Assumes nothing.
 use Prim.Native.Nat.{◌^◌}
-use mathlib.Core.Path.{◌≡◌, subst, sym, ◌∙◌}
-use lib.IntN.{ℤ, pos, ◌+ℤ◌, ◌-ℤ◌}
-use lib.Signed.{◌≤ℤ◌}
+use mathlib.Core.Path.{◌≡◌, ◌∙◌}
+use lib.IntN.{ℤ, ◌+ℤ◌, ◌-ℤ◌}
 use mir.Syntax.{w64}
 use mir.Val.{to_z, of_z}
 use Rattle.algebra.proofs.Sizes.{Upto}
-use Rattle.algebra.proofs.Sized.{held, upto_held, lit, is_mul, fits_mul}
+use Rattle.algebra.proofs.Sized.{held, lit, is_mul}
 use Rattle.mesh_jump.specs.Jumps.{less_of, in_middle}
 use Rattle.mesh_jump.proofs.in_middle.Goals as goal
 
--- three numbers, as their bits have them
-stored : {x y z : ℤ} → Upto (2 ^ 61) x → Upto (2 ^ 61) y → Upto (2 ^ 61) z → pos 0 ≤ℤ (x +ℤ y -ℤ z)
-    → pos 0 ≤ℤ (to_z w64 (of_z w64 x) +ℤ to_z w64 (of_z w64 y) -ℤ to_z w64 (of_z w64 z))
-stored u v w h = subst (λ z. pos 0 ≤ℤ z) (sym (λ i. (held u tt).eq i +ℤ (held v tt).eq i -ℤ (held w tt).eq i)) h
-
+-- three numbers and a bend, as their bits have them
 less : {x y z a : ℤ} (p : Upto (2 ^ 61) x) (q : Upto (2 ^ 61) y) (r : Upto (2 ^ 61) z) (b : Upto (2 ^ 20) a)
     → less_of (to_z w64 (of_z w64 x) +ℤ to_z w64 (of_z w64 y) -ℤ to_z w64 (of_z w64 z)) (to_z w64 (of_z w64 a)) ≡ less_of (x +ℤ y -ℤ z) a
 less p q r b = λ i. less_of ((held p tt).eq i +ℤ (held q tt).eq i -ℤ (held r tt).eq i) ((held b tt).eq i)
 
-pub excess_less-requires : goal.excess_less-requires
-excess_less-requires c =
-    let p = c.requires in
-    let w = p.within in
-    record {
-      upto = (upto_held w.d1 tt, upto_held w.d2 tt, upto_held w.d0 tt);
-      pos_bound = stored w.d1 w.d2 w.d0 p.in_middle.at0;
-      upto_2 = upto_held p.small_bends.a0 tt;
-    }
-
-pub excess_less-requires-2 : goal.excess_less-requires-2
-excess_less-requires-2 c =
-    let p = c.requires in
-    let w = p.within in
-    record {
-      upto = (upto_held w.d0 tt, upto_held w.d2 tt, upto_held w.d1 tt);
-      pos_bound = stored w.d0 w.d2 w.d1 p.in_middle.at1;
-      upto_2 = upto_held p.small_bends.a1 tt;
-    }
-
-pub excess_less-requires-3 : goal.excess_less-requires-3
-excess_less-requires-3 c =
-    let p = c.requires in
-    let w = p.within in
-    record {
-      upto = (upto_held w.d0 tt, upto_held w.d1 tt, upto_held w.d2 tt);
-      pos_bound = stored w.d0 w.d1 w.d2 p.in_middle.at2;
-      upto_2 = upto_held p.small_bends.a2 tt;
-    }
-
-pub overflow_mul-result : goal.overflow_mul-result
-overflow_mul-result c = fits_mul (lit 2 tt) (held c.requires.within.margin tt) tt
-
 pub returns : goal.returns
-returns c =
+returns g c =
     let w = c.requires.within in
     let u = c.requires.small_bends in
     let a = (held c.excess_less.ensures.1 tt).eq ∙ c.excess_less.ensures.0 ∙ less w.d1 w.d2 w.d0 u.a0 in

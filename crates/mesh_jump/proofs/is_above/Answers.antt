@@ -1,14 +1,8 @@
 -- `mesh_jump::is_above` compares what is left of the first number with the margin. Assumes nothing.
 use mathlib.Core.Path.{sym, ◌∙◌}
-use Rattle.algebra.proofs.Sized.{held, is_sub, fits_sub, same_lt}
+use Rattle.algebra.proofs.Sized.{held, is_sub, same_lt}
 use Rattle.algebra.proofs.Tests.{lt_yes}
 use Rattle.mesh_jump.proofs.is_above.Goals as goal
-
-pub overflow_sub-result : goal.overflow_sub-result
-overflow_sub-result c = let w = c.requires in fits_sub (held w.d0 tt) (held w.d1 tt) tt
-
-pub overflow_sub-result-2 : goal.overflow_sub-result-2
-overflow_sub-result-2 c = let w = c.requires in fits_sub (is_sub (held w.d0 tt) (held w.d1 tt) tt) (held w.d2 tt) tt
 
 pub returns : goal.returns
 returns c =

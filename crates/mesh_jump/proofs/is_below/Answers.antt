@@ -4,18 +4,12 @@ use lib.IntN.{ℤ, neg_ℤ, ◌+ℤ◌, ◌-ℤ◌}
 use lib.Signed.{◌<ℤ◌}
 use Rattle.algebra.proofs.Ring.{◌:+◌, ◌:-◌, :neg}
 use Rattle.algebra.proofs.Claim.{◌:≡◌, ring}
-use Rattle.algebra.proofs.Sized.{held, is_add, is_sub, fits_add, fits_sub, same_lt}
+use Rattle.algebra.proofs.Sized.{held, is_add, is_sub, same_lt}
 use Rattle.algebra.proofs.Tests.{lt_yes}
 use Rattle.mesh_jump.proofs.is_below.Goals as goal
 
 other_side : (a b c : ℤ) → b +ℤ c -ℤ a ≡ neg_ℤ (a -ℤ b -ℤ c)
 other_side = ring 3 (λ a b c. b :+ c :- a :≡ :neg (a :- b :- c)) refl
-
-pub overflow_add-result : goal.overflow_add-result
-overflow_add-result c = let w = c.requires in fits_add (held w.d1 tt) (held w.d2 tt) tt
-
-pub overflow_sub-result : goal.overflow_sub-result
-overflow_sub-result c = let w = c.requires in fits_sub (is_add (held w.d1 tt) (held w.d2 tt) tt) (held w.d0 tt) tt
 
 pub returns : goal.returns
 returns c =

@@ -2,17 +2,8 @@
 use Prim.Native.Nat.{◌*◌, ◌^◌}
 use mathlib.Core.Path.{sym, subst}
 use Rattle.algebra.proofs.Sizes.{Upto}
-use Rattle.algebra.proofs.Sized.{held, lit, is_add, is_sub, is_mul, fits_add, fits_sub, fits_mul}
+use Rattle.algebra.proofs.Sized.{held, lit, is_add, is_sub, is_mul}
 use Rattle.mesh_jump.proofs.push_along.Goals as goal
-
-pub overflow_add-result : goal.overflow_add-result
-overflow_add-result c = let w = c.requires in fits_add (held w.x tt) (held w.y tt) tt
-
-pub overflow_sub-result : goal.overflow_sub-result
-overflow_sub-result c = let w = c.requires in fits_sub (is_add (held w.x tt) (held w.y tt) tt) (held w.z tt) tt
-
-pub overflow_mul-result : goal.overflow_mul-result
-overflow_mul-result c = let w = c.requires in fits_mul (lit 5 tt) (is_sub (is_add (held w.x tt) (held w.y tt) tt) (held w.z tt) tt) tt
 
 pub returns : goal.returns
 returns c =

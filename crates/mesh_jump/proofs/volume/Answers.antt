@@ -5,7 +5,7 @@ use lib.IntN.{ℤ, ◌+ℤ◌, ◌-ℤ◌, ◌*ℤ◌}
 use Rattle.algebra.proofs.Ring.{con, ◌:+◌, ◌:-◌, ◌:*◌}
 use Rattle.algebra.proofs.Claim.{◌:≡◌, ring}
 use Rattle.algebra.proofs.Sizes.{Upto}
-use Rattle.algebra.proofs.Sized.{held, is_add, fits_add}
+use Rattle.algebra.proofs.Sized.{held, is_add}
 use Rattle.jump.proofs.Jump.{det}
 use Rattle.jump.proofs.JumpInvariant.{pushed}
 use Rattle.jump.proofs.JumpConstants.{δ}
@@ -21,24 +21,6 @@ pushed_volume a b c n e = ap (λ n. dot c n +ℤ δ *ℤ (n.x +ℤ n.y -ℤ n.z)
   where
     both : (x y z p q r : ℤ) → p *ℤ x +ℤ q *ℤ y +ℤ r *ℤ z +ℤ δ *ℤ (x +ℤ y -ℤ z) ≡ x *ℤ (p +ℤ δ) +ℤ y *ℤ (q +ℤ δ) +ℤ z *ℤ (r -ℤ δ)
     both = ring 6 (λ x y z p q r. p :* x :+ q :* y :+ r :* z :+ con δ :* (x :+ y :- z) :≡ x :* (p :+ con δ) :+ y :* (q :+ con δ) :+ z :* (r :- con δ)) refl
-
-pub cross-n-requires : goal.cross-n-requires
-cross-n-requires c = let both = c.requires.small in record {
-  small = both.0;
-  small_2 = both.1;
-}
-
-pub dot-requires : goal.dot-requires
-dot-requires c = record {
-  small = c.requires.small_2;
-  at_most = c.cross-n.ensures.at_most;
-}
-
-pub push_along-requires : goal.push_along-requires
-push_along-requires c = c.cross-n.ensures.at_most
-
-pub overflow_add-result : goal.overflow_add-result
-overflow_add-result c = fits_add (held c.dot.ensures.upto tt) (held c.push_along.ensures.1 tt) tt
 
 pub returns : goal.returns
 returns c =

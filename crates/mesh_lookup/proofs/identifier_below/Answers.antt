@@ -1,5 +1,4 @@
 -- `mesh_lookup::identifier_below` goes on behind the digits of the jump, from the corners along them. Assumes nothing.
-use native.Mathlib.Omega.{arith}
 use mathlib.Core.Path.{◌≡◌, ap, ◌∙◌}
 use Prim.Native.Nat.{◌-◌}
 use Rattle.mesh.specs.Lookup.{descend}
@@ -10,36 +9,17 @@ use Rattle.mesh_lookup.specs.LookupSteps.{turned_corners}
 use Rattle.mesh_lookup.proofs.DescentLaws.{all_sure, some_left, sure_below}
 use Rattle.mesh_lookup.proofs.identifier_below.Goals as goal
 
-pub jump-sure-requires : goal.jump-sure-requires
-jump-sure-requires c = let t = c.requires.table_start in record {
-  small = t.pointing;
-  small_corners = t.small;
-  entry = t.entry;
-  id_bound = (omega (arith, t.low), c.requires.n_bound);
-}
-
 pub returns-then-sure-n : goal.returns-then-sure-n
 returns-then-sure-n c =
     let t = c.args.t in
     all_sure c.args.root c.requires.root_bound c.args.p t.pointing c.requires.table_start.back t.entry t.id c.args.n c.jump-sure.result c.jump-sure.ensures c.if-sure-n.true
 
-pub turned_corners-requires : goal.turned_corners-requires
-turned_corners-requires c = c.requires.table_start.small
-
-pub rest_of-requires : goal.rest_of-requires
-rest_of-requires c =
+pub rest_of-requires-clause-id_bound : goal.rest_of-requires-clause-id_bound
+rest_of-requires-clause-id_bound c =
     let t = c.args.t in
     let q = c.requires in
     let j = c.jump-sure.ensures in
-    record {
-      small = q.small;
-      small_corners = c.turned_corners.ensures.small_corners;
-      id_bound = (
-        sure_below c.args.root q.root_bound c.args.p t.pointing q.table_start.back t.entry t.id c.args.n c.jump-sure.result j q.table_start.low q.n_bound,
-        j.upto,
-        q.n_bound,
-      );
-    }
+    (sure_below c.args.root q.root_bound c.args.p t.pointing q.table_start.back t.entry t.id c.args.n c.jump-sure.result j q.table_start.low q.n_bound, j.upto, q.n_bound)
 
 pub returns : goal.returns
 returns c =

@@ -6,7 +6,7 @@ use lib.IntN.{pos, neg_ℤ, ◌*ℤ◌, ◌-ℤ◌, +ℤ_idl}
 use lib.Signed.{◌<ℤ◌}
 use mir.Syntax.{w64}
 use mir.Val.{to_z, of_z}
-use Rattle.algebra.proofs.Sized.{Is, sfits, held, nat, lit, is_mul, is_sub, fits_mul, fits_sub, same_lt}
+use Rattle.algebra.proofs.Sized.{Is, held, nat, lit, is_mul, is_sub, same_lt}
 use Rattle.algebra.proofs.Inequalities.{<ℤ→≤ℤ}
 use Rattle.algebra.proofs.Tests.{lt_yes, yes_le, not_le}
 use Rattle.vector.specs.Vectors.{dot, cross, scale}
@@ -15,45 +15,25 @@ use Rattle.jump.proofs.SideLaws.{scale_above, scale_below}
 use Rattle.vector.proofs.VectorLaws.{dot_comm}
 use Rattle.mesh.specs.Lookup.{not_negative}
 use Rattle.mesh_lookup.proofs.on_side.Goals as goal
+use Rattle.mesh_lookup.proofs.on_side.Goals.{After-cross-c, After-dot-s, After-largest}
 
 -- the largest component, and three times it
-one : (c : goal.After-largest) → Is c.largest.result (pos c.largest.result) (2 ^ 41)
+one : (c : After-largest) → Is c.largest.result (pos c.largest.result) (2 ^ 41)
 one c = nat (subst (λ m. m ≤ 2 ^ 41) (sym c.largest.ensures) (largest_bound c.cross-c.ensures.at_most)) tt
 
-three : (c : goal.After-largest) → Is (of_z w64 (pos 3 *ℤ to_z w64 c.largest.result)) (pos (3 * c.largest.result)) (3 * 2 ^ 41)
+three : (c : After-largest) → Is (of_z w64 (pos 3 *ℤ to_z w64 c.largest.result)) (pos (3 * c.largest.result)) (3 * 2 ^ 41)
 three c = is_mul (lit 3 tt) (one c) tt
 
-minus_three : (c : goal.After-largest) → Is (of_z w64 (pos 0 -ℤ to_z w64 (of_z w64 (pos 3 *ℤ to_z w64 c.largest.result)))) (pos 0 -ℤ pos (3 * c.largest.result)) (0 + 3 * 2 ^ 41)
+minus_three : (c : After-largest) → Is (of_z w64 (pos 0 -ℤ to_z w64 (of_z w64 (pos 3 *ℤ to_z w64 c.largest.result)))) (pos 0 -ℤ pos (3 * c.largest.result)) (0 + 3 * 2 ^ 41)
 minus_three c = is_sub (lit 0 tt) (three c) tt
 
 -- c·p
-product : (c : goal.After-dot-s) → c.dot-s.result ≡ dot c.cross-c.result c.args.p
+product : (c : After-dot-s) → c.dot-s.result ≡ dot c.cross-c.result c.args.p
 product c = c.dot-s.ensures.value ∙ dot_comm c.args.p c.cross-c.result
 
 -- the side by c is the side by a × b
-side : (c : goal.After-cross-c) → not_negative (dot (scale c.cross-c.result) c.args.p) ≡ not_negative (dot (scale (cross c.args.a c.args.b)) c.args.p)
+side : (c : After-cross-c) → not_negative (dot (scale c.cross-c.result) c.args.p) ≡ not_negative (dot (scale (cross c.args.a c.args.b)) c.args.p)
 side c = ap (λ v. not_negative (dot (scale v) c.args.p)) c.cross-c.ensures.value
-
-pub cross-c-requires : goal.cross-c-requires
-cross-c-requires c = let both = c.requires.small in record {
-  small = both.0;
-  small_2 = both.1;
-}
-
-pub dot-s-requires : goal.dot-s-requires
-dot-s-requires c = record {
-  small = c.requires.small_2;
-  at_most = c.cross-c.ensures.at_most;
-}
-
-pub largest-requires : goal.largest-requires
-largest-requires c = c.cross-c.ensures.at_most
-
-pub overflow_cast-m : goal.overflow_cast-m
-overflow_cast-m c = sfits w64 (one c).size tt
-
-pub overflow_mul-m : goal.overflow_mul-m
-overflow_mul-m c = fits_mul (lit 3 tt) (one c) tt
 
 pub returns-then-m-s : goal.returns-then-m-s
 returns-then-m-s c =
@@ -64,18 +44,6 @@ returns-then-m-s c =
     (subst₂ (λ m s. pos (3 * m) <ℤ s) g.largest.ensures (product g.before) beyond))))
     ∙ side x
 
-pub exactly_on_side-requires : goal.exactly_on_side-requires
-exactly_on_side-requires c = record {
-  small = c.requires.small;
-  small_2 = c.requires.small_2;
-}
-
-pub returns-then-s-ge0 : goal.returns-then-s-ge0
-returns-then-s-ge0 c = c.exactly_on_side.ensures
-
-pub overflow_sub-m : goal.overflow_sub-m
-overflow_sub-m c = fits_sub (lit 0 tt) (three c.before.before) tt
-
 pub returns-then-s-m : goal.returns-then-s-m
 returns-then-s-m c =
     let g = c.before.before.before in
@@ -85,12 +53,3 @@ returns-then-s-m c =
     sym (not_le (scale_below x.cross-c.result x.args.p x.requires.small_2
     (subst₂ (λ m s. s <ℤ neg_ℤ (pos (3 * m))) g.largest.ensures (product g.before) turned)))
     ∙ side x
-
-pub exactly_on_side-requires-2 : goal.exactly_on_side-requires-2
-exactly_on_side-requires-2 c = record {
-  small = c.requires.small;
-  small_2 = c.requires.small_2;
-}
-
-pub returns : goal.returns
-returns c = c.exactly_on_side-2.ensures

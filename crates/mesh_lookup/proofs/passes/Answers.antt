@@ -1,18 +1,10 @@
 -- `mesh_lookup::passes` is the sign of the product with the normal turned round. Assumes nothing.
 use mathlib.Core.Path.{ap, ◌∙◌}
-use lib.Dec.{lit≤}
 use lib.IntN.{pos}
 use lib.Signed.{le_z}
 use Rattle.algebra.proofs.Sized.{held}
-use Rattle.vector.proofs.SizeLaws.{at_most_mono}
 use Rattle.vector.proofs.VectorLaws.{dot_comm}
 use Rattle.mesh_lookup.proofs.passes.Goals as goal
-
-pub dot-requires : goal.dot-requires
-dot-requires c = record {
-  small = c.requires.small;
-  at_most = at_most_mono (lit≤ tt) c.requires.small_2;
-}
 
 pub returns : goal.returns
 returns c =

@@ -5,10 +5,6 @@ use Rattle.algebra.proofs.Sized.{held}
 use Rattle.mesh.specs.Lookup.{not_negative, north_root, south_root, root_number}
 use Rattle.mesh_lookup.proofs.root_number.Goals as goal
 
-pub root_by-requires : goal.root_by-requires
-unfolding root_number
-root_by-requires c = tt
-
 pub returns : goal.returns
 unfolding root_number
 returns c =

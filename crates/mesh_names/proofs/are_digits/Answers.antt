@@ -1,17 +1,10 @@
-use native.Mathlib.Omega.{arith}
-use mathlib.Core.Path.{sym, ◌∙◌}
-use Rattle.mesh_names.proofs.NameReading.{digits_at, digits_end}
+-- The definition makes the tests that `all` makes. Assumes nothing.
+use Rattle.std.proofs.Common.{rules, tests}
+use Rattle.std.proofs.lemmas.Iterator.{YieldsList-from_slice}
+use Rattle.std.proofs.lemmas.Iterator.Search.{all_from_yields_List}
+use Rattle.mesh.specs.Names.{is_digit, are_digits}
 use Rattle.mesh_names.proofs.are_digits.Goals as goal
 
-pub returns-then-not-is_digit : goal.returns-then-not-is_digit
-returns-then-not-is_digit c =
-    let t = c in
-    sym (digits_at _ t.loop-i.i (omega arith) (sym c.is_digit.ensures ∙ c.if-not-is_digit.true)) ∙ t.loop-i.invariant
-
-pub loop-i-preserved : goal.loop-i-preserved
-loop-i-preserved c =
-    let t = c in
-    sym (digits_at _ t.loop-i.i (omega arith) (sym c.is_digit.ensures ∙ c.if-not-is_digit.false)) ∙ t.loop-i.invariant
-
 pub returns : goal.returns
-returns c = sym (digits_end _ _ c.loop-i-test.false) ∙ c.loop-i.invariant
+unfolding are_digits
+returns c = all_from_yields_List is_digit _ _ c.all.result c.all.ensures.ran (YieldsList-from_slice c.args.bytes.now cc) (λ x b q k. search (rules, tests))

@@ -4,6 +4,3 @@ use Rattle.mesh_names.proofs.write_name.Given as goal
 
 abbrev pub invariant-loop-at : goal.invariant-loop-at
 invariant-loop-at l = Written l.id l.depth l.initial.out l.out l.rest l.at
-
-abbrev pub decreases-loop-at : goal.decreases-loop-at
-decreases-loop-at l = l.at

@@ -5,13 +5,10 @@ use Rattle.mesh_table.proofs.corners_at.Goals as goal
 
 pub returns : goal.returns
 returns c =
-    let third = c.before in
-    let second = third.before in
-    let first = second in
     let e = c.triple.ensures in
-    let v0 = first.vector_at-v0.ensures in
-    let v1 = second.vector_at-v1.ensures in
-    let v2 = third.vector_at-v2.ensures in
+    let v0 = c.vector_at.ensures in
+    let v1 = c.vector_at-2.ensures in
+    let v2 = c.vector_at-3.ensures in
     record {
       value = e ∙ (λ j. triple_of (v0.0 j) (v1.0 j) (v2.0 j));
       small_corners = subst SmallCorners (sym e) (record { v0 = v0.1; v1 = v1.1; v2 = v2.1 });

@@ -8,18 +8,18 @@ use Rattle.mesh.specs.Identifiers.{trixel}
 use Rattle.mesh_table.specs.Table.{table_from, row_of}
 use Rattle.mesh_table.proofs.row.Goals as goal
 
-pub returns-then-d-eq0 : goal.returns-then-d-eq0
+pub returns-in-0 : goal.returns-in-0
 unfolding table_from trixel root_trixel child cut unit scale root root_in
-returns-then-d-eq0 c = ap row_of (sym c.if-d-eq0.true)
+returns-in-0 c = ap row_of (sym c.in-0.is)
 
-pub returns-then-d-eq1 : goal.returns-then-d-eq1
+pub returns-in-1 : goal.returns-in-1
 unfolding table_from trixel root_trixel child cut unit scale root root_in
-returns-then-d-eq1 c = ap row_of (sym c.if-d-eq1.true)
+returns-in-1 c = ap row_of (sym c.in-1.is)
 
-pub returns-then-d-eq2 : goal.returns-then-d-eq2
+pub returns-in-2 : goal.returns-in-2
 unfolding table_from trixel root_trixel child cut unit scale root root_in
-returns-then-d-eq2 c = ap row_of (sym c.if-d-eq2.true)
+returns-in-2 c = ap row_of (sym c.in-2.is)
 
-pub returns : goal.returns
+pub returns-in_default : goal.returns-in_default
 unfolding table_from trixel root_trixel child cut unit scale root root_in
-returns c = let e : 3 ≡ c.args.d = omega (arith, c.if-d-eq2.false, c.if-d-eq1.false, c.if-d-eq0.false, c.requires) in ap row_of e
+returns-in_default c = let e : 3 ≡ c.args.d = omega arith in ap row_of e

@@ -1,7 +1,7 @@
 -- `mesh_table::vector_at` is vector k of a row: three numbers of it, the same in 64 bits as in 32. Assumes nothing.
 use mathlib.Core.Path.{◌≡◌, sym, subst}
 use lib.IntN.{ℤ}
-use Rattle.algebra.proofs.Sized.{fits_wider, same_wider}
+use Rattle.algebra.proofs.Sized.{same_wider}
 use Rattle.vector.specs.Vectors.{vec}
 use Rattle.vector.proofs.Sizes.{Small}
 use Rattle.mesh_table.proofs.Numbers.{small_numbers, fits_x, fits_y, fits_z}
@@ -9,15 +9,6 @@ use Rattle.mesh_table.proofs.vector_at.Goals as goal
 
 three : {a b c x y z : ℤ} → a ≡ x → b ≡ y → c ≡ z → vec a b c ≡ vec x y z
 three p q r = λ j. vec (p j) (q j) (r j)
-
-pub overflow_cast-result : goal.overflow_cast-result
-overflow_cast-result c = let g = c in fits_wider (fits_x g.requires.row g.args.k g.requires.k_bound)
-
-pub overflow_cast-result-2 : goal.overflow_cast-result-2
-overflow_cast-result-2 c = let g = c in fits_wider (fits_y g.requires.row g.args.k g.requires.k_bound)
-
-pub overflow_cast-result-3 : goal.overflow_cast-result-3
-overflow_cast-result-3 c = let g = c in fits_wider (fits_z g.requires.row g.args.k g.requires.k_bound)
 
 pub returns : goal.returns
 returns c =

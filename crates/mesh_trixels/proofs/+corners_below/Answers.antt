@@ -22,9 +22,6 @@ corners_below-requires t c =
     let up = one_up c.args.n c.args.id c.requires.n_bound c.requires.id_bound c.if-n-eq0.false in
     (omega (arith, c.decreases), up)
 
-pub child_corners-requires : goal.child_corners-requires
-child_corners-requires t c = c.corners_below.ensures.1
-
 pub returns : goal.returns
 returns t c =
     let n = c.args.n in

@@ -1,15 +1,6 @@
 -- `mesh_trixels::child3` is the row 3 of the table of children. Assumes nothing.
 use Rattle.mesh_trixels.proofs.child3.Goals as goal
 
-pub negated-requires : goal.negated-requires
-negated-requires c = c.requires.c0
-
-pub negated-requires-2 : goal.negated-requires-2
-negated-requires-2 c = c.requires.c1
-
-pub negated-requires-3 : goal.negated-requires-3
-negated-requires-3 c = c.requires.c2
-
 pub returns : goal.returns
 returns c =
     let s = c in

@@ -10,53 +10,27 @@ use Rattle.mesh_trixels.proofs.child_corners.Goals as goal
 done : {r t c : Corners} → r ≡ t → t ≡ c → SmallCorners t → (r ≡ c) × SmallCorners r
 done e h small = (e ∙ h, subst SmallCorners (sym e) small)
 
-pub midpoint-w0-requires : goal.midpoint-w0-requires
-midpoint-w0-requires c = let p = c.requires in record {
-  small = p.v1;
-  small_2 = p.v2;
-}
+pub returns-in-0 : goal.returns-in-0
+returns-in-0 c =
+    let m2 = c.midpoint.ensures in
+    let m1 = c.midpoint-in-0.ensures in
+    done c.triple.ensures (child_0 c.args.c c.in-0.is m1.0 m2.0) (record { v0 = c.requires.v0; v1 = m2.1; v2 = m1.1 })
 
-pub midpoint-w1-requires : goal.midpoint-w1-requires
-midpoint-w1-requires c = let p = c.requires in record {
-  small = p.v0;
-  small_2 = p.v2;
-}
+pub returns-in-1 : goal.returns-in-1
+returns-in-1 c =
+    let m0 = c.midpoint-in-1.ensures in
+    let m2 = c.midpoint-in-1-2.ensures in
+    done c.triple-in-1.ensures (child_1 c.args.c c.in-1.is m0.0 m2.0) (record { v0 = c.requires.v1; v1 = m0.1; v2 = m2.1 })
 
-pub midpoint-w2-requires : goal.midpoint-w2-requires
-midpoint-w2-requires c = let p = c.requires in record {
-  small = p.v0;
-  small_2 = p.v1;
-}
+pub returns-in-2 : goal.returns-in-2
+returns-in-2 c =
+    let m1 = c.midpoint-in-2.ensures in
+    let m0 = c.midpoint-in-2-2.ensures in
+    done c.triple-in-2.ensures (child_2 c.args.c c.in-2.is m0.0 m1.0) (record { v0 = c.requires.v2; v1 = m1.1; v2 = m0.1 })
 
-pub returns-then-k-eq0 : goal.returns-then-k-eq0
-returns-then-k-eq0 c =
-    let g = c.before in
-    let s = g in
-    let m1 = g.midpoint-w1.ensures in
-    let m2 = g.midpoint-w2.ensures in
-    done c.triple.ensures (child_0 s.args.c g.if-k-eq0.true m1.0 m2.0) (record { v0 = s.requires.v0; v1 = m2.1; v2 = m1.1 })
-
-pub returns-then-k-eq1 : goal.returns-then-k-eq1
-returns-then-k-eq1 c =
-    let g = c.before in
-    let s = g in
-    let m0 = g.midpoint-w0.ensures in
-    let m2 = g.midpoint-w2.ensures in
-    done c.triple-then-k-eq1.ensures (child_1 s.args.c g.if-k-eq1.true m0.0 m2.0) (record { v0 = s.requires.v1; v1 = m0.1; v2 = m2.1 })
-
-pub returns-then-k-eq2 : goal.returns-then-k-eq2
-returns-then-k-eq2 c =
-    let g = c.before in
-    let s = g in
-    let m0 = g.midpoint-w0.ensures in
-    let m1 = g.midpoint-w1.ensures in
-    done c.triple-then-k-eq2.ensures (child_2 s.args.c g.if-k-eq2.true m0.0 m1.0) (record { v0 = s.requires.v2; v1 = m1.1; v2 = m0.1 })
-
-pub returns : goal.returns
-returns c =
-    let g = c.before in
-    let s = g in
-    let m0 = g.midpoint-w0.ensures in
-    let m1 = g.midpoint-w1.ensures in
-    let m2 = g.midpoint-w2.ensures in
-    done c.triple-2.ensures (child_3 s.args.c (omega arith) m0.0 m1.0 m2.0) (record { v0 = m0.1; v1 = m1.1; v2 = m2.1 })
+pub returns-in_default : goal.returns-in_default
+returns-in_default c =
+    let m0 = c.midpoint-in_default.ensures in
+    let m1 = c.midpoint-in_default-2.ensures in
+    let m2 = c.midpoint-in_default-3.ensures in
+    done c.triple-in_default.ensures (child_3 c.args.c (omega arith) m0.0 m1.0 m2.0) (record { v0 = m0.1; v1 = m1.1; v2 = m2.1 })

@@ -18,9 +18,6 @@ returns-then-not-is_depth c =
     let d = c in
     corners_none d.args.id _ d.depth_of-depth.ensures.value (sym c.is_depth.ensures ∙ c.if-not-is_depth.true)
 
-pub overflow_sub-depth : goal.overflow_sub-depth
-overflow_sub-depth c = least c
-
 pub corners_below-requires : goal.corners_below-requires
 corners_below-requires c = let d = c in let both = level_range d.args.id _ d.depth_of-depth.ensures.value (least c) in record {
   n_bound = both.0;

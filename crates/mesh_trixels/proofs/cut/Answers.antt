@@ -9,42 +9,6 @@ use Rattle.mesh_trixels.proofs.cut.Goals as goal
 normal : {a b x y r : Vec3} → r ≡ scale (cross a b) → a ≡ x → b ≡ y → r ≡ scale (cross x y)
 normal e f g = e ∙ (λ i. scale (cross (f i) (g i)))
 
-pub midpoint-w0-requires : goal.midpoint-w0-requires
-midpoint-w0-requires c = let p = c.requires in record {
-  small = p.v1;
-  small_2 = p.v2;
-}
-
-pub midpoint-w1-requires : goal.midpoint-w1-requires
-midpoint-w1-requires c = let p = c.requires in record {
-  small = p.v0;
-  small_2 = p.v2;
-}
-
-pub midpoint-w2-requires : goal.midpoint-w2-requires
-midpoint-w2-requires c = let p = c.requires in record {
-  small = p.v0;
-  small_2 = p.v1;
-}
-
-pub normal-requires : goal.normal-requires
-normal-requires c = record {
-  small = c.midpoint-w2.ensures.1;
-  small_2 = c.midpoint-w1.ensures.1;
-}
-
-pub normal-requires-2 : goal.normal-requires-2
-normal-requires-2 c = record {
-  small = c.midpoint-w0.ensures.1;
-  small_2 = c.midpoint-w2.ensures.1;
-}
-
-pub normal-requires-3 : goal.normal-requires-3
-normal-requires-3 c = record {
-  small = c.midpoint-w1.ensures.1;
-  small_2 = c.midpoint-w0.ensures.1;
-}
-
 pub returns : goal.returns
 unfolding cut
 returns c =

@@ -6,9 +6,6 @@ use Rattle.mesh_trixels.proofs.SmallTrixels.{roots_small}
 use Rattle.mesh_trixels.proofs.CornerLaws.{root_own}
 use Rattle.mesh_trixels.proofs.root.Goals as goal
 
-pub root_corners-c-requires : goal.root_corners-c-requires
-root_corners-c-requires c = c.requires
-
 pub returns : goal.returns
 returns c =
     let r = c.root_corners-c.ensures.0 in

@@ -3,14 +3,11 @@ use mathlib.Core.Path.{sym, subst, ◌∙◌}
 use lib.Dec.{T}
 use lib.Ieee.{binary64}
 use Rattle.mount.proofs.ValueLaws.{float_by_value}
-use Rattle.mount.proofs.NanLaws.{no_nan, differs_refused}
+use Rattle.mount.proofs.NanLaws.{a_nan_refused}
 use Rattle.mount.proofs.of_double.Goals as goal
 
-pub returns-then-d : goal.returns-then-d
-returns-then-d c = differs_refused binary64 c.args.d c.if-d.true ∙ float_by_value binary64 c.args.d (subst T (sym c.well_formed.0.1) tt)
-
-pub float_to_bits-d : goal.float_to_bits-d
-float_to_bits-d c = no_nan c.args.d c.if-d.false
+pub returns-then-is_nan : goal.returns-then-is_nan
+returns-then-is_nan c = a_nan_refused binary64 c.args.d (sym c.is_nan.ensures.value ∙ c.if-is_nan.true) ∙ float_by_value binary64 c.args.d (subst T (sym c.well_formed.0.1) tt)
 
 pub returns : goal.returns
 returns c = c.component.ensures ∙ float_by_value binary64 c.args.d (subst T (sym c.well_formed.0.1) tt)

@@ -13,9 +13,9 @@ at_smallest-next-requires c = record {
 }
 
 -- the new range is the shortest
-pub returns-then-size_less_one-floor : goal.returns-then-size_less_one-floor
-returns-then-size_less_one-floor c =
-    let both = full_stays c.args.n c.args.list.now c.args.low c.args.high c.difference-size_less_one.result (omega arith) c.difference-size_less_one.ensures
+pub returns-then-size_less_one-next : goal.returns-then-size_less_one-next
+returns-then-size_less_one-next c =
+    let both = full_stays c.args.n c.args.list.now c.args.r.low c.args.r.high c.difference-size_less_one.result (omega arith) c.difference-size_less_one.ensures
     c.at_smallest-next.result c.at_smallest-next.ensures (omega arith) in record {
       list_after = both.0;
       hinted_2 = both.1;
@@ -39,7 +39,7 @@ shape_of-list c = simp length-set (omega arith)
 -- another one is
 pub returns : goal.returns
 returns c =
-    let both = full_shifts c.args.n c.args.list.now c.args.low c.args.high c.difference-size_less_one.result (omega arith) c.difference-size_less_one.ensures
+    let both = full_shifts c.args.n c.args.list.now c.args.r.low c.args.r.high c.difference-size_less_one.result (omega arith) c.difference-size_less_one.ensures
     c.at_smallest-next.result c.at_smallest-next.ensures (omega arith) _ (2 * c.args.n - 2) (omega arith) c.shift_down.ensures in record {
       list_after = both.0;
       hinted_2 = both.1;

@@ -5,11 +5,11 @@ use Rattle.ranges_stored.proofs.HintLaws.{hinted_any}
 use Rattle.ranges_lists.proofs.InnerStored.{pending_first, pending_grows, pending_closes}
 use Rattle.ranges_lists.proofs.inner_push.Goals as goal
 
-pub returns-then-not-some : goal.returns-then-not-some
-returns-then-not-some c =
+pub returns-in_default : goal.returns-in_default
+returns-in_default c =
     let a = c.args in
     record {
-      stores = pending_first a.budget a.p a.list.now a.low a.high _ c.if-not-some.true;
+      stores = pending_first a.budget a.p a.list.now a.r _ c.in_default.is;
       n_le_budget = omega arith;
       hinted_2 = hinted_any c.no_hint.ensures _;
     }
@@ -18,23 +18,17 @@ pub returns-then-touches : goal.returns-then-touches
 returns-then-touches c =
     let a = c.args in
     record {
-      stores = pending_grows a.budget a.p a.list.now a.low a.high _ c.if-not-some.false (omega arith) (sym c.touches.ensures ∙ c.if-touches.true);
+      stores = pending_grows a.budget a.p a.list.now a.r _ c.in-Some.last c.in-Some.is (omega arith) (sym c.touches.ensures ∙ c.if-touches.true);
       n_le_budget = omega arith;
       hinted_2 = c.requires.hinted;
     }
 
-pub inner_close-m-requires : goal.inner_close-m-requires
-inner_close-m-requires c = record {
-  le_budget = c.requires.le_budget;
-  hinted = c.requires.hinted;
-}
-
 pub returns : goal.returns
 returns c =
     let a = c.args in
-    let m = c.inner_close-m.ensures in
+    let m = c.inner_close-closed.ensures in
     record {
-      stores = pending_closes a.budget a.p a.list.now a.low a.high _ c.if-not-some.false _ _ (sym c.touches.ensures ∙ c.if-touches.false) m.writes;
+      stores = pending_closes a.budget a.p a.list.now a.r _ c.in-Some.last c.in-Some.is _ _ (sym c.touches.ensures ∙ c.if-touches.false) m.writes;
       n_le_budget = m.n_le_budget;
       hinted_2 = m.hinted_2;
     }

@@ -13,4 +13,4 @@ shape_of-list c = simp length-set (omega arith)
 
 pub returns : goal.returns
 returns c =
-    joins c.args.n c.args.i (2 * c.args.n - 1) c.args.list.now c.args.low c.args.high (omega arith) (omega arith) (omega arith) _ c.shift_down.ensures
+    joins c.args.n c.args.i (2 * c.args.n - 1) c.args.list.now c.args.r.low c.args.r.high (omega arith) (omega arith) (omega arith) _ c.shift_down.ensures

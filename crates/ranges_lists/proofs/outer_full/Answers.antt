@@ -17,7 +17,7 @@ pub returns-then-n-eq1 : goal.returns-then-n-eq1
 returns-then-n-eq1 c =
     let n = c.args.n in
     let l = c.args.list.now in
-    let both = full_extends n l c.args.low c.args.high (c.args.low - get_or l 1 0 - 1) 1 (omega arith) (omega arith) refl c.args.hint c.requires.hinted
+    let both = full_extends n l c.args.r.low c.args.r.high (c.args.r.low - get_or l 1 0 - 1) 1 (omega arith) (omega arith) refl c.args.hint c.requires.hinted
     (λ i k. absurd (omega (arith, ap length (gaps_stored n l (omega arith) (omega arith)), length_differences 1 1 (n - 1) l))) in record {
       list_after = both.0;
       hinted_2 = both.1;
@@ -29,14 +29,14 @@ at_smallest-next-requires c = record {
   hinted = subst (Hinted c.args.hint) (gaps_stored c.args.n c.args.list.now (omega arith) (omega arith)) c.requires.hinted;
 }
 
-pub shape_of-list-then-gap-floor : goal.shape_of-list-then-gap-floor
-shape_of-list-then-gap-floor c = simp length-set (omega arith)
+pub shape_of-list-then-gap-next : goal.shape_of-list-then-gap-next
+shape_of-list-then-gap-next c = simp length-set (omega arith)
 
 -- the new gap is the smallest
-pub returns-then-gap-floor : goal.returns-then-gap-floor
-returns-then-gap-floor c =
+pub returns-then-gap-next : goal.returns-then-gap-next
+returns-then-gap-next c =
     let p = subst (PointsAt c.at_smallest-next.result) (sym (gaps_stored c.args.n c.args.list.now (omega arith) (omega arith))) c.at_smallest-next.ensures in
-    let both = full_extends c.args.n c.args.list.now c.args.low c.args.high c.difference-gap.result (2 * c.args.n - 1) (omega arith) (omega arith)
+    let both = full_extends c.args.n c.args.list.now c.args.r.low c.args.r.high c.difference-gap.result (2 * c.args.n - 1) (omega arith) (omega arith)
     c.difference-gap.ensures c.at_smallest-next.result p.hinted (λ i k. omega (arith, p.hinted.at_least i k)) in record {
       list_after = both.0;
       hinted_2 = both.1;
@@ -50,7 +50,7 @@ join_at-requires c =
 pub returns : goal.returns
 returns c =
     let p = subst (PointsAt c.at_smallest-next.result) (sym (gaps_stored c.args.n c.args.list.now (omega arith) (omega arith))) c.at_smallest-next.ensures in
-    let both = full_joins c.args.n c.args.list.now c.args.low c.args.high c.difference-gap.result (2 * c.args.n - 1) (omega arith) (omega arith)
+    let both = full_joins c.args.n c.args.list.now c.args.r.low c.args.r.high c.difference-gap.result (2 * c.args.n - 1) (omega arith) (omega arith)
     c.difference-gap.ensures c.at_smallest-next.result p (omega arith) _ c.join_at.ensures in record {
       list_after = both.0;
       hinted_2 = both.1;

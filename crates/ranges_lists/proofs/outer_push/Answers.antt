@@ -8,17 +8,11 @@ use Rattle.ranges_stored.proofs.HintLaws.{hinted_any, hinted_stored}
 use Rattle.ranges_lists.proofs.OuterStored.{push_first, push_extends, push_keeps, push_appends, push_full, push_hint}
 use Rattle.ranges_lists.proofs.outer_push.Goals as goal
 
-pub bounds-list-1 : goal.bounds-list-1
-bounds-list-1 c = simp length-set (omega arith)
-
-pub shape_of-list-then-n-eq0 : goal.shape_of-list-then-n-eq0
-shape_of-list-then-n-eq0 c = simp length-set (omega arith)
-
 pub returns-then-n-eq0 : goal.returns-then-n-eq0
 returns-then-n-eq0 c = record {
-  writes = push_first _ _ _ _ _ (omega arith) (omega arith);
-  n_le_n = (omega arith, omega arith);
-  hinted_2 = hinted_any c.no_hint.ensures _;
+  writes = push_first _ _ _ _ (omega arith) c.append.ensures.writes;
+  n_le_n = (omega (arith, c.append.ensures.one_more), omega (arith, c.append.ensures.one_more));
+  hinted_2 = hinted_any c.append.ensures.hint _;
 }
 
 pub shape_of-list-then-touches : goal.shape_of-list-then-touches
@@ -28,32 +22,26 @@ pub returns-then-touches : goal.returns-then-touches
 returns-then-touches c =
     let a = c.args in
     let t = sym c.touches.ensures ∙ c.if-touches.true in
-    let w = push_extends a.budget a.n a.list.now a.low a.high (2 * a.n - 1) (omega arith) (omega arith) (omega arith) t in
-    let h = push_keeps a.budget a.n a.list.now a.low a.high (2 * a.n - 1) (omega arith) (omega arith) (omega arith) a.hint t c.requires.hinted in
+    let w = push_extends a.budget a.n a.list.now a.r.low a.r.high (2 * a.n - 1) (omega arith) (omega arith) (omega arith) t in
+    let h = push_keeps a.budget a.n a.list.now a.r.low a.r.high (2 * a.n - 1) (omega arith) (omega arith) (omega arith) a.hint t c.requires.hinted in
     record {
       writes = w;
       n_le_n = (omega arith, omega arith);
       hinted_2 = hinted_stored a.hint gaps _ _ _ _ w h;
     }
 
-pub bounds-list-last-then-n-budget-2 : goal.bounds-list-last-then-n-budget-2
-bounds-list-last-then-n-budget-2 c = simp length-set (omega arith)
-
-pub shape_of-list-then-n-budget : goal.shape_of-list-then-n-budget
-shape_of-list-then-n-budget c = simp length-set (omega arith)
-
 pub returns-then-n-budget : goal.returns-then-n-budget
 returns-then-n-budget c =
     let a = c.args in
     record {
-      writes = push_appends a.budget a.n a.list.now a.low a.high (2 * a.n - 1) (omega arith) (omega arith) (omega arith)
-          (sym c.touches.ensures ∙ c.if-touches.false) (omega arith) (omega arith);
-      n_le_n = (omega arith, omega arith);
-      hinted_2 = hinted_any c.no_hint-then-n-budget.ensures _;
+      writes = push_appends a.budget a.n a.list.now a.r.low a.r.high (2 * a.n - 1) (omega arith) (omega arith) (omega arith)
+          (sym c.touches.ensures ∙ c.if-touches.false) (omega arith) c.append-then-n-budget.ensures.writes;
+      n_le_n = (omega (arith, c.append-then-n-budget.ensures.one_more), omega (arith, c.append-then-n-budget.ensures.one_more));
+      hinted_2 = hinted_any c.append-then-n-budget.ensures.hint _;
     }
 
-pub outer_full-next-requires : goal.outer_full-next-requires
-outer_full-next-requires c = record {
+pub outer_full-requires : goal.outer_full-requires
+outer_full-requires c = record {
   le_n = (omega arith, omega arith);
   hinted = c.requires.hinted;
 }
@@ -61,10 +49,10 @@ outer_full-next-requires c = record {
 pub returns : goal.returns
 returns c =
     let a = c.args in
-    let next = c.outer_full-next in
+    let next = c.outer_full in
     let t = sym c.touches.ensures ∙ c.if-touches.false in
-    let w = push_full a.budget a.n a.list.now a.low a.high (2 * a.n - 1) (omega arith) (omega arith) (omega arith) t _ (omega arith) next.ensures.list_after in
-    let h = push_hint a.budget a.n a.list.now a.low a.high (2 * a.n - 1) (omega arith) (omega arith) (omega arith) t next.result (omega arith) next.ensures.hinted_2 in
+    let w = push_full a.budget a.n a.list.now a.r.low a.r.high (2 * a.n - 1) (omega arith) (omega arith) (omega arith) t _ (omega arith) next.ensures.list_after in
+    let h = push_hint a.budget a.n a.list.now a.r.low a.r.high (2 * a.n - 1) (omega arith) (omega arith) (omega arith) t next.result (omega arith) next.ensures.hinted_2 in
     record {
       writes = w;
       n_le_n = (omega arith, omega arith);

@@ -3,18 +3,6 @@ use native.Mathlib.Omega.{arith}
 use Rattle.ranges_stored.proofs.HintLaws.{first_points}
 use Rattle.ranges_stored.proofs.at_smallest.Goals as goal
 
-pub first_at-next-requires : goal.first_at-next-requires
-first_at-next-requires c = record {
-  count_in_bounds = c.requires.le_count.1;
-  hinted = c.requires.hinted;
-}
-
-pub search_all-requires : goal.search_all-requires
-search_all-requires c = c.requires.le_count
-
-pub returns-then-next-count : goal.returns-then-next-count
-returns-then-next-count c = c.search_all.ensures
-
 pub returns : goal.returns
 returns c =
     first_points c.args.start c.args.less c.args.count c.args.list.now c.requires.le_count.1 c.args.hint.floor c.first_at-next.result c.first_at-next.ensures.first_at (omega arith)

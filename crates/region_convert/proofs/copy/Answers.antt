@@ -3,7 +3,7 @@ use mathlib.Core.Path.{◌≡◌, refl, ap, ◌∙◌}
 use lib.ListN.{length, get_or, set, length-set}
 use lib.Seq.{paste, take-length}
 use Rattle.answer.specs.Lent.{put}
-use Rattle.answer.proofs.PutLaws.{copied_none, copied_more, copied_all}
+use Rattle.region_convert.proofs.CopyLaws.{copied_none, copied_more, copied_all}
 use Rattle.region_convert.proofs.copy.Goals as goal
 
 pub loop-i-init : goal.loop-i-init

@@ -1,6 +1,6 @@
 -- `region_payloads::convex_in` checks 4, and then counts the convex. Assumes nothing.
 use mathlib.Core.Path.{sym, ◌∙◌}
-use Rattle.region_payloads.proofs.OutcomeLaws.{convex_order, convex_more}
+use Rattle.region_payloads.proofs.StepLaws.{convex_order, convex_more}
 use Rattle.region_payloads.proofs.convex_in.Goals as goal
 
 pub returns-then-not-may_begin : goal.returns-then-not-may_begin

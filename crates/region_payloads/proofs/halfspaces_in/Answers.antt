@@ -1,43 +1,57 @@
+use Prim.Native.Nat.{◌*◌, ◌/◌}
 use native.Mathlib.Omega.{arith}
-use mathlib.Core.Path.{ap, ◌∙◌}
-use lib.ListN.{length-take, length-drop}
-use Rattle.region_rows.specs.RegionSizes.{region_size_given}
+use mathlib.Core.Path.{◌≡◌, ap, ◌∙◌}
+use mathlib.Core.List.{[]}
+use lib.ListN.{length, get_or, take, drop}
+use Rattle.std.proofs.lemmas.Result.{err_from_is_err_and}
+use Rattle.answer.specs.Calls.{answer_of}
+use Rattle.region.specs.Reader.{halfspace_of}
+use Rattle.region_rows.proofs.RowParts.{part_at}
 use Rattle.region_payloads.proofs.GroupLaws.{passing_none, passing_more, passing_refused, passing_end}
 use Rattle.region_payloads.proofs.halfspaces_in.Goals as goal
+use Rattle.region_payloads.proofs.halfspaces_in.Goals.{After-halfspace_of}
 
-pub loop-i-init : goal.loop-i-init
-loop-i-init c = let a = c.args in (c.requires.0, c.requires.1, passing_none a.payload.now a.n a.rows.now a.k)
+-- the part is the next 16 bytes
+next : (c : After-halfspace_of) → c.halfspace_of.result ≡ halfspace_of (take 16 (drop (16 * c.loop-part.part-index) c.args.payload.now))
+next c =
+    let p = c.args.payload.now in
+    c.halfspace_of.ensures
+    ∙ ap halfspace_of
+    (ap (λ f. get_or f c.loop-part.part-index []) c.as_chunks.ensures.front
+    ∙ part_at 16 (length p / 16) c.loop-part.part-index p [] (omega (arith, c.as_chunks.ensures.front_len, c.loop-part-test.true)))
 
-pub halfspace_of-h-requires : goal.halfspace_of-h-requires
-halfspace_of-h-requires c = simp (length-take, length-drop) (omega arith)
+pub loop-part-init : goal.loop-part-init
+loop-part-init c = let a = c.args in (c.requires, passing_none a.payload.now (length a.payload.now / 16) a.rows.now a.k)
 
-pub halfspace_in-c-requires : goal.halfspace_in-c-requires
-halfspace_in-c-requires c = let l = c.loop-i in l.invariant.2.same_length ∙ l.invariant.1
+pub halfspace_in-requires : goal.halfspace_in-requires
+halfspace_in-requires c = let l = c.loop-part in l.invariant.1.same_length ∙ l.invariant.0
 
-pub loop-i-preserved : goal.loop-i-preserved
-loop-i-preserved c =
+pub loop-part-preserved : goal.loop-part-preserved
+loop-part-preserved c =
     let a = c.args in (
-      c.loop-i.invariant.0,
-      c.loop-i.invariant.1,
-      passing_more a.payload.now a.n a.rows.now a.k c.loop-i.rows c.loop-i.with c.loop-i.i c.loop-i.invariant.2
-          c.halfspace_of-h.result c.halfspace_of-h.ensures c.loop-i-test.true _ _ c.halfspace_in-c.ensures
-          c.in-Gives.more (ap region_size_given c.in-Gives.is) c.halfspace_in-c.auto.rows,
+      c.loop-part.invariant.0,
+      passing_more a.payload.now _ a.rows.now a.k c.loop-part.rows c.loop-part.size c.loop-part.part-index c.loop-part.invariant.1
+          c.halfspace_of.result (next (goal.at.loop-part-preserved c).After-halfspace_of) (omega (arith, c.as_chunks.ensures.front_len, c.loop-part-test.true)) _ _
+          c.halfspace_in.ensures _ (ap answer_of c.in_ok-size.was) c.halfspace_in.auto.rows,
     )
 
-pub shape_of-rows-in-Refused : goal.shape_of-rows-in-Refused
-shape_of-rows-in-Refused c = c.halfspace_in-c.auto.rows ∙ c.loop-i.invariant.2.same_length
+pub shape_of-rows-in_err-size : goal.shape_of-rows-in_err-size
+shape_of-rows-in_err-size c = c.halfspace_in.auto.rows ∙ c.loop-part.invariant.1.same_length
 
-pub returns-in-Refused : goal.returns-in-Refused
-returns-in-Refused c =
+pub returns-in_err-size : goal.returns-in_err-size
+returns-in_err-size c =
     let a = c.args in
-    passing_refused a.payload.now a.n a.rows.now a.k c.loop-i.rows c.loop-i.with c.loop-i.i c.loop-i.invariant.2
-    c.halfspace_of-h.result c.halfspace_of-h.ensures c.loop-i-test.true _ _ c.halfspace_in-c.ensures
-    c.in-Refused.m (ap region_size_given c.in-Refused.is)
+    let p = err_from_is_err_and c.from_residual.result c.from_residual.ensures.1 in
+    rw (p.1, p.2)
+    (passing_refused a.payload.now _ a.rows.now a.k c.loop-part.rows c.loop-part.size c.loop-part.part-index c.loop-part.invariant.1
+    c.halfspace_of.result (next (goal.at.returns-in_err-size c).After-halfspace_of) (omega (arith, c.as_chunks.ensures.front_len, c.loop-part-test.true)) _ _
+    c.halfspace_in.ensures _ (ap answer_of c.in_err-size.was))
 
 pub shape_of-rows : goal.shape_of-rows
-shape_of-rows c = c.loop-i.invariant.2.same_length
+shape_of-rows c = c.loop-part.invariant.1.same_length
 
 pub returns : goal.returns
 returns c =
     let a = c.args in
-    passing_end a.payload.now a.n a.rows.now a.k c.loop-i.rows c.loop-i.with c.loop-i.i c.loop-i.invariant.2 c.loop-i-test.false
+    passing_end a.payload.now _ a.rows.now a.k c.loop-part.rows c.loop-part.size c.loop-part.part-index c.loop-part.invariant.1
+    (omega (arith, c.as_chunks.ensures.front_len, c.loop-part-test.false))

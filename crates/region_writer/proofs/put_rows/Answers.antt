@@ -1,37 +1,52 @@
+use Prim.Native.Nat.{◌+◌, ◌*◌, ◌/◌, ◌<◌}
 use native.Mathlib.Omega.{arith}
-use mathlib.Core.Path.{◌≡◌}
-use lib.ListN.{get_or}
+use mathlib.Core.Path.{◌≡◌, ap, subst, ◌∙◌}
+use mathlib.Core.List.{[]}
+use lib.ListN.{length, get_or, drop}
 use lib.IntN.{pos}
-use mir.Syntax.{w32}
+use mir.Syntax.{w64}
 use mir.Val.{to_z, of_z}
-use mir.Facts.{to_z-of_z}
-use Rattle.region_writer.proofs.WritingPass.{start, as_long, done, whole_row, row_fits, more}
+use Rattle.algebra.proofs.Sized.{held}
+use Rattle.region.specs.Rows.{halfspace_at}
+use Rattle.region_rows.proofs.RowParts.{row_number, row_halfspace}
+use Rattle.region_writer.proofs.WritingPass.{Writing, start, as_long, done, row_fits, more}
 use Rattle.region_writer.proofs.put_rows.Goals as goal
 use Rattle.region_writer.proofs.put_rows.Goals.{After-halfspace_at}
 
--- the row's number, as it is handed on
-number : (c : After-halfspace_at) → let z = get_or c.args.rows.now c.loop-i.i (pos 0) in to_z w32 (of_z w32 z) ≡ z
-number c = to_z-of_z {w = w32} {z = get_or c.args.rows.now c.loop-i.i (pos 0)} (record { sfits = omega arith })
+below : (c : After-halfspace_at) → c.loop-row.row-index < length c.args.rows.now / 5
+below c = omega (arith, c.as_chunks.ensures.front_len, c.loop-row-test.true)
 
-pub loop-i-init : goal.loop-i-init
-loop-i-init c = start _ _ _ c.requires
+-- the row's number, as it is handed on, and its halfspace
+number : (c : After-halfspace_at) → to_z w64 (of_z w64 c.number_at-number.result) ≡ get_or c.args.rows.now (5 * c.loop-row.row-index) (pos 0)
+number c =
+    let rs = c.args.rows.now in
+    let i = c.loop-row.row-index in
+    (held c.number_at-number.ensures.1 tt).eq ∙ c.number_at-number.ensures.0
+    ∙ ap (λ f. get_or (get_or f i []) 0 (pos 0)) c.as_chunks.ensures.front ∙ row_number rs (length rs / 5) i [] (below c)
 
-pub halfspace_at-requires : goal.halfspace_at-requires
-halfspace_at-requires c = whole_row c.loop-i.invariant c.loop-i-test.true
+halfspace : (c : After-halfspace_at) → c.halfspace_at.result ≡ halfspace_at (drop (5 * c.loop-row.row-index) c.args.rows.now)
+halfspace c =
+    let rs = c.args.rows.now in
+    let i = c.loop-row.row-index in
+    c.halfspace_at.ensures.value ∙ ap (λ f. halfspace_at (get_or f i [])) c.as_chunks.ensures.front ∙ row_halfspace rs (length rs / 5) i [] (below c)
+
+pub loop-row-init : goal.loop-row-init
+loop-row-init c = start _ _ _ c.requires
 
 pub put_row-p-requires : goal.put_row-p-requires
 put_row-p-requires c =
-    rw (c.halfspace_at.ensures.value, number (goal.at.put_row-p-requires c).After-halfspace_at) (row_fits c.loop-i.invariant c.loop-i-test.true)
+    let v = (goal.at.put_row-p-requires c).After-halfspace_at in
+    rw (halfspace v, number v) (row_fits c.loop-row.invariant (omega (arith, below v)))
 
-pub overflow_add-i : goal.overflow_add-i
-overflow_add-i c = omega (arith, whole_row c.loop-i.invariant c.loop-i-test.true)
-
-pub loop-i-preserved : goal.loop-i-preserved
-loop-i-preserved c =
-    more c.loop-i.invariant c.loop-i-test.true (rw (c.halfspace_at.ensures.value, number (goal.at.loop-i-preserved c).After-halfspace_at) at c.put_row-p.ensures)
+pub loop-row-preserved : goal.loop-row-preserved
+loop-row-preserved c =
+    let v = (goal.at.loop-row-preserved c).After-halfspace_at in
+    let next : 5 * c.loop-row.row-index + 5 ≡ 5 * (c.loop-row.row-index + 1) = omega arith in
+    subst (Writing c.args.style c.args.rows.now c.args.out.now _ _) next
+    (more c.loop-row.invariant (omega (arith, below v)) (rw (halfspace v, number v) at c.put_row-p.ensures))
 
 pub shape_of-out : goal.shape_of-out
-shape_of-out c = as_long c.loop-i.invariant
+shape_of-out c = as_long c.loop-row.invariant
 
 pub returns : goal.returns
-returns c = done c.loop-i.invariant c.loop-i-test.false
+returns c = done c.loop-row.invariant (omega (arith, c.as_chunks.ensures.front_len, (c.loop-row.invariant).place))

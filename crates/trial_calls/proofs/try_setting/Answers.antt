@@ -11,17 +11,17 @@ use Rattle.trial_calls.proofs.try_setting.Goals as goal
 pub search-made-requires : goal.search-made-requires
 search-made-requires c = record {
   le_depth = c.requires.le_depth;
-  le_budget = (subst (λ n. 1 ≤ n) (sym c.budget_of.ensures.0) (budget_one c.args.s.budget), omega (arith, c.budget_of.ensures.0));
-  in_bounds = (c.requires.budget_in_bounds.1, search rules);
+  le_budget = (subst (λ n. 1 ≤ n) (sym c.budget_of-budget.ensures.0) (budget_one c.args.s.budget), omega (arith, c.budget_of-budget.ensures.0));
+  in_bounds = search rules;
 }
 
 pub score_of-requires : goal.score_of-requires
 score_of-requires c =
     let k = c.requires.le_depth in
-    (k.0, k.1, spanned_few c.args.s c.budget_of.ensures.0 c.search-made.ensures k.2.0 k.2.1 k.1)
+    (k.0, k.1, spanned_few c.args.s c.budget_of-budget.ensures.0 c.search-made.ensures k.2.0 k.2.1 k.1)
 
 pub returns : goal.returns
 returns c g k =
     let a = c.args in
-    subst (λ r. Tries a.owner a.index.now a.s g a.ranges.now r c.search-made.new.ranges) (sym c.score_of.ensures)
-    (scored a.s c.budget_of.ensures.0 c.search-made.ensures g k)
+    subst (λ r. Tries a.entries.owner a.entries.index.now a.s g a.ranges.now r c.search-made.new.ranges) (sym c.score_of.ensures)
+    (scored a.s c.budget_of-budget.ensures.0 c.search-made.ensures g k)

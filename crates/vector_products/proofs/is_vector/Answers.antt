@@ -6,10 +6,6 @@ use Rattle.vector.specs.Vectors.{is_vector}
 use Rattle.vector.proofs.SizeLaws.{at_most_mono, small_tested}
 use Rattle.vector_products.proofs.is_vector.Goals as goal
 
-pub is_small-requires : goal.is_small-requires
-unfolding is_vector
-is_small-requires c = tt
-
 pub has_unit_length-requires : goal.has_unit_length-requires
 unfolding is_vector
 has_unit_length-requires c = at_most_mono (lit≤ tt) (small_tested c.args.p (sym c.is_small.ensures ∙ c.if-is_small.true))

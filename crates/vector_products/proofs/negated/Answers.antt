@@ -1,20 +1,11 @@
 -- `vector_products::negated` is the rule's negation: a component within ±K has its negative within ±K. Assumes nothing.
 use mathlib.Core.Path.{◌≡◌, sym, subst, ◌∙◌}
 use lib.IntN.{+ℤ_idl}
-use Rattle.algebra.proofs.Sized.{held, lit, is_sub, fits_sub}
+use Rattle.algebra.proofs.Sized.{held, lit, is_sub}
 use Rattle.vector.specs.Vectors.{minus}
 use Rattle.vector.proofs.Sizes.{Small}
 use Rattle.vector.proofs.SizeLaws.{at_most_minus}
 use Rattle.vector_products.proofs.negated.Goals as goal
-
-pub overflow_sub-result : goal.overflow_sub-result
-overflow_sub-result c = let p = c.requires in fits_sub (lit 0 tt) (held p.x tt) tt
-
-pub overflow_sub-result-2 : goal.overflow_sub-result-2
-overflow_sub-result-2 c = let p = c.requires in fits_sub (lit 0 tt) (held p.y tt) tt
-
-pub overflow_sub-result-3 : goal.overflow_sub-result-3
-overflow_sub-result-3 c = let p = c.requires in fits_sub (lit 0 tt) (held p.z tt) tt
 
 pub returns : goal.returns
 returns c =

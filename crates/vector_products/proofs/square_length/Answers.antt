@@ -2,21 +2,12 @@
 use Prim.Native.Nat.{◌≤◌, ◌*◌, ◌^◌}
 use mathlib.Core.Path.{sym, ap, subst}
 use lib.IntN.{nat_abs}
-use Rattle.algebra.proofs.Sized.{held, is_mul, is_add, fits_mul, fits_add, fits_cast}
+use Rattle.algebra.proofs.Sized.{held, is_mul, is_add, fits_add, fits_cast}
 use Rattle.vector.proofs.SizeLaws.{dot_upto, dot_self_nonnegative}
 use Rattle.vector_products.proofs.square_length.Goals as goal
 
-pub overflow_mul-result : goal.overflow_mul-result
-overflow_mul-result c = let p = c.requires in fits_mul (held p.x tt) (held p.x tt) tt
-
-pub overflow_mul-result-2 : goal.overflow_mul-result-2
-overflow_mul-result-2 c = let p = c.requires in fits_mul (held p.y tt) (held p.y tt) tt
-
 pub overflow_add-result : goal.overflow_add-result
 overflow_add-result c = let p = c.requires in fits_add (is_mul (held p.x tt) (held p.x tt) tt) (is_mul (held p.y tt) (held p.y tt) tt) tt
-
-pub overflow_mul-result-3 : goal.overflow_mul-result-3
-overflow_mul-result-3 c = let p = c.requires in fits_mul (held p.z tt) (held p.z tt) tt
 
 pub overflow_add-result-2 : goal.overflow_add-result-2
 overflow_add-result-2 c = let p = c.requires in fits_add (is_add (is_mul (held p.x tt) (held p.x tt) tt) (is_mul (held p.y tt) (held p.y tt) tt) tt) (is_mul (held p.z tt) (held p.z tt) tt) tt

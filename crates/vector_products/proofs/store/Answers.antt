@@ -1,21 +1,11 @@
 -- `vector_products::store` stores the three numbers one after the other. Assumes nothing.
 use Prim.Native.Nat.{◌+◌}
-use native.Mathlib.Omega.{arith}
 use mathlib.Core.Path.{◌∙◌}
-use lib.ListN.{set, length-set}
+use lib.ListN.{set}
 use Rattle.algebra.proofs.Sized.{stored_same}
 use Rattle.answer.proofs.PutLaws.{stored_put}
 use Rattle.vector.specs.Vectors.{three}
 use Rattle.vector_products.proofs.store.Goals as goal
-
-pub bounds-xs-k-2 : goal.bounds-xs-k-2
-bounds-xs-k-2 c = simp length-set (omega arith)
-
-pub bounds-xs-k-3 : goal.bounds-xs-k-3
-bounds-xs-k-3 c = simp length-set (omega arith)
-
-pub shape_of-xs : goal.shape_of-xs
-shape_of-xs c = simp length-set
 
 pub returns : goal.returns
 returns c =

@@ -1,20 +1,11 @@
 -- `vector_products::sum` is the rule's sum: each component is at most 2²¹ + 2²¹ in size, so that none leaves the 64 bits. Assumes nothing.
 use Prim.Native.Nat.{◌^◌}
 use mathlib.Core.Path.{◌≡◌, sym, subst}
-use Rattle.algebra.proofs.Sized.{held, is_add, fits_add}
+use Rattle.algebra.proofs.Sized.{held, is_add}
 use Rattle.vector.specs.Vectors.{plus}
 use Rattle.vector.proofs.Sizes.{AtMost}
 use Rattle.vector.proofs.SizeLaws.{at_most_plus}
 use Rattle.vector_products.proofs.sum.Goals as goal
-
-pub overflow_add-result : goal.overflow_add-result
-overflow_add-result c = let p = c.requires in fits_add (held p.at_most.x tt) (held p.at_most_2.x tt) tt
-
-pub overflow_add-result-2 : goal.overflow_add-result-2
-overflow_add-result-2 c = let p = c.requires in fits_add (held p.at_most.y tt) (held p.at_most_2.y tt) tt
-
-pub overflow_add-result-3 : goal.overflow_add-result-3
-overflow_add-result-3 c = let p = c.requires in fits_add (held p.at_most.z tt) (held p.at_most_2.z tt) tt
 
 pub returns : goal.returns
 returns c =

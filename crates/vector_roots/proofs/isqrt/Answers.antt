@@ -4,7 +4,7 @@ use Prim.Native.Nat.{ℕ, ◌/◌, ◌^◌, ◌≤◌, ◌<◌}
 use mathlib.Core.Path.{sym, ◌∙◌}
 use native.Mathlib.Nat.{div-le_of_le-mul}
 use native.Mathlib.Omega.{arith}
-use Rattle.vector.proofs.RootLaws.{root_tested, root_below}
+use Rattle.vector.proofs.RootLaws.{root_tested, root_below, root_unique}
 use Rattle.vector_roots.proofs.isqrt.Goals as goal
 use Rattle.vector_roots.proofs.isqrt.Goals.{After-newton-m}
 
@@ -26,9 +26,6 @@ returns-then-is_root c = record {
   upper_bound = omega arith;
 }
 
-pub newton-m-requires : goal.newton-m-requires
-newton-m-requires c = (c.requires, omega arith, omega arith)
-
 pub is_root-requires-2 : goal.is_root-requires-2
 is_root-requires-2 c = (first c).1
 
@@ -39,9 +36,6 @@ returns-then-is_root-2 c =
       value = e;
       upper_bound = root_below e c.requires;
     }
-
-pub newton-k-requires : goal.newton-k-requires
-newton-k-requires c = let b = first (goal.at.newton-k-requires c).After-newton-m in (c.requires, omega (arith, b), omega (arith, b))
 
 pub is_root-requires-3 : goal.is_root-requires-3
 is_root-requires-3 c =
@@ -56,5 +50,11 @@ returns-then-is_root-3 c =
       upper_bound = root_below e c.requires;
     }
 
-pub bisected-requires : goal.bisected-requires
-bisected-requires c = c.requires
+pub returns : goal.returns
+returns c =
+    let r = c.isqrt.ensures in
+    let e = root_unique (record { low = r.square_le; high = r.next_square_gt }) in
+    record {
+      value = e;
+      upper_bound = root_below e c.requires;
+    }

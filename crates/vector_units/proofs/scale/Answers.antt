@@ -1,21 +1,9 @@
 -- `vector_units::scale` is Scale: K times the components, divided by the largest of them. Assumes nothing.
 use mathlib.Core.Path.{sym, ap, subst, ◌∙◌}
-use native.Mathlib.Omega.{arith}
 use Rattle.vector.specs.Vectors.{divided_by, scale}
 use Rattle.vector.proofs.Sizes.{Small}
-use Rattle.vector.proofs.SizeLaws.{largest_bound, scale_small}
+use Rattle.vector.proofs.SizeLaws.{scale_small}
 use Rattle.vector_units.proofs.scale.Goals as goal
-
-pub largest-requires : goal.largest-requires
-unfolding scale
-largest-requires c = c.requires
-
-pub divided-requires : goal.divided-requires
-unfolding scale
-divided-requires c = record {
-  at_most = c.requires;
-  n_bound = omega (arith, c.largest.ensures, largest_bound c.requires);
-}
 
 pub returns : goal.returns
 unfolding scale

@@ -1,12 +1,10 @@
 -- `vector_units::unit_two` is Unit: a guess that passes the two tests is the root of the square length; else `unit` answers. Assumes nothing.
 use mathlib.Core.Path.{◌≡◌, sym, ap, ◌∙◌}
-use native.Mathlib.Omega.{arith}
-use lib.Dec.{lit≤}
 use lib.IntN.{nat_abs}
 use Rattle.vector.specs.Numbers.{root}
 use Rattle.vector.specs.Vectors.{dot}
 use Rattle.vector.proofs.RootLaws.{root_tested}
-use Rattle.vector.proofs.SizeLaws.{at_most_mono, unit_by}
+use Rattle.vector.proofs.SizeLaws.{unit_by}
 use Rattle.vector_units.proofs.unit_two.Goals as goal
 use Rattle.vector_units.proofs.unit_two.Goals.{Then-is_root}
 
@@ -16,20 +14,8 @@ length c =
     root_tested c.square_length-q.result c.near_two-n.result (sym c.is_root.ensures ∙ c.if-is_root.true)
     ∙ ap root c.square_length-q.ensures.value
 
-pub square_length-q-requires : goal.square_length-q-requires
-square_length-q-requires c = c.requires
-
-pub divided-requires : goal.divided-requires
-divided-requires c = record {
-  at_most = at_most_mono (lit≤ tt) c.requires;
-  n_bound = omega (arith, c.near_two-n.ensures.1);
-}
-
 pub returns-then-is_root : goal.returns-then-is_root
 returns-then-is_root c = let both = unit_by c.args.s (length (goal.at.returns-then-is_root c).Then-is_root) c.divided.ensures in record {
   value = both.0;
   small = both.1;
 }
-
-pub unit-requires : goal.unit-requires
-unit-requires c = c.requires

@@ -1,21 +1,12 @@
 -- `wide::times` multiplies the words, and adds what the lower product has in its upper word. Assumes nothing.
-use Rattle.wide.proofs.WordLaws.{times_is, times_fits, upper_fits}
+use Prim.Native.Nat.{ℕ, ◌+◌, ◌*◌, ◌^◌}
+use mathlib.Core.Path.{◌≡◌, refl}
+use native.Mathlib.Nat.{add-mul, mul_assoc, mul_comm, mul_left_comm, add_comm}
+use native.Mathlib.Omega.{arith}
 use Rattle.wide.proofs.times.Goals as goal
 
-pub overflow_mul-high : goal.overflow_mul-high
-overflow_mul-high c =
-    let s = c in
-    let r = c.product-low in
-    record { fits = upper_fits s.args.a.hi s.args.a.lo s.args.n r.result.hi r.result.lo r.ensures s.requires }
-
-pub overflow_add-result : goal.overflow_add-result
-overflow_add-result c =
-    let s = c in
-    let r = c.product-low in
-    record { fits = times_fits s.args.a.hi s.args.a.lo s.args.n r.result.hi r.result.lo r.ensures s.requires }
+spread : (P a b n : ℕ) → (a * P + b) * n ≡ a * n * P + b * n
+spread P a b n = simp (add-mul, mul_assoc, mul_comm, mul_left_comm, add_comm) refl
 
 pub returns : goal.returns
-returns c =
-    let s = c in
-    let r = c.product-low in
-    times_is s.args.a.hi s.args.a.lo s.args.n r.result.hi r.result.lo r.ensures
+returns c = omega (arith, spread (2 ^ 64) c.args.a.hi c.args.a.lo c.args.n, c.product-low.ensures)

@@ -17,7 +17,7 @@ use Rattle.vector.specs.Vectors.{dot}
 use Rattle.vector.proofs.SizeLaws.{at_most_mono, dot_upto}
 use Rattle.classify_prepared.specs.declared.PreparedHalfspace.{PreparedHalfspace}
 use Rattle.classify_prepared.specs.Measures.{SoundHalfspace}
-use Rattle.classify_active.specs.Anchor.{settled_by}
+use Rattle.classify_active.specs.Anchor.{anchor_is, settled_by}
 use Rattle.classify_halfspace.specs.Halfspaces.{class_within, class_apart}
 use Rattle.classify_prepared.proofs.PreparedLaws.{sound_offset, sound_near}
 use Rattle.classify_cap.proofs.CapLaws.{sound_beside}
@@ -38,7 +38,7 @@ module _ (c : After-dot-c) {x : Bool} where
       → le_z c.args.r.margin (c.args.q.low *ℤ c.args.r.reach -ℤ dot c.args.q.f c.args.r.b) ≡ x
   past k =
       let h = c.requires.sound_halfspace in
-      let r = c.requires.anchor in
+      let r = anchor_is c.args.r in
       (λ i. le_z c.args.r.margin (c.args.q.low *ℤ c.args.r.reach -ℤ sym c.dot-c.ensures.value i))
       ∙ sym (same_le (held r.margin tt) (is_sub (is_mul (held (sound_beside h).size tt) (held r.reach tt) tt) (held (along h r.b c.dot-c.ensures.value) tt) tt))
       ∙ k
@@ -47,7 +47,7 @@ module _ (c : After-dot-c) {x : Bool} where
       → le_z c.args.r.margin (dot c.args.q.f c.args.r.b -ℤ c.args.q.high *ℤ c.args.r.reach) ≡ x
   inward k =
       let h = c.requires.sound_halfspace in
-      let r = c.requires.anchor in
+      let r = anchor_is c.args.r in
       (λ i. le_z c.args.r.margin (sym c.dot-c.ensures.value i -ℤ c.args.q.high *ℤ c.args.r.reach))
       ∙ sym (same_le (held r.margin tt) (is_sub (held (along h r.b c.dot-c.ensures.value) tt) (is_mul (held (sound_near h) tt) (held r.reach tt) tt) tt))
       ∙ k
@@ -55,16 +55,16 @@ module _ (c : After-dot-c) {x : Bool} where
 pub dot-c-requires : goal.dot-c-requires
 dot-c-requires c = record {
   small = (sound_beside c.requires.sound_halfspace).small;
-  at_most = at_most_mono (lit≤ tt) c.requires.anchor.b;
+  at_most = at_most_mono (lit≤ tt) c.args.r.small;
 }
 
 pub overflow_mul-q : goal.overflow_mul-q
-overflow_mul-q c = fits_mul (held (sound_beside c.requires.sound_halfspace).size tt) (held c.requires.anchor.reach tt) tt
+overflow_mul-q c = fits_mul (held (sound_beside c.requires.sound_halfspace).size tt) (held c.args.r.reach_within tt) tt
 
 pub overflow_sub-q : goal.overflow_sub-q
 overflow_sub-q c =
     let h = c.requires.sound_halfspace in
-    let r = c.requires.anchor in
+    let r = anchor_is c.args.r in
     fits_sub (is_mul (held (sound_beside h).size tt) (held r.reach tt) tt) (held (along h r.b c.dot-c.ensures.value) tt) tt
 
 pub returns-then-r-q : goal.returns-then-r-q
@@ -74,12 +74,12 @@ returns-then-r-q c =
     rw (past d c.if-r-q.true) (c.class_apart.ensures ∙ ap class_apart (held (sound_offset c.requires.sound_halfspace) tt).eq)
 
 pub overflow_mul-q-2 : goal.overflow_mul-q-2
-overflow_mul-q-2 c = fits_mul (held (sound_near c.requires.sound_halfspace) tt) (held c.requires.anchor.reach tt) tt
+overflow_mul-q-2 c = fits_mul (held (sound_near c.requires.sound_halfspace) tt) (held c.args.r.reach_within tt) tt
 
 pub overflow_sub-c : goal.overflow_sub-c
 overflow_sub-c c =
     let h = c.requires.sound_halfspace in
-    let r = c.requires.anchor in
+    let r = anchor_is c.args.r in
     fits_sub (held (along h r.b c.dot-c.ensures.value) tt) (is_mul (held (sound_near h) tt) (held r.reach tt) tt) tt
 
 pub returns-then-r-c : goal.returns-then-r-c

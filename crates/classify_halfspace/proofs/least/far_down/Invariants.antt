@@ -9,7 +9,7 @@ use Rattle.classify_halfspace.proofs.least.far_down.Given as goal
 
 abbrev pub invariant-loop-step : goal.invariant-loop-step
 invariant-loop-step l =
-    (0 < l.step) × (0 < l.high) × (l.high ≤ Kℕ) × (Kℕ - l.step < l.high) × (far_by l.q.low l.q.rest l.c l.b l.high ≡ true)
+    (0 < l.step) × (0 < l.high) × (l.high ≤ Kℕ) × (Kℕ - l.step < l.high) × (far_by l.h.low l.h.rest l.h.along l.h.square l.high ≡ true)
 
 abbrev pub decreases-loop-step : goal.decreases-loop-step
 decreases-loop-step l = Kℕ - l.step

@@ -8,8 +8,8 @@ use Rattle.classify_halfspace.proofs.least.least_far.Given as goal
 
 abbrev pub invariant-loop-below : goal.invariant-loop-below
 invariant-loop-below l =
-    (l.below < l.n) × (l.n ≤ Kℕ) × (far_by l.q.low l.q.rest l.c l.b l.below ≡ false)
-    × (far_by l.q.low l.q.rest l.c l.b l.n ≡ true)
+    (l.below < l.n) × (l.n ≤ Kℕ) × (far_by l.h.low l.h.rest l.h.along l.h.square l.below ≡ false)
+    × (far_by l.h.low l.h.rest l.h.along l.h.square l.n ≡ true)
 
 abbrev pub decreases-loop-below : goal.decreases-loop-below
 decreases-loop-below l = l.n - l.below

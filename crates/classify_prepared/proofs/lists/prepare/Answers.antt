@@ -1,10 +1,5 @@
--- `classify_prepared::lists::prepare` stores the count, and prepares the rows. Assumes nothing.
-use native.Mathlib.Omega.{arith}
-use borrow.Author.Rules.{rules}
+-- `classify_prepared::lists::prepare` prepares all rows. Assumes nothing.
 use Rattle.classify_prepared.proofs.lists.prepare.Goals as goal
 
-pub prepare_rows-requires : goal.prepare_rows-requires
-prepare_rows-requires c = record {
-  n_in_bounds = (omega arith, omega arith, search rules);
-  fit_rows = c.requires.fit_rows;
-}
+pub returns-clause-halfspaces_after : goal.returns-clause-halfspaces_after
+returns-clause-halfspaces_after c = c.prepare_rows-region.ensures.halfspaces_after

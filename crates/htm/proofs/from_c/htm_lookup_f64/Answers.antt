@@ -1,13 +1,8 @@
 -- `htm::from_c::htm_lookup_f64` is the identifier of a report, which is small, or minus the refusal. Assumes nothing.
 use native.Mathlib.Omega.{arith}
-use mathlib.Core.Path.{sym, ap, ◌∙◌}
-use Rattle.algebra.proofs.Sized.{held}
-use Rattle.htm_abi.specs.Values.{number_for_c}
+use mathlib.Core.Path.{sym, ◌∙◌}
 use Rattle.htm.proofs.LocatedLaws.{located_small}
 use Rattle.htm.proofs.from_c.htm_lookup_f64.Goals as goal
 
 pub number_or_minus-requires : goal.number_or_minus-requires
 number_or_minus-requires c n e = omega (arith, located_small _ _ n (sym c.locate_report.ensures ∙ e))
-
-pub returns : goal.returns
-returns c = let l = c.number_or_minus.ensures in (held l.1 tt).eq ∙ l.0 ∙ ap number_for_c c.locate_report.ensures

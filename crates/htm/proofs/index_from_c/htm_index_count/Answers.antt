@@ -1,13 +1,8 @@
 -- `htm::index_from_c::htm_index_count` is the count, which is at most 2048, or minus the refusal. Assumes nothing.
 use native.Mathlib.Omega.{arith}
-use mathlib.Core.Path.{sym, ap, ◌∙◌}
-use Rattle.algebra.proofs.Sized.{held}
+use mathlib.Core.Path.{sym, ◌∙◌}
 use Rattle.index.proofs.WrittenLaws.{count_few}
-use Rattle.htm_abi.specs.Values.{number_for_c}
 use Rattle.htm.proofs.index_from_c.htm_index_count.Goals as goal
 
 pub number_or_minus-requires : goal.number_or_minus-requires
 number_or_minus-requires c n e = omega (arith, count_few _ n (sym c.index_count.ensures ∙ e))
-
-pub returns : goal.returns
-returns c = let l = c.number_or_minus.ensures in (held l.1 tt).eq ∙ l.0 ∙ ap number_for_c c.index_count.ensures

@@ -1,28 +1,23 @@
 -- `htm_abi::trials::setting_refusal_or_space` asks both settings. Assumes nothing.
-use mathlib.Core.Path.{◌≡◌, ◌∙◌}
-use Rattle.answer.specs.Answer.{Answer, refused, Space}
-use Rattle.region.specs.Reader.{File}
-use Rattle.trial.specs.Answers.{check_setting}
-use Rattle.trial_calls.proofs.CheckLaws.{passing_some, passing_none}
+use mathlib.Core.Path.{◌≡◌, sym, ap, ◌∙◌}
+use Rattle.std.specs.Prelude.{Result, Ok, Err}
+use Rattle.std.specs.Option.{unwrap_or}
+use Rattle.std.specs.Result.{result_and, result_err}
+use Rattle.answer.specs.declared.Refusal.{Refusal}
+use Rattle.answer.specs.Calls.{number}
+use Rattle.answer.specs.Answer.{refused}
+use Rattle.trial.specs.declared.Setting.{Setting}
+use Rattle.trial_calls.specs.Tries.{SettingRefusal}
+use Rattle.htm_abi.specs.ShortLists.{setting_refusal_or_space}
 use Rattle.htm_abi.proofs.trials.setting_refusal_or_space.Goals as goal
-use Rattle.htm_abi.proofs.trials.setting_refusal_or_space.Goals.{Else-one-ne0}
 
--- the first setting is good
-good : (c : Else-one-ne0) → (a : Answer File) → check_setting c.args.s a ≡ a
-good c a = let u = c.setting_refusal-one in u.ensures a ∙ passing_none a c.if-one-ne0.false
+first : (s t : Setting) (x y : Result (Unit {0}) Refusal) → SettingRefusal s x → SettingRefusal t y
+    → setting_refusal_or_space s t ≡ refused (number (unwrap_or (result_err (result_and x y)) Refusal.Space))
+first s t (Err r) y p q = p _
+first s t (Ok u) (Err r) p q = p _ ∙ q _
+first s t (Ok u) (Ok v) p q = p _ ∙ q _
 
-pub returns-then-one-ne0 : goal.returns-then-one-ne0
-returns-then-one-ne0 c =
-    let u = c.setting_refusal-one in
-    let a : Answer File = check_setting c.args.t (refused Space) in
-    u.ensures a ∙ passing_some u.result a c.if-one-ne0.true
-
-pub returns-then-two-ne0 : goal.returns-then-two-ne0
-returns-then-two-ne0 c =
-    let u = c.setting_refusal-two in
-    good (goal.at.returns-then-two-ne0 c).Else-one-ne0 (check_setting c.args.t (refused Space)) ∙ u.ensures (refused Space) ∙ passing_some u.result (refused Space) c.if-two-ne0.true
-
-pub returns-else-two-ne0 : goal.returns-else-two-ne0
-returns-else-two-ne0 c =
-    let u = c.setting_refusal-two in
-    good (goal.at.returns-else-two-ne0 c).Else-one-ne0 (check_setting c.args.t (refused Space)) ∙ u.ensures (refused Space) ∙ passing_none (refused Space) c.if-two-ne0.false
+pub returns : goal.returns
+returns c =
+    let e = c.unwrap_or.ensures ∙ ap (λ o. unwrap_or o Refusal.Space) (c.err.ensures.value ∙ ap result_err c.and-checked.ensures) in
+    first c.args.s c.args.t c.check_setting.result c.check_setting-2.result c.check_setting.ensures c.check_setting-2.ensures ∙ ap (λ r. refused (number r)) (sym e)

@@ -1,44 +1,46 @@
+use Prim.Native.Nat.{◌+◌, ◌*◌, ◌/◌, ◌<◌}
 use native.Mathlib.Omega.{arith}
-use mathlib.Core.Path.{◌≡◌, sym, ap, ◌∙◌}
-use lib.ListN.{get_or, drop}
+use mathlib.Core.Path.{◌≡◌, sym, ap, subst, ◌∙◌}
+use mathlib.Core.List.{[]}
+use lib.ListN.{length, get_or, drop}
 use lib.IntN.{pos}
-use mir.Syntax.{w32}
-use mir.Facts.{to_z-of_z}
+use Rattle.algebra.proofs.Sized.{held}
+use Rattle.std.proofs.lemmas.Result.{err_from_is_err_and}
 use Rattle.answer.specs.Answer.{with_value}
+use Rattle.answer.specs.Calls.{answer_of}
 use Rattle.region.specs.Regions.{Region}
 use Rattle.region.specs.Rows.{row_in, halfspace_at}
-use Rattle.region_rows.specs.RegionSizes.{region_size, region_size_given}
-use Rattle.region_rows.proofs.CheckingPass.{start, few_counted, done, whole_row, row_refused, row_passed}
+use Rattle.region_rows.specs.RegionSizes.{region_size}
+use Rattle.region_rows.proofs.RowParts.{row_number, row_halfspace}
+use Rattle.region_rows.proofs.CheckingPass.{Checking, start, done, row_refused, row_passed}
 use Rattle.region_rows.proofs.checks.count_rows.Goals as goal
-use Rattle.region_rows.proofs.checks.count_rows.Goals.{After-with_row-r}
+use Rattle.region_rows.proofs.checks.count_rows.Goals.{After-with_row}
 
--- what the row from element i on answered
-row : (c : After-with_row-r) → let rs = c.args.rows.now in
-    (g : Region) → region_size g ≡ c.loop-i.at → region_size_given c.with_row-r.result ≡ with_value region_size (row_in g (get_or rs c.loop-i.i (pos 0)) (halfspace_at (drop c.loop-i.i rs)))
+row : (c : After-with_row) → let rs = c.args.rows.now in
+    let i = 5 * c.loop-row.row-index in
+    (g : Region) → region_size g ≡ c.loop-row.size → answer_of c.with_row.result ≡ with_value region_size (row_in g (get_or rs i (pos 0)) (halfspace_at (drop i rs)))
 row c g e =
-    let number = to_z-of_z {w = w32} {z = get_or c.args.rows.now c.loop-i.i (pos 0)} (record { sfits = omega arith }) in
-    c.with_row-r.ensures g e ∙ (λ j. with_value region_size (row_in g (number j) (c.halfspace_at.ensures.value j)))
+    let rs = c.args.rows.now in
+    let i = c.loop-row.row-index in
+    let fives = c.as_chunks.ensures.front in
+    let l : i < length rs / 5 = omega (arith, c.as_chunks.ensures.front_len, c.loop-row-test.true) in
+    let number = (held c.number_at-number.ensures.1 tt).eq ∙ c.number_at-number.ensures.0 ∙ ap (λ f. get_or (get_or f i []) 0 (pos 0)) fives ∙ row_number rs (length rs / 5) i [] l in
+    let half = c.halfspace_at.ensures.value ∙ ap (λ f. halfspace_at (get_or f i [])) fives ∙ row_halfspace rs (length rs / 5) i [] l in
+    c.with_row.ensures g e ∙ (λ j. with_value region_size (row_in g (number j) (half j)))
 
-pub loop-i-init : goal.loop-i-init
-loop-i-init c = start _ c.requires _ c.none-at.ensures
+pub loop-row-init : goal.loop-row-init
+loop-row-init c = start _ c.requires _ c.none-size.ensures
 
-pub halfspace_at-requires : goal.halfspace_at-requires
-halfspace_at-requires c = whole_row c.loop-i.invariant c.loop-i-test.true
+pub returns-in_err-size : goal.returns-in_err-size
+returns-in_err-size c =
+    let p = err_from_is_err_and c.from_residual.result c.from_residual.ensures.1 in
+    rw (p.1, p.2) (row_refused c.loop-row.invariant (omega (arith, c.as_chunks.ensures.front_len)) _ (λ g q. sym (ap answer_of c.in_err-size.was) ∙ row (goal.at.returns-in_err-size c).After-with_row g q))
 
-pub with_row-r-requires : goal.with_row-r-requires
-with_row-r-requires c = few_counted c.loop-i.invariant
-
-pub returns-in_default : goal.returns-in_default
-returns-in_default c =
-    let e = ap region_size_given c.in_default.is in
-    e ∙ row_refused c.loop-i.invariant c.loop-i-test.true _ (λ g q. sym e ∙ row (goal.at.returns-in_default c).After-with_row-r g q)
-
-pub overflow_add-i : goal.overflow_add-i
-overflow_add-i c = omega (arith, whole_row c.loop-i.invariant c.loop-i-test.true)
-
-pub loop-i-preserved : goal.loop-i-preserved
-loop-i-preserved c =
-    row_passed c.loop-i.invariant c.loop-i-test.true _ (λ g q. sym (ap region_size_given c.in-Gives.is) ∙ row (goal.at.loop-i-preserved c).After-with_row-r g q)
+pub loop-row-preserved : goal.loop-row-preserved
+loop-row-preserved c =
+    let next : 5 * c.loop-row.row-index + 5 ≡ 5 * (c.loop-row.row-index + 1) = omega arith in
+    subst (Checking c.args.rows.now c.in_ok-size.size) next
+    (row_passed c.loop-row.invariant (omega (arith, c.as_chunks.ensures.front_len)) _ (λ g q. sym (ap answer_of c.in_ok-size.was) ∙ row (goal.at.loop-row-preserved c).After-with_row g q))
 
 pub returns : goal.returns
-returns c = done c.loop-i.invariant c.loop-i-test.false
+returns c = done c.loop-row.invariant (omega (arith, c.requires, c.as_chunks.ensures.front_len))

@@ -1,7 +1,0 @@
--- `covering_tally::add_inner` pushes the range by what the tally knows, and notes what it knows then. Assumes nothing.
-use Rattle.covering_tally.proofs.TallyLaws.{inner_added}
-use Rattle.covering_tally.proofs.add_inner.Goals as goal
-
-pub returns : goal.returns
-returns c =
-    inner_added c.push_inner.ensures c.budget_of.ensures c.pending.ensures c.note_inner.ensures

@@ -1,0 +1,25 @@
+// A trixel with its first ray, as the cutting lends it to the next level.
+ghost use Rattle.std.specs.Prelude.{◌≡◌};
+ghost use Rattle.mesh_trixels.specs.Corners.{SmallTrixel};
+ghost use Rattle.classify.specs.Shape.{ray0};
+
+use mesh::Trixel;
+use vector::Vec3;
+
+// A trixel, and its first ray.
+#[derive(Clone, Copy)]
+pub struct StoredTrixel {
+    pub trixel: Trixel,
+    pub ray: Vec3,
+    ghost small: { SmallTrixel trixel },
+    ghost first: { ray ≡ ray0 trixel },
+}
+
+// The trixel t, with its first ray r.
+pub fn stored(t: Trixel, r: Vec3) -> StoredTrixel
+    requires small_trixel { SmallTrixel t }
+    requires r_value { r ≡ ray0 t }
+    ensures { result.trixel ≡ t }
+{
+    StoredTrixel { trixel: t, ray: r }
+}

@@ -1,7 +1,0 @@
--- `htm::locate_line` is the rule of a line's lookup: that of its pointing. Assumes nothing.
-use mathlib.Core.Path.{ap, ◌∙◌}
-use Rattle.htm.specs.Answers.{located}
-use Rattle.htm.proofs.locate_line.Goals as goal
-
-pub returns : goal.returns
-returns c = c.located.ensures ∙ ap (λ p. located p c.args.depth) c.pointing_in.ensures
