@@ -1,5 +1,5 @@
 #!/usr/bin/env python3
-"""Prints the numbers of crates/mesh_table/src/lib.rt by the model htm.py: a line for each of the trixels 128 to 143, x y z of v0 v1 v2 p0 p1 p2.
+"""Prints the numbers of crates/mesh_table/src/lib.rt by the model htm.py: for each of the trixels 128 to 143 a line with v0 v1 v2 and one with p0 p1 p2.
 
 python3 tools/table.py              print the lines
 python3 tools/table.py --compare    say whether the file has them, and whether the trixels 144 to 255 are these, turned
@@ -23,7 +23,8 @@ def vectors(i):
 
 
 def entries():
-    return "".join("    " + ", ".join(str(n) for v in vectors(i) for n in v) + ",\n" for i in range(128, 144))
+    lines = [vectors(i)[part:part + 3] for i in range(128, 144) for part in (0, 3)]
+    return "".join("    " + ", ".join(str(list(v)) for v in line) + ",\n" for line in lines)
 
 
 def rotated():
@@ -32,7 +33,7 @@ def rotated():
 
 if __name__ == "__main__":
     if sys.argv[1:] == ["--compare"]:
-        numbers = "".join(l for l in FILE.read_text().splitlines(True) if l.startswith("    ") and l.strip(" -0123456789,\n") == "" and l.count(",") == 18)
+        numbers = "".join(l for l in FILE.read_text().splitlines(True) if l.startswith("    [") and l.strip(" -0123456789,[]\n") == "" and l.count(",") == 9)
         same = entries() == numbers and rotated()
         print("same" if same else "different")
         sys.exit(not same)

@@ -4,7 +4,6 @@ use Prim.Native.Nat.{ℕ, ◌+◌, ◌*◌, ◌/◌, ◌^◌, ◌≤◌, ◌<◌
 use native.Mathlib.Nat.{le_refl, le_trans, le_of_lt, lt_of_le_of_lt, lt_of_lt_of_le, mul-add, add-mul, mul-mul-mul_comm, mul-le-mul, mul-lt-mul_of_pos_left}
 use native.Mathlib.Omega.{arith}
 use mathlib.Core.Path.{◌≡◌, refl, subst, ◌∙◌}
-use lib.Dec.{lit<}
 
 -- ---- a product a b against a square x², in units k, l and m with k l = m²
 
@@ -77,8 +76,3 @@ module _ (m p q : ℕ) where
 
   pub square_surely_not : (m / 1024 + 1) * (m / 1024 + 1) ≤ p / 1024 * (q / 1024) → m * m < p * q
   square_surely_not t = surely_above 1024 1024 1024 refl (p / 1024) (q / 1024) (m / 1024 + 1) (omega arith) (omega arith) (omega arith) t
-
-  -- from 2⁴² − 2¹⁰ on every m passes
-  pub square_large : 4398046510080 ≤ m → p ≤ 3 * 2 ^ 40 → q ≤ 3 * 2 ^ 40 → p * q < m * m
-  square_large h k l =
-      lt_of_le_of_lt (mul-le-mul k l) (lt_of_lt_of_le (lit< {m = 3 * 2 ^ 40 * (3 * 2 ^ 40)} {n = 4398046510080 * 4398046510080} tt) (mul-le-mul h h))

@@ -1,5 +1,4 @@
 pub mod Beyond
-pub mod Cells
 pub mod Cheapest
 pub mod Claim
 pub mod Cone

@@ -1,6 +1,5 @@
--- Elements of any kind move down by w positions, one after the other: after k of them the list is `shifted_down` by k. The element z is what a read past the
--- end gives; no read is past it. Assumes nothing.
---   shifted_down w at l k   the list l, where k elements, from number `at` on, are those that stood w positions further on
+-- Elements of any kind move down by w positions, one after the other: after k of them the list is `shifted_down` by k, of specs/Moves. The element z is what a
+-- read past the end gives; no read is past it. Assumes nothing.
 use Prim.Native.Nat.{ℕ, ◌+◌, ◌<◌}
 use mathlib.Core.Path.{◌≡◌, sym, ap, ◌∙◌}
 use mathlib.Core.List.{List, ◌++◌}
@@ -8,10 +7,7 @@ use native.Mathlib.Omega.{arith}
 use native.Mathlib.Numerals.{add-one}
 use lib.ListN.{length, get_or, take, drop, set, length-drop}
 use lib.Seq.{paste, paste-zero, paste-suc, length_paste_head, get_or-append-add, get_or-drop}
-
-module _ {A : Type 0} where
-  unfoldable pub shifted_down : ℕ → ℕ → List A → ℕ → List A
-  shifted_down w at l k = paste l at (drop (at + w) l) k
+use Rattle.algebra.specs.Moves.{shifted_down}
 
 module _ {A : Type 0} (w at : ℕ) (l : List A) where
   pub shifted_down_start : l ≡ shifted_down w at l 0

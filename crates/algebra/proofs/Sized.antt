@@ -139,14 +139,6 @@ sign_held {z} h e = sign_tested z ∙ ap not (sym (ap (λ v. lt_z v (pos 0)) (to
 pub fits_cast : {b n : ℕ} {z : ℤ} → Is b z n → T (non_neg z) → T (ltb n (2 ^ 63)) → T (non_neg (to_z w64 b)) × Fits w64 (nat_abs (to_z w64 b))
 fits_cast {n = n} p h t = subst (λ v. T (non_neg v) × Fits w64 (nat_abs v)) (sym p.eq) (h, Fits-le p.size.le (record { fits = lt_trans (ltb→lt n (2 ^ 63) t) (lit< tt) }))
 
--- as above, for a number that was tested to be above 0
-above_zero : (z : ℤ) → le_z z (pos 0) ≡ false → T (non_neg z)
-above_zero (pos n) e = tt
-above_zero (negsuc n) e = absurd (true≢false e)
-
-pub fits_tested : {b n : ℕ} {z : ℤ} → Is b z n → le_z (to_z w64 b) (pos 0) ≡ false → T (ltb n (2 ^ 63)) → T (non_neg (to_z w64 b)) × Fits w64 (nat_abs (to_z w64 b))
-fits_tested {b = b} p e t = fits_cast p (subst (λ v. T (non_neg v)) p.eq (above_zero (to_z w64 b) e)) t
-
 -- a signed 32-bit number that is cast to 64 bits: it fits, and is the same number
 pub fits_wider : {z : ℤ} → SFits w32 z → SFits w64 (to_z w32 (of_z w32 z))
 fits_wider h = subst (SFits w64) (sym (to_z-of_z h)) (record { sfits = lt_trans h.sfits (lit< tt) })

@@ -1,12 +1,12 @@
 -- Tests and what follows from them: Booleans, the order tests of ℕ and of ℤ, tests over lists. Assumes nothing.
-use Prim.Native.Nat.{ℕ, ◌*◌, ◌≤◌}
+use Prim.Native.Nat.{ℕ, ◌≤◌}
 use mathlib.Core.Path.{◌≡◌, refl, sym, ap, subst, ◌∙◌}
 use mathlib.Core.Bool.{Bool, true, false, not, ◌&&◌, ◌||◌, true≢false, false≢true}
 use mathlib.Core.List.{List, [], ◌∷◌}
 use borrow.Author.Tests.{ltb-true, ltb-false, le-leb, lt-leb}
 use lib.Dec.{T, leb, ltb}
-use lib.IntN.{ℤ, pos, negsuc, nat_abs, ◌*ℤ◌}
-use lib.Signed.{le_z, lt_z, non_neg, ◌≤ℤ◌, ◌<ℤ◌, le_z_yes, lt_z_yes, clash_ℤ}
+use lib.IntN.{ℤ}
+use lib.Signed.{le_z, lt_z, ◌≤ℤ◌, ◌<ℤ◌, le_z_yes, lt_z_yes, clash_ℤ}
 use Rattle.algebra.proofs.Order.{by_order}
 use Rattle.algebra.specs.Lists.{every, some}
 
@@ -80,13 +80,6 @@ split false f g = g refl
 -- a test that passes below what it passes fails above what it fails
 pub fails_above : (f : ℕ → Bool) → ((a b : ℕ) → a ≤ b → f b ≡ true → f a ≡ true) → {m n : ℕ} → m ≤ n → f m ≡ false → f n ≡ false
 fails_above f down {m} {n} h e = split (f n) (λ t. absurd (true≢false (sym (down m n h t) ∙ e))) (λ t. t)
-
--- a square against a product, by the sizes of numbers that have no sign
-pub by_sizes : (m p q : ℤ) → T (non_neg m) → T (non_neg p) → T (non_neg q) → ltb (nat_abs p * nat_abs q) (nat_abs m * nat_abs m) ≡ lt_z (p *ℤ q) (m *ℤ m)
-by_sizes (pos m) (pos p) (pos q) h k l = refl
-by_sizes (pos m) (pos p) (negsuc q) h k l = absurd l
-by_sizes (pos m) (negsuc p) q h k l = absurd k
-by_sizes (negsuc m) p q h k l = absurd h
 
 -- at most is not greater
 pub not_less : (a b : ℕ) → not (ltb b a) ≡ leb a b

@@ -1,9 +1,8 @@
 // Lines of input over one index, each answered as it ends: the commands add, remove, list, frames and trial.
 #![tactic(auto)]
 
-use answer::Refusal;
 use command_words::{Words, lines};
-use index::{Entry, INDEX_CAPACITY, INDEX_LENGTH, OWNERS};
+use index::{Entry, INDEX_CAPACITY, INDEX_LENGTH};
 use print::{Fault, Output, Point};
 use std::fmt;
 use std::fmt::Write;
@@ -12,6 +11,7 @@ use streams::Streams;
 pub mod frame_search;
 pub mod setting_trial;
 
+// Kept: a list of numbers, as it is what the calls of htm are lent, from C too.
 type Index = [i64; INDEX_LENGTH];
 
 // Answers the lines of the input, over an index that begins empty.
@@ -55,6 +55,7 @@ fn remove(index: &mut [i64], mut words: Words<'_>, out: &mut Output) -> Result<(
 }
 
 // list, list OWNER
+// Kept: two calls of `entries`; with one the owner would be an Option that the same `if` makes, and its check would go through that Option.
 fn list(index: &[i64], mut words: Words<'_>, out: &mut Output) -> Result<(), Fault> {
     if words.is_over() {
         entries(index, None, out)?;
@@ -62,9 +63,7 @@ fn list(index: &[i64], mut words: Words<'_>, out: &mut Output) -> Result<(), Fau
     }
     let owner = words.natural()?;
     words.end()?;
-    if OWNERS <= owner {
-        return Err(Fault::Refused(Refusal::Owner));
-    }
+    index::check_owner(owner)?;
     entries(index, Some(owner), out)?;
     Ok(())
 }

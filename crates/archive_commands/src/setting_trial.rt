@@ -34,6 +34,7 @@ fn setting(words: &mut Words<'_>) -> Result<Setting, Fault> {
 fn compared(out: &mut Output, both: Trial, part: &[u64]) -> fmt::Result {
     setting_result(out, both.first)?;
     setting_result(out, both.second)?;
+    // Kept: a match, as `both.choice as u8` doesn't show what is printed.
     out.write_str(match both.choice {
         Choice::First => "1",
         Choice::Second => "2",

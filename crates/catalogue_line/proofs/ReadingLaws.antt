@@ -1,24 +1,23 @@
--- A line is read byte by byte. What the bytes from a position on give is decided by the byte there: past the end it is 0, which no line has. The number of
--- the digits read so far, with those that are left after it, is the number of all of them. Assumes nothing.
+-- A line is read from its beginning, decimal by decimal: each part takes what it needs and hands on the bytes after it. The number of the digits read so
+-- far, with those that are left after it, is the number of all of them. Assumes nothing.
 use Prim.Native.Nat.{ℕ, zero, suc, ◌+◌, ◌-◌, ◌*◌, ◌/◌, ◌^◌, ◌≤◌, ◌<◌}
-use native.Mathlib.Nat.{pow-succ', one-le-pow, lt_of_not-le, mul_assoc, add-mul, add_assoc, le-mul_of_pos_right, le_trans}
-use native.Mathlib.Numerals.{add-one}
+use native.Mathlib.Nat.{pow-succ', one-le-pow, mul_assoc, add-mul, add_assoc, le-mul_of_pos_right, le_trans}
 use native.Mathlib.Omega.{arith}
 use mathlib.Core.Path.{◌≡◌, refl, sym, ap, ◌∙◌, subst}
 use mathlib.Core.Bool.{Bool, true, false, true≢false}
 use mathlib.Core.List.{List, [], ◌∷◌}
-use lib.Dec.{leb, eqb, lit<}
+use lib.Dec.{leb, lit<}
 use lib.IntN.{ℤ}
-use lib.ListN.{length, drop, get_or, length-drop}
-use lib.Seq.{drop-cons, drop-drop, get_or-drop}
-use borrow.Author.Tests.{leb-true, le-leb, eqb-true, eq-eqb, ne_eqb}
-use Rattle.algebra.proofs.Tests.{split, and_left, and_right, and_no_right}
+use lib.ListN.{length, take, drop, get_or, length-drop}
+use borrow.Author.Tests.{leb-true, le-leb, lt-leb, eq-eqb, ne_eqb}
+use Rattle.algebra.proofs.Tests.{and_left, and_right, and_no_right}
+use Rattle.std.proofs.lemmas.List.{take_all}
 use Rattle.answer.specs.Answer as answer
 use Rattle.answer.specs.Answer.{Answer, refused, gives, check, then, with_value}
 use Rattle.vector.specs.declared.Vec3.{Vec3}
 use Rattle.vector.specs.Numbers.{Kℕ, signed}
 use Rattle.vector.specs.Vectors.{vec}
-use Rattle.catalogue_line.specs.Lines.{digit0, point, minus, blank, line_feed, number, value, Line, Found, is_digit_to, digits_in, unsigned_in, decimal_in, next_in, is_end, decimals_in, pointing_in}
+use Rattle.catalogue_line.specs.Lines.{digit0, point, minus, blank, number, value, Line, Found, is_digit_to, digits_in, unsigned_in, decimal_in, next_in, is_end, decimals_in, pointing_in}
 use Rattle.catalogue_line.proofs.LinesInverse.{no_digits}
 use Rattle.catalogue_line.specs.declared.Fraction.{Fraction}
 use Rattle.catalogue_line.specs.Reading.{Valued, valued_of, valued, Reads}
@@ -30,112 +29,95 @@ past [] k h = refl
 past (b ∷ l) zero h = absurd (omega arith)
 past (b ∷ l) (suc k) h = past l k (omega arith)
 
--- where a byte is not 0, its position is in the line
-pub inside : (l : List ℕ) (k : ℕ) → 0 < get_or l k 0 → k < length l
-inside l k h = lt_of_not-le (λ g. absurd (omega (arith, past l k g)))
+pub digit_bounds : (n b : ℕ) → is_digit_to n b ≡ true → (digit0 ≤ b) × (b ≤ digit0 + n)
+digit_bounds n b e = (leb-true digit0 b (and_left (leb digit0 b) (leb b (digit0 + n)) e), leb-true b (digit0 + n) (and_right (leb digit0 b) (leb b (digit0 + n)) e))
 
-pub digit_inside : (n : ℕ) (l : List ℕ) (k : ℕ) → is_digit_to n (get_or l k 0) ≡ true → (k < length l) × (digit0 ≤ get_or l k 0) × (get_or l k 0 ≤ digit0 + n)
-digit_inside n l k e =
-    let b = get_or l k 0 in
-    let low = leb-true digit0 b (and_left (leb digit0 b) (leb b (digit0 + n)) e) in
-    (inside l k (omega arith), low, leb-true b (digit0 + n) (and_right (leb digit0 b) (leb b (digit0 + n)) e))
+pub is_digit_low : (n b : ℕ) → b < digit0 → is_digit_to n b ≡ false
+is_digit_low n b h = rw (lt-leb digit0 b h) refl
 
--- ---- the end
+pub is_digit_high : (n b : ℕ) → digit0 + n < b → is_digit_to n b ≡ false
+is_digit_high n b h = rw (le-leb digit0 b (omega arith), lt-leb b (digit0 + n) h) refl
 
-no_end : (s : List ℕ) → (get_or s 0 0 ≡ line_feed → ⊥) → is_end s ≡ false
-no_end [] n = refl
-no_end (b ∷ []) n = ne_eqb b line_feed n
-no_end (b ∷ c ∷ s) n = refl
-
-is_end_law : (s : List ℕ) → get_or s 0 0 ≡ line_feed → is_end s ≡ eqb (length s) 1
-is_end_law [] e = refl
-is_end_law (b ∷ []) e = eq-eqb b line_feed e
-is_end_law (b ∷ c ∷ s) e = sym (ne_eqb (length (b ∷ c ∷ s)) 1 (λ q. omega arith))
-
-module _ (l : List ℕ) (k : ℕ) where
-  head : get_or (drop k l) 0 0 ≡ get_or l k 0
-  head = get_or-drop k l 0 0 ∙ ap (λ i. get_or l i 0) (omega arith)
-
-  pub not_ended : (get_or l k 0 ≡ line_feed → ⊥) → is_end (drop k l) ≡ false
-  not_ended n = no_end (drop k l) (λ e. n (sym head ∙ e))
-
-  pub ended : get_or l k 0 ≡ line_feed → eqb (length l) (k + 1) ≡ is_end (drop k l)
-  ended e =
-      let h = inside l k (omega arith) in
-      let same = is_end_law (drop k l) (head ∙ e) ∙ ap (λ n. eqb n 1) (length-drop k l) in
-      split (eqb (length l) (k + 1))
-      (λ t. t ∙ sym (same ∙ eq-eqb (length l - k) 1 (omega (arith, eqb-true (length l) (k + 1) t))))
-      (λ t. t ∙ sym (same ∙ ne_eqb (length l - k) 1 (λ q. absurd (true≢false (sym (eq-eqb (length l) (k + 1) (omega arith)) ∙ t)))))
+pub is_digit_there : (n b : ℕ) → digit0 ≤ b → b ≤ digit0 + n → is_digit_to n b ≡ true
+is_digit_there n b l h = rw (le-leb digit0 b l, le-leb b (digit0 + n) h) refl
 
 -- ---- digits
 
--- number and power of ten of the digits read so far, the position after them, and how many may still follow
-pub record Reading (w k : ℕ) (l : List ℕ) (n p at left : ℕ) : Type 0 where
-  pub digits : n * 10 ^ length (digits_in left (drop at l)) + number (digits_in left (drop at l)) ≡ w * 10 ^ length (digits_in 7 (drop k l)) + number (digits_in 7 (drop k l))
-  pub power : p * 10 ^ length (digits_in left (drop at l)) ≡ 10 ^ length (digits_in 7 (drop k l))
-  pub place : at + length (digits_in left (drop at l)) ≡ k + length (digits_in 7 (drop k l))
+-- number and power of ten of the digits read so far, the bytes after them, and how many digits may still follow
+pub record Reading (w : ℕ) (s : List ℕ) (n p : ℕ) (t : List ℕ) (left : ℕ) : Type 0 where
+  pub digits : n * 10 ^ length (digits_in left t) + number (digits_in left t) ≡ w * 10 ^ length (digits_in 7 s) + number (digits_in 7 s)
+  pub power : p * 10 ^ length (digits_in left t) ≡ 10 ^ length (digits_in 7 s)
+  pub rest : drop (length (digits_in left t)) t ≡ drop (length (digits_in 7 s)) s
   pub most : p * 10 ^ left ≤ 10 ^ 7
   pub some : 1 ≤ p
   pub size : n < 2 * p
 
-module _ (w k : ℕ) (l : List ℕ) (n p at left : ℕ) (r : Reading w k l n p at left) where
+module _ (w : ℕ) (s : List ℕ) (n p : ℕ) (t : List ℕ) (left : ℕ) (r : Reading w s n p t left) where
   pub power_small : p ≤ 10 ^ 7
   power_small = le_trans (le-mul_of_pos_right p (one-le-pow left 10 (lit< tt))) r.most
 
   -- no digit is left
-  pub all_read : digits_in left (drop at l) ≡ [] → Reads w k l (record { number = n; power = p; next = at })
+  pub all_read : digits_in left t ≡ [] → (f : Fraction) → f.number ≡ n → f.power ≡ p → f.rest.now ≡ t → Reads w s f
   unfolding number
-  all_read e = record {
-    number = omega (arith, rw e at r.digits);
-    power = omega (arith, rw e at r.power);
-    next = omega (arith, rw e at r.place);
-    small = omega (arith, power_small, r.size);
-    some = r.some;
+  all_read e f en ep et = record {
+    number = omega (arith, rw e at r.digits, en);
+    power = omega (arith, rw e at r.power, ep);
+    rest = et ∙ rw e at r.rest;
+    small = omega (arith, power_small, r.size, en);
+    some = omega (arith, r.some, ep);
   }
 
-pub no_digits_left : (at : ℕ) (l : List ℕ) (left : ℕ) → left ≤ 0 → digits_in left (drop at l) ≡ []
+pub no_digits_left : (t : List ℕ) (left : ℕ) → left ≤ 0 → digits_in left t ≡ []
 unfolding digits_in
-no_digits_left at l zero h = refl
-no_digits_left at l (suc left) h = absurd (omega arith)
-
-pub no_digit : (at : ℕ) (l : List ℕ) (left : ℕ) → is_digit_to 9 (get_or l at 0) ≡ false → digits_in left (drop at l) ≡ []
-no_digit at l left e = no_digits left (drop at l) (ap (is_digit_to 9) (head l at) ∙ e)
-
-digit_then : (at : ℕ) (l : List ℕ) (left : ℕ) → is_digit_to 9 (get_or l at 0) ≡ true → digits_in (suc left) (drop at l) ≡ (get_or l at 0 - digit0) ∷ digits_in left (drop (at + 1) l)
-unfolding digits_in
-digit_then at l left e =
-    let h = (digit_inside 9 l at e).0 in
-    let c : drop at l ≡ get_or l at 0 ∷ drop (at + 1) l = rw (add-one, drop-cons l at 0 h) in
-    rw (c, e) refl
+no_digits_left t zero h = refl
+no_digits_left t (suc left) h = absurd (omega arith)
 
 -- the next digit d goes from the m that is left to the number n
 shifted : (n d x m : ℕ) → n * (10 * x) + (d * x + m) ≡ (n * 10 + d) * x + m
 shifted n d x m = ap (λ y. y + (d * x + m)) (sym (mul_assoc n 10 x)) ∙ sym (add_assoc (n * 10 * x) (d * x) m) ∙ ap (λ y. y + m) (sym (add-mul (n * 10) d x))
 
-module _ (w k : ℕ) (l : List ℕ) (n p at : ℕ) where
-  digit_more : (left : ℕ) → Reading w k l n p at (suc left) → is_digit_to 9 (get_or l at 0) ≡ true → Reading w k l (n * 10 + (get_or l at 0 - digit0)) (p * 10) (at + 1) left
-  unfolding number
+module _ (w : ℕ) (s : List ℕ) (n p b : ℕ) (t : List ℕ) where
+  digit_more : (left : ℕ) → Reading w s n p (b ∷ t) (suc left) → is_digit_to 9 b ≡ true → Reading w s (n * 10 + (b - digit0)) (p * 10) t left
+  unfolding number digits_in
   digit_more left r e =
-      let d = get_or l at 0 - digit0 in
-      let rest = digits_in left (drop (at + 1) l) in
+      let d = b - digit0 in
+      let rest = digits_in left t in
       let x = 10 ^ length rest in
-      let t = digit_then at l left e in
-      let b = digit_inside 9 l at e in
+      let u : digits_in (suc left) (b ∷ t) ≡ d ∷ rest = simp e in
       let ten : 10 ^ suc (length rest) ≡ 10 * x = pow-succ' 10 (length rest) in
+      let k = digit_bounds 9 b e in
+      let v : drop (suc (length rest)) (b ∷ t) ≡ drop (length (digits_in 7 s)) s = ap (λ y. drop (length y) (b ∷ t)) (sym u) ∙ r.rest in
       record {
-        digits = sym (shifted n d x (number rest)) ∙ ap (λ y. n * y + (d * x + number rest)) (sym ten) ∙ rw t at r.digits;
-        power = mul_assoc p 10 x ∙ ap (λ y. p * y) (sym ten) ∙ rw t at r.power;
-        place = omega (arith, rw t at r.place);
+        digits = sym (shifted n d x (number rest)) ∙ ap (λ y. n * y + (d * x + number rest)) (sym ten) ∙ ap (λ y. n * 10 ^ length y + number y) (sym u) ∙ r.digits;
+        power = mul_assoc p 10 x ∙ ap (λ y. p * y) (sym ten) ∙ ap (λ y. p * 10 ^ length y) (sym u) ∙ r.power;
+        rest = v;
         most = subst (λ y. y ≤ 10 ^ 7) (ap (λ y. p * y) (pow-succ' 10 left) ∙ sym (mul_assoc p 10 (10 ^ left))) r.most;
         some = omega (arith, r.some);
-        size = omega (arith, r.size, b.1, b.2);
+        size = omega (arith, r.size, k.0, k.1);
       }
 
-  pub one_more : (left rest : ℕ) → left ≡ rest + 1 → Reading w k l n p at left → is_digit_to 9 (get_or l at 0) ≡ true
-      → Reading w k l (n * 10 + (get_or l at 0 - digit0)) (p * 10) (at + 1) rest
-  one_more left rest h r e = digit_more rest (subst (Reading w k l n p at) (omega arith) r) e
+-- the first byte is a digit, and the others are left
+pub one_more : (w : ℕ) (s : List ℕ) (n p : ℕ) (t : List ℕ) (left rest : ℕ) → left ≡ rest + 1 → Reading w s n p t left → is_digit_to 9 (get_or t 0 0) ≡ true
+    → Reading w s (n * 10 + (get_or t 0 0 - digit0)) (p * 10) (take (length t - 1) (drop 1 t)) rest
+one_more w s n p [] left rest h r e = absurd (true≢false (sym e))
+one_more w s n p (b ∷ t) left rest h r e =
+    let m : left ≡ suc rest = omega arith in
+    let all : t ≡ take (length (b ∷ t) - 1) t = sym (take_all (length (b ∷ t) - 1) t (omega arith)) in
+    subst (λ u. Reading w s (n * 10 + (b - digit0)) (p * 10) u rest) all (digit_more w s n p b t rest (subst (Reading w s n p (b ∷ t)) m r) e)
 
 -- ---- a decimal, by the bytes at its beginning
+
+-- what a pattern leaves after its first k bytes
+pub tail_is : (k : ℕ) (s : List ℕ) → take (length s - k) (drop k s) ≡ drop k s
+tail_is k s = take_all (length s - k) (drop k s) (omega (arith, length-drop k s))
+
+no_first_digit : (t : List ℕ) → is_digit_to 9 (get_or t 0 0) ≡ false → length (digits_in 7 t) ≡ 0
+no_first_digit t e = ap length (no_digits 7 t e)
+
+first_digit : (t : List ℕ) → is_digit_to 9 (get_or t 0 0) ≡ true → 0 < length (digits_in 7 t)
+unfolding digits_in
+first_digit [] e = absurd (true≢false (sym e))
+first_digit (b ∷ t) e = rw e (omega arith)
 
 module _ (g : Bool) where
   not_whole : (s : List ℕ) → is_digit_to 1 (get_or s 0 0) ≡ false → unsigned_in g s ≡ refused answer.Line
@@ -162,66 +144,50 @@ module _ (g : Bool) where
   by_digits (b ∷ []) e q = absurd (omega arith)
   by_digits (b ∷ p ∷ s) e q = simp (e, eq-eqb p point q)
 
-  module _ (l : List ℕ) (k : ℕ) where
-    pub no_whole : is_digit_to 1 (get_or l k 0) ≡ false → valued (unsigned_in g (drop k l)) ≡ refused answer.Line
-    no_whole e = ap valued (not_whole (drop k l) (ap (is_digit_to 1) (head l k) ∙ e))
+  module _ (s : List ℕ) where
+    pub no_whole : is_digit_to 1 (get_or s 0 0) ≡ false → refused answer.Line ≡ valued (unsigned_in g s)
+    no_whole e = ap valued (sym (not_whole s e))
 
-    pub no_point : (get_or l (k + 1) 0 ≡ point → ⊥) → valued (unsigned_in g (drop k l)) ≡ refused answer.Line
-    no_point n = ap valued (not_point (drop k l) (λ e. n (sym (get_or-drop k l 1 0) ∙ e)))
+    pub no_point : (get_or s 1 0 ≡ point → ⊥) → refused answer.Line ≡ valued (unsigned_in g s)
+    no_point n = ap valued (sym (not_point s n))
 
-    module _ (bit : is_digit_to 1 (get_or l k 0) ≡ true) (dot : get_or l (k + 1) 0 ≡ point) where
-      at_digits : unsigned_in g (drop k l) ≡ with_digits (get_or l k 0 - digit0) (drop (k + 2) l)
-      at_digits =
-          by_digits (drop k l) (ap (is_digit_to 1) (head l k) ∙ bit) (get_or-drop k l 1 0 ∙ dot)
-          ∙ ap (λ b. with_digits (b - digit0) (drop 2 (drop k l))) (head l k)
-          ∙ ap (with_digits (get_or l k 0 - digit0)) (drop-drop 2 k l)
+    module _ (bit : is_digit_to 1 (get_or s 0 0) ≡ true) (dot : get_or s 1 0 ≡ point) where
+      pub no_digit : is_digit_to 9 (get_or (take (length s - 2) (drop 2 s)) 0 0) ≡ false → refused answer.Line ≡ valued (unsigned_in g s)
+      no_digit e =
+          let z : length (digits_in 7 (drop 2 s)) ≡ 0 = no_first_digit (drop 2 s) (rw tail_is at e) in
+          rw (by_digits s bit dot, z) refl
 
-      pub no_digits_there : length (digits_in 7 (drop (k + 2) l)) ≡ 0 → valued (unsigned_in g (drop k l)) ≡ refused answer.Line
-      no_digits_there z = rw (at_digits, z) refl
-
-      pub decimal_there : (r : Fraction) → Reads (get_or l k 0 - digit0) (k + 2) l r → 0 < length (digits_in 7 (drop (k + 2) l))
+      pub decimal_there : is_digit_to 9 (get_or (take (length s - 2) (drop 2 s)) 0 0) ≡ true
+          → (r : Fraction) → Reads (get_or s 0 0 - digit0) (take (length s - 2) (drop 2 s)) r
           → {v : ℤ} → v ≡ signed g (r.number * Kℕ / r.power)
-          → gives (record { value = v; rest = drop r.next l }) ≡ valued (unsigned_in g (drop k l))
+          → gives (record { value = v; rest = r.rest.now }) ≡ valued (unsigned_in g s)
       unfolding value
-      decimal_there r h z c =
-          let s = drop (k + 2) l in
-          let rest : drop r.next l ≡ drop (length (digits_in 7 s)) s = rw h.next (sym (drop-drop (length (digits_in 7 s)) (k + 2) l)) in
-          rw (at_digits, le-leb 1 (length (digits_in 7 s)) z, c, rest, h.number, h.power) refl
+      decimal_there e r reads c =
+          let h : Reads (get_or s 0 0 - digit0) (drop 2 s) r = subst (λ t. Reads (get_or s 0 0 - digit0) t r) (tail_is 2 s) reads in
+          let z : 0 < length (digits_in 7 (drop 2 s)) = first_digit (drop 2 s) (subst (λ t. is_digit_to 9 (get_or t 0 0) ≡ true) (tail_is 2 s) e) in
+          rw (by_digits s bit dot, le-leb 1 (length (digits_in 7 (drop 2 s))) z, c, h.rest, h.number, h.power) refl
 
 -- ---- a minus, a blank
 
-minus_first : (s : List ℕ) → get_or s 0 0 ≡ minus → decimal_in s ≡ unsigned_in true (drop 1 s)
+pub minus_there : (s : List ℕ) → get_or s 0 0 ≡ minus → unsigned_in true (take (length s - 1) (drop 1 s)) ≡ decimal_in s
 unfolding decimal_in
-minus_first [] e = absurd (omega arith)
-minus_first (b ∷ s) e = simp (eq-eqb b minus e)
+minus_there [] e = absurd (omega arith)
+minus_there (b ∷ s) e = ap (unsigned_in true) (tail_is 1 (b ∷ s)) ∙ sym (simp (eq-eqb b minus e))
 
-no_minus_first : (s : List ℕ) → (get_or s 0 0 ≡ minus → ⊥) → decimal_in s ≡ unsigned_in false s
+pub no_minus_there : (s : List ℕ) → (get_or s 0 0 ≡ minus → ⊥) → unsigned_in false s ≡ decimal_in s
 unfolding decimal_in unsigned_in
-no_minus_first [] n = refl
-no_minus_first (b ∷ s) n = simp (ne_eqb b minus n)
+no_minus_there [] n = refl
+no_minus_there (b ∷ s) n = sym (simp (ne_eqb b minus n))
 
-blank_first : (s : List ℕ) → get_or s 0 0 ≡ blank → next_in s ≡ decimal_in (drop 1 s)
+pub blank_there : (s : List ℕ) → get_or s 0 0 ≡ blank → decimal_in (take (length s - 1) (drop 1 s)) ≡ next_in s
 unfolding next_in
-blank_first [] e = absurd (omega arith)
-blank_first (b ∷ s) e = simp (eq-eqb b blank e)
+blank_there [] e = absurd (omega arith)
+blank_there (b ∷ s) e = ap decimal_in (tail_is 1 (b ∷ s)) ∙ sym (simp (eq-eqb b blank e))
 
-no_blank_first : (s : List ℕ) → (get_or s 0 0 ≡ blank → ⊥) → next_in s ≡ refused answer.Line
+pub no_blank_there : (s : List ℕ) → (get_or s 0 0 ≡ blank → ⊥) → refused answer.Line ≡ next_in s
 unfolding next_in
-no_blank_first [] n = refl
-no_blank_first (b ∷ s) n = simp (ne_eqb b blank n)
-
-module _ (l : List ℕ) (k : ℕ) where
-  pub minus_there : get_or l k 0 ≡ minus → unsigned_in true (drop (k + 1) l) ≡ decimal_in (drop k l)
-  minus_there e = sym (minus_first (drop k l) (head l k ∙ e) ∙ ap (unsigned_in true) (drop-drop 1 k l))
-
-  pub no_minus_there : (get_or l k 0 ≡ minus → ⊥) → unsigned_in false (drop k l) ≡ decimal_in (drop k l)
-  no_minus_there n = sym (no_minus_first (drop k l) (λ e. n (sym (head l k) ∙ e)))
-
-  pub blank_there : get_or l k 0 ≡ blank → decimal_in (drop (k + 1) l) ≡ next_in (drop k l)
-  blank_there e = sym (blank_first (drop k l) (head l k ∙ e) ∙ ap decimal_in (drop-drop 1 k l))
-
-  pub no_blank_there : (get_or l k 0 ≡ blank → ⊥) → next_in (drop k l) ≡ refused answer.Line
-  no_blank_there n = no_blank_first (drop k l) (λ e. n (sym (head l k) ∙ e))
+no_blank_there [] n = refl
+no_blank_there (b ∷ s) n = sym (simp (ne_eqb b blank n))
 
 -- ---- the line, by the values of its decimals
 
@@ -249,3 +215,25 @@ unfolding pointing_in decimals_in
 by_values l =
     let v : Line → Vec3 = λ t. vec (value t.x) (value t.y) (value t.z) in
     step v (decimal_in l) _ _ (λ x. step v (next_in x.rest) _ _ (λ y. step v (next_in y.rest) _ _ (λ z. last v answer.Line (is_end z.rest) _)))
+
+-- by what was read so far
+module _ (l : List ℕ) where
+  pub refused_x : refused answer.Line ≡ valued (decimal_in l) → refused answer.Line ≡ pointing_in l
+  refused_x e = sym (by_values l ∙ ap after_x (sym e))
+
+  module _ {x : Valued} (ex : gives x ≡ valued (decimal_in l)) where
+    pub read_x : pointing_in l ≡ after_y x.value (valued (next_in x.rest))
+    read_x = by_values l ∙ ap after_x (sym ex)
+
+    pub refused_y : refused answer.Line ≡ valued (next_in x.rest) → refused answer.Line ≡ pointing_in l
+    refused_y e = sym (read_x ∙ ap (after_y x.value) (sym e))
+
+    module _ {y : Valued} (ey : gives y ≡ valued (next_in x.rest)) where
+      pub read_y : pointing_in l ≡ after_z x.value y.value (valued (next_in y.rest))
+      read_y = read_x ∙ ap (after_y x.value) (sym ey)
+
+      pub refused_z : refused answer.Line ≡ valued (next_in y.rest) → refused answer.Line ≡ pointing_in l
+      refused_z e = sym (read_y ∙ ap (after_z x.value y.value) (sym e))
+
+      pub read_z : {z : Valued} → gives z ≡ valued (next_in y.rest) → pointing_in l ≡ check answer.Line (is_end z.rest) (gives (vec x.value y.value z.value))
+      read_z ez = read_y ∙ ap (after_z x.value y.value) (sym ez)

@@ -13,6 +13,7 @@ pub fn depth_in(word: &[u8], arguments: usize) -> Option<u32>
     let mut words = Words::of(word);
     let depth = words.natural().ok()?;
     words.end().ok()?;
+    // Kept: an `if`, as with `then_some` the test in brackets would stand before it, and its value could be read as the depth of any word.
     if arguments == 2 && limits::is_depth(depth) {
         Some(depth)
     } else {
@@ -22,7 +23,7 @@ pub fn depth_in(word: &[u8], arguments: usize) -> Option<u32>
 
 // How the program is called.
 pub fn usage(streams: Streams) {
-    streams.write(b"usage: catalogue DEPTH < LINES\n");
+    let _ = streams.write(b"usage: catalogue DEPTH < LINES\n");
 }
 
 // Answers the lines of the input, each with its line feed.

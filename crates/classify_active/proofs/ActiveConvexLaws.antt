@@ -21,7 +21,7 @@ use Rattle.classify_active.specs.declared.anchors.Anchor.{Anchor}
 use Rattle.classify.specs.Classes.{halfspace_class, convex_class}
 use Rattle.classify_prepared.specs.Measures.{prepared, SoundHalfspace}
 use Rattle.classify_halfspace.specs.Halfspaces.{prepared_class}
-use Rattle.classify_active.specs.Anchor.{anchor_is, settled_by, Close}
+use Rattle.classify_active.specs.Anchor.{IsAnchor, settled_by, Close}
 use Rattle.classify_halfspace.proofs.ClassLaws.{prepared_class_is}
 use Rattle.classify_active.proofs.AnchorLaws.{stays_outside, stays_full}
 use Rattle.classify_prepared.specs.PreparedLists.{convex_prepared, PreparedConvex, ReadyConvex, meet}
@@ -100,7 +100,7 @@ module _ (r : Anchor) (xs : List PreparedHalfspace) (w : ℕ) (ys : List Prepare
             ∙ ap (λ l. put w l ys) (sym (list_snoc h u));
       }
 
-  module _ {j m : ℕ} {ys' : List PreparedHalfspace} (o : InSearch j m ys') (d : PreparedHalfspace) (l : j < length xs) where
+  module _ {j m : ℕ} {ys' : List PreparedHalfspace} (anchor : IsAnchor r) (o : InSearch j m ys') (d : PreparedHalfspace) (l : j < length xs) where
     here : (v : Convex) (p : PreparedConvex v xs) → HalfspaceNext (get_or xs j d) (drop (j + 1) xs) (o v p).left
     here v p = halfspace_next (o v p).left (subst (PreparedConvex (o v p).left) (from_next xs j d l) (o v p).at)
 
@@ -122,7 +122,7 @@ module _ (r : Anchor) (xs : List PreparedHalfspace) (w : ℕ) (ys : List Prepare
         stored = (o v p).stored;
         stores = (o v p).stores;
         count = (o v p).count;
-        class = λ t k. with_first t k (stays_full (anchor_is r) (here v p).sound k s);
+        class = λ t k. with_first t k (stays_full anchor (here v p).sound k s);
       }
 
       left_active : m < 32 → length ys ≡ 32 → ConvexSearch v (j + 1) (m + 1) (set ys' m (get_or xs j d))
@@ -153,7 +153,7 @@ module _ (r : Anchor) (xs : List PreparedHalfspace) (w : ℕ) (ys : List Prepare
     search_outside e f v p = (
       (o v p).stored,
       (o v p).stores,
-      λ t k. sym (with_first v p t k (stays_outside (anchor_is r) (here v p).sound k (sym e ∙ f))) ∙ meet_outside (convex_class (o v p).stored t),
+      λ t k. sym (with_first v p t k (stays_outside anchor (here v p).sound k (sym e ∙ f))) ∙ meet_outside (convex_class (o v p).stored t),
     )
 
     -- it does not, and is stored where it is active

@@ -2,7 +2,7 @@
 -- 'Classifying': a convex is outside if one halfspace is, and a full halfspace leaves it as it is, so neither needs to be tested again.
 --   Alike r g h                the regions g and h have the same class for every trixel that is close to r
 --   ActivePrepared xs es a r   for every region that was prepared to xs and es, a has an alike region
---   ActiveListsIn p a          where a has halfspaces, they are those of p that are active beside its anchor
+--   ActiveListsIn p a          the anchor of a is one, and where a has halfspaces, they are those of p that are active beside it
 --   ByActive t m a             the class of t is that by the active halfspaces
 --   Stores w u ys ys'          the halfspaces of u were stored from number w on; 32 are the most
 --   ActiveResultOf ..          the result for a convex: it is outside, or the active halfspaces were stored, or they are too many
@@ -21,11 +21,11 @@ use Rattle.classify_prepared.specs.declared.PreparedHalfspace.{PreparedHalfspace
 use Rattle.classify_prepared.specs.declared.prepared_region.HalfspaceLists.{HalfspaceLists}
 use Rattle.classify_active.specs.declared.anchors.Anchor.{Anchor}
 use Rattle.classify_active.specs.declared.ActiveHalfspaces.{ActiveHalfspaces}
-use Rattle.classify_active.specs.declared.NotFew.{NotFew}
+use Rattle.classify_active.specs.declared.NotStored.{NotStored}
 use Rattle.classify.specs.Classes.{convex_class, region_class}
 use Rattle.classify_cap.specs.declared.BoundingCap.{BoundingCap}
 use Rattle.classify.specs.Shape.{positive, volume}
-use Rattle.classify_active.specs.Anchor.{close_to, Close}
+use Rattle.classify_active.specs.Anchor.{IsAnchor, close_to, Close}
 use Rattle.classify_prepared.specs.PreparedLists.{convex_prepared, Prepared, PreparedConvex, RegionAt, join}
 use Rattle.classify_prepared.specs.PreparedRegions.{halfspaces_in, ends_in}
 
@@ -38,8 +38,9 @@ abbrev pub ActivePrepared : List PreparedHalfspace → List ℕ → HalfspaceLis
 ActivePrepared xs es a r = (g : Region) → Prepared g xs es → (h : Region) × Prepared h (halfspaces_in a) (ends_in a) × Alike r g h
 
 -- what goes with a trixel of the cutting: an anchor, and the active halfspaces beside it, if any
-abbrev pub ActiveListsIn : HalfspaceLists 512 64 → ActiveHalfspaces → Type 0
-ActiveListsIn p a = 0 < a.lists.count → ActivePrepared (halfspaces_in p) (ends_in p) a.lists a.anchor
+pub record ActiveListsIn (p : HalfspaceLists 512 64) (a : ActiveHalfspaces) : Type 0 where
+  pub anchor : IsAnchor a.anchor
+  pub active : 0 < a.lists.count → ActivePrepared (halfspaces_in p) (ends_in p) a.lists a.anchor
 
 -- there are active halfspaces, and t, with the bounding cap m, is close to their anchor
 pub record ByActive (t : Trixel) (m : BoundingCap) (a : ActiveHalfspaces) : Type 0 where
@@ -54,12 +55,12 @@ pub record Stores (w : ℕ) (u : Convex) (ys ys' : List PreparedHalfspace) : Typ
   pub small : w + length u ≤ 32
   pub list : ys' ≡ put w (convex_prepared u) ys
 
-abbrev pub ActiveResultOf : Anchor → Convex → ℕ → List PreparedHalfspace → List PreparedHalfspace → Result (Option ℕ) NotFew → Type 0
+abbrev pub ActiveResultOf : Anchor → Convex → ℕ → List PreparedHalfspace → List PreparedHalfspace → Result (Option ℕ) NotStored → Type 0
 ActiveResultOf r v w ys ys' (Ok None) = (u : Convex) × Stores w u ys ys' × ((t : Trixel) → Close r t → convex_class v t ≡ Outside)
 ActiveResultOf r v w ys ys' (Ok (Some m)) = (u : Convex) × Stores w u ys ys' × (m ≡ w + length u) × ((t : Trixel) → Close r t → convex_class v t ≡ convex_class u t)
 ActiveResultOf r v w ys ys' (Err e) = (u : Convex) × Stores w u ys ys'
 
-abbrev pub ActiveConvex : Anchor → List PreparedHalfspace → ℕ → List PreparedHalfspace → List PreparedHalfspace → Result (Option ℕ) NotFew → Type 0
+abbrev pub ActiveConvex : Anchor → List PreparedHalfspace → ℕ → List PreparedHalfspace → List PreparedHalfspace → Result (Option ℕ) NotStored → Type 0
 ActiveConvex r xs w ys ys' o = (v : Convex) → PreparedConvex v xs → ActiveResultOf r v w ys ys' o
 
 abbrev pub active_stored_count : Class → ℕ → ℕ

@@ -28,10 +28,6 @@ pub record IsAnchor (r : Anchor) : Type 0 where
   pub reach : Upto Kℕ r.reach
   pub margin : Upto (2 ^ 44) r.margin
 
--- the invariant of an anchor says so
-pub anchor_is : (r : Anchor) → IsAnchor r
-anchor_is r = record { b = r.small; reach = r.reach_within; margin = r.margin_within }
-
 abbrev pub steps_to : Anchor → Vec3 → CapReach → ℕ
 steps_to r b c = nat_abs (b.x -ℤ r.b.x) + nat_abs (b.y -ℤ r.b.y) + nat_abs (b.z -ℤ r.b.z) + 2 * nat_abs (c.reach -ℤ r.reach)
 

@@ -7,6 +7,7 @@ ghost use Rattle.classify_prepared.specs.Measures.{RaysOf};
 ghost use Rattle.classify_cap.specs.Middle.{IsBoundingCap};
 ghost use Rattle.classify_prepared.specs.PreparedLists.{Ready, ReadyConvex};
 ghost use Rattle.classify_prepared.specs.PreparedRegions.{halfspaces_in, ends_in, ReadyRegion, ClassedBy};
+ghost use Rattle.classify_active.specs.Anchor.{IsAnchor};
 ghost use Rattle.classify_active.specs.Active.{ActivePrepared, ActiveListsIn, ByActive, ActiveConvex, AddedConvex, active_stored_count, active_stored_list};
 
 use crate::anchors::Anchor;
@@ -17,14 +18,17 @@ use classify_prepared::{PreparedHalfspace, TrixelRays};
 use mesh::Trixel;
 use vector::Vec3;
 
-pub mod anchor;
 pub mod anchors;
+pub mod settling;
 
 // So many active halfspaces are stored at most.
 const ACTIVE_CAPACITY: usize = 32;
 
 // The halfspaces that are active beside an anchor; none where none are known.
-#[derive(Drop)]
+// Kept: no Option of the lists, as a level has them on its stack and fills them there, and `ActiveListsIn` of specs/Active speaks of their count.
+// Kept: `ActiveListsIn` is a clause, as it is of these lists and of the region beside them: the region is lent on to the last level, and each level that finds
+// lists lends those of its own; a struct of both would still ask `ReadyRegion` of its region.
+#[derive(Clone, Copy)]
 pub struct ActiveHalfspaces {
     pub lists: HalfspaceLists<ACTIVE_CAPACITY, ACTIVE_CAPACITY>,
     pub anchor: Anchor,
@@ -32,9 +36,10 @@ pub struct ActiveHalfspaces {
 
 // The active halfspaces of a convex are more than are stored, or there are none: it is full.
 #[derive(Clone, Copy)]
-pub struct NotFew;
+pub struct NotStored;
 
 // A halfspace of class c is stored as number w where it is active, that is partial. The result is how many are stored then.
+// Kept: a buffer and a count, as the list is filled in place and its rest keeps what it has, of which `active_stored_list` of specs/Active speaks.
 fn store_active(active: &mut [PreparedHalfspace], w: usize, q: PreparedHalfspace, c: Class) -> usize
     requires { w < length active.old }
     ensures value { result ≡ active_stored_count c w }
@@ -52,13 +57,15 @@ fn store_active(active: &mut [PreparedHalfspace], w: usize, q: PreparedHalfspace
 
 // The active halfspaces of a convex, stored from number w on; `most` are the most that are stored. The result is how many are stored then, or None where
 // the convex is outside.
+// Kept: `ReadyConvex` is a clause, as a convex is a part of a lent list, and no struct that could have a ghost field.
 fn active_in_convex(
     r: Anchor,
     convex: &[PreparedHalfspace],
     active: &mut [PreparedHalfspace],
     w: usize,
     most: usize,
-) -> Result<Option<usize>, NotFew>
+) -> Result<Option<usize>, NotStored>
+    requires anchor { IsAnchor r }
     requires few { (w ≤ 32) × (length active.old ≡ 32) × (most ≤ 32) }
     requires ready { ReadyConvex convex.now }
     ensures { ActiveConvex r convex.now w active.old active.new result }
@@ -66,9 +73,9 @@ fn active_in_convex(
     let mut m = w;
     for q in convex {
         if most <= m {
-            return Err(NotFew);
+            return Err(NotStored);
         }
-        let c = crate::anchor::settled_class(*q, r);
+        let c = crate::settling::settled_class(*q, r);
         if c == Class::Outside {
             return Ok(None);
         }
@@ -83,7 +90,8 @@ fn add_convex(
     convex: &[PreparedHalfspace],
     active: &mut HalfspaceLists<ACTIVE_CAPACITY, ACTIVE_CAPACITY>,
     most: usize,
-) -> Result<(), NotFew>
+) -> Result<(), NotStored>
+    requires anchor { IsAnchor r }
     requires few { most ≤ 32 }
     requires ready { ReadyConvex convex.now × ReadyRegion active.old }
     ensures { IfOk result (λ _. AddedConvex r convex.now active.old active.new) }
@@ -93,7 +101,7 @@ fn add_convex(
         return Ok(());
     };
     if m <= w {
-        return Err(NotFew);
+        return Err(NotStored);
     }
     active.ends[active.convexes] = m;
     active.convexes += 1;
@@ -108,7 +116,8 @@ fn active_in_region(
     ends: &[usize],
     active: &mut HalfspaceLists<ACTIVE_CAPACITY, ACTIVE_CAPACITY>,
     most: usize,
-) -> Result<(), NotFew>
+) -> Result<(), NotStored>
+    requires anchor { IsAnchor r }
     requires none { (active.old.count ≡ 0) × (active.old.convexes ≡ 0) × (most ≤ 32) }
     requires ready { Ready halfspaces.now ends.now }
     ensures { IfOk result (λ _. ActivePrepared halfspaces.now ends.now active.new r) }
@@ -128,22 +137,24 @@ fn active_limit(n: usize) -> usize
     (n / 3).min(ACTIVE_CAPACITY)
 }
 
-// No halfspaces are known to be active.
-pub fn none_active() -> ActiveHalfspaces
-    ensures { result.lists.count ≡ 0 }
-{
-    ActiveHalfspaces {
-        lists: HalfspaceLists {
-            halfspaces: [classify_prepared::NO_HALFSPACE; ACTIVE_CAPACITY],
-            ends: [0; ACTIVE_CAPACITY],
-            count: 0,
-            convexes: 0,
-        },
-        anchor: Anchor {
-            b: Vec3 { x: 0, y: 0, z: 0 },
-            reach: 0,
-            margin: 0,
-        },
+impl Default for ActiveHalfspaces {
+    ghost is_default = { λ a. (a.lists.count ≡ 0) × IsAnchor a.anchor };
+
+    // No halfspaces are known to be active.
+    fn default() -> Self {
+        ActiveHalfspaces {
+            lists: HalfspaceLists {
+                halfspaces: [classify_prepared::NO_HALFSPACE; ACTIVE_CAPACITY],
+                ends: [0; ACTIVE_CAPACITY],
+                count: 0,
+                convexes: 0,
+            },
+            anchor: Anchor {
+                b: Vec3 { x: 0, y: 0, z: 0 },
+                reach: 0,
+                margin: 0,
+            },
+        }
     }
 }
 
@@ -158,10 +169,9 @@ pub fn find_active(
     requires ready { ReadyRegion region.now }
     ensures { ActiveListsIn region.now active.new }
 {
-    let r = crate::anchor::anchor_of(t, classify_cap::cap_of(t, classify_cap::middle_of(t), s));
+    let r = crate::settling::anchor_of(t, classify_cap::cap_of(t, classify_cap::middle_of(t), s));
     active.anchor = r;
-    active.lists.count = 0;
-    active.lists.convexes = 0;
+    active.lists.clear();
     let found = active_in_region(
         r,
         region.halfspaces(),
@@ -170,17 +180,17 @@ pub fn find_active(
         active_limit(region.count),
     );
     if found.is_err() {
-        active.lists.count = 0;
-        active.lists.convexes = 0;
+        active.lists.clear();
     }
 }
 
 // Whether the class of t is that by the active halfspaces: there are some, and t is close to their anchor.
 fn by_active(t: &Trixel, s: TrixelRays, m: BoundingCap, active: &ActiveHalfspaces) -> bool
     requires rays_of { RaysOf t.now s × IsBoundingCap t.now m }
+    requires anchor { IsAnchor active.now.anchor }
     ensures { result ≡ true → ByActive t.now m active.now }
 {
-    0 < active.lists.count && s.oriented && crate::anchor::is_close(active.anchor, t, m)
+    !active.lists.is_empty() && s.oriented && crate::settling::is_close(active.anchor, t, m)
 }
 
 // The class of a trixel for a region: by the active halfspaces beside an anchor where there are some and the trixel is close.
@@ -238,5 +248,5 @@ pub fn class_beside(
 
 // Whether to look for active halfspaces: the region has many halfspaces, and none is known to be active.
 pub fn wants_active(region: &PreparedRegion, active: &ActiveHalfspaces) -> bool {
-    FEW < region.count && active.lists.count == 0
+    FEW < region.count && active.lists.is_empty()
 }

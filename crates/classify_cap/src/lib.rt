@@ -17,8 +17,11 @@ use classify_prepared::TrixelRays;
 use mesh::Trixel;
 use vector::Vec3;
 
+pub mod bisection;
 pub mod reach;
 
+// The clearance where no halfspace is settled: nothing is beyond it.
+// Kept: a number and no Option, as `clearance_of` of specs/Middle gives one, so that `far`, `encloses` and `is_close` compare once and match nothing.
 const NEVER: i64 = 4611686018427387904;
 
 // Twice K: a clearance is so many times a number that is above the root of the rest.
@@ -33,7 +36,7 @@ pub struct CapReach {
 }
 
 // The middle b of a trixel, and where it is ahead of the rays how far it reaches.
-// Kept: `IsBoundingCap` is a clause, as it is of the cap and of the trixel that is lent beside it.
+// Kept: `IsBoundingCap` is a clause, as `RaysOf` is (classify_prepared): a trixel in the cap would have to be that of the rays beside it, by a clause again.
 #[derive(Clone, Copy)]
 pub struct BoundingCap {
     pub b: Vec3,
@@ -53,15 +56,13 @@ pub fn middle_of(t: &Trixel) -> Vec3
 fn root_above(s: u64) -> u64
     ensures { result ≡ root_above s }
 {
-    let mut r: u64 = 256;
-    // Kept: the numbers double, and `root_above` of specs/Middle counts them so; no library method does.
-    while r < TWO_K {
+    for k in 8..21u64 {
+        let r = 1u64 << k;
         if s < r * r {
             return r;
         }
-        r = 2 * r;
     }
-    r
+    TWO_K
 }
 
 // The bound beyond which every halfspace is settled, for the rest b·b − E² and E: 2^21 times a number whose square is not below the rest. It is out of

@@ -20,11 +20,11 @@ const UPPER_K_SQUARE: u64 = K_SQUARE / 1024;
 
 const NEAR: u64 = 16 * K;
 
+// Kept: as in lib.rt, where it is a factor of the clearance: this is what a root is divided by, and the edit near_root_underflow is of it.
 const TWO_K: u64 = 2 * K;
 
-const UP_TO_TWO_K: u64 = TWO_K - 1;
-
 // What a product with a ray is divided by before it is squared.
+// Kept: the like of UPPER in classify_rays, whose filter must be right: this is of a guess, which is tested, and might be another number.
 const UPPER: u64 = 2147483648;
 
 // The products of a middle with the rays of a trixel, beside the rays.
@@ -84,22 +84,15 @@ pub fn reaches_all(p: &RayProducts, n: u64) -> bool
 fn near_top(p: &RayProducts) -> Span
     ensures { Spanned p.now.x0 p.now.x1 p.now.x2 p.now.s.now result.low result.high }
 {
-    if reaches_all(p, K - 1) {
-        return Span {
-            low: K - 1,
-            high: K + 1,
-        };
+    let mut high = K + 1;
+    for step in 1..3 {
+        let n = K - step;
+        if reaches_all(p, n) {
+            return Span { low: n, high };
+        }
+        high = n;
     }
-    if reaches_all(p, K - 2) {
-        return Span {
-            low: K - 2,
-            high: K - 1,
-        };
-    }
-    Span {
-        low: 0,
-        high: K - 2,
-    }
+    Span { low: 0, high }
 }
 
 // A span, narrowed by a test at n where n is in it.
@@ -129,18 +122,7 @@ fn bisected(p: &RayProducts, span: Span) -> u64
     ensures value { result ≡ greatest_reach p.now.x0 p.now.x1 p.now.x2 p.now.s.now }
     ensures upper_bound { result ≤ Kℕ }
 {
-    let mut low = span.low;
-    let mut high = span.high;
-    // Kept: a bisection of numbers; the library has one of slices only (`partition_point`).
-    while low + 1 < high {
-        let middle = (low + high) / 2;
-        if reaches_all(p, middle) {
-            low = middle;
-        } else {
-            high = middle;
-        }
-    }
-    low
+    crate::bisection::bisect(span.low, span.high, |n| reaches_all(p, n))
 }
 
 // Whether r lies on an axis and is 2^40 long, as a ray of a root: then its largest component is also the sum of all three.
@@ -149,7 +131,7 @@ fn on_axis(r: Vec3) -> bool
     ensures { result ≡ true → nat_abs (vectors.dot r r) ≡ 2 ^ 80 }
 {
     vector_units::largest(r) == K_SQUARE
-        && vector_units::size(r.x) + vector_units::size(r.y) + vector_units::size(r.z) == K_SQUARE
+        && r.x.unsigned_abs() + r.y.unsigned_abs() + r.z.unsigned_abs() == K_SQUARE
 }
 
 // Whether all three rays do.
@@ -177,7 +159,7 @@ fn near_root(q: u64) -> u64
 {
     let e = UPPER_K_SQUARE - q;
     let f = e / 2048;
-    let n = K - (1024 * e + f * f + UP_TO_TWO_K) / TWO_K;
+    let n = K - (1024 * e + f * f).div_ceil(TWO_K);
     if e < NEAR {
         return n;
     }

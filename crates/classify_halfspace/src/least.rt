@@ -45,18 +45,7 @@ fn least_far(h: &FarTest, low: u64, high: u64) -> u64
     requires far { far_by h.now.low h.now.rest h.now.along h.now.square high ≡ true }
     ensures { LeastFar h.now.low h.now.rest h.now.along h.now.square result }
 {
-    let mut below = low;
-    let mut n = high;
-    // Kept: a bisection of numbers; the library has one of slices only (`partition_point`).
-    while below + 1 < n {
-        let middle = (below + n) / 2;
-        if far_at(h, middle) {
-            n = middle;
-        } else {
-            below = middle;
-        }
-    }
-    n
+    classify_cap::bisection::bisect(low, high, |n| !far_at(h, n)) + 1
 }
 
 // Whether f is far at E, where it is far at K: by steps down from K, each four times the one before, until f is not far, or the number is reached.
@@ -65,10 +54,8 @@ fn far_down(h: &FarTest, p: &RayProducts) -> bool
     ensures { result ≡ far_by h.now.low h.now.rest h.now.along h.now.square (greatest_reach p.now.x0 p.now.x1 p.now.x2 p.now.s.now) }
 {
     let mut high = K;
-    let mut step: u64 = 1;
-    // Kept: the steps are four times the one before, which no range of the library gives.
-    while step < K {
-        let n = K - step;
+    for k in 0..10u64 {
+        let n = K - (1u64 << (2 * k));
         if !far_at(h, n) {
             return classify_cap::reach::reaches_all(p, least_far(h, n, high));
         }
@@ -76,7 +63,6 @@ fn far_down(h: &FarTest, p: &RayProducts) -> bool
             return true;
         }
         high = n;
-        step = 4 * step;
     }
     far_at(h, 0) || classify_cap::reach::reaches_all(p, least_far(h, 0, high))
 }

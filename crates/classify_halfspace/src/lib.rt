@@ -34,6 +34,7 @@ fn square_passes_exactly(m: u64, p: u64, q: u64) -> bool
 
 // Whether m² > p q. It is so for a large m; else, with a = m / 2^10, u = p / 2^10 and v = q / 2^10, it is sure where (u + 1)(v + 1) ≤ a², and sure
 // not to be where (a + 1)² ≤ u v.
+// Kept: two tests as in `filtered` of classify_rays; one function of both would take the two bounds of three numbers, and be no shorter.
 fn square_passes(m: u64, p: u64, q: u64) -> bool
     requires { (p ≤ 3 * 2 ^ 40) × (q ≤ 3 * 2 ^ 40) }
     ensures { result ≡ ltb (p * q) (m * m) }

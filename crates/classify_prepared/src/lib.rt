@@ -18,8 +18,8 @@ use limits::UNSIGNED_K as K;
 use mesh::Trixel;
 use vector::Vec3;
 
-pub mod lists;
 pub mod prepared_region;
+pub mod preparing;
 
 // A halfspace prepared for classifying: f and d, D as `low`, G as `high`, and f·f − D² as `rest`.
 // Kept: `SoundHalfspace` is a clause and no invariant: the rule `prepared` makes one of any halfspace, good or not, and the lists begin with NO_HALFSPACE.
@@ -42,6 +42,8 @@ pub const NO_HALFSPACE: PreparedHalfspace = PreparedHalfspace {
 };
 
 // A ray r, and its height, which is near (r·r) / 2^52.
+// Kept: that a ray has its own height, and its size, are clauses (`IsRay`), as `spanned_is` and `axes_reach` of classify_cap and `by_least` of
+// classify_halfspace speak of rays with any height.
 #[derive(Clone, Copy)]
 pub struct Ray {
     pub r: Vec3,
@@ -49,7 +51,8 @@ pub struct Ray {
 }
 
 // The rays of a trixel, and whether V > 0.
-// Kept: `RaysOf` is a clause, as it is of the rays and of the trixel that is lent beside them.
+// Kept: `RaysOf` is a clause: `classify_one` takes a trixel, its rays and its cap, and with a trixel in the rays and in the cap, that both have the same one
+// would be a clause in its place.
 #[derive(Clone, Copy)]
 pub struct TrixelRays {
     pub r0: Ray,
@@ -92,7 +95,7 @@ pub fn prepared(n: Vec3, d: i64) -> PreparedHalfspace
     ensures { result ≡ rule.prepared (halfspace_from n d) }
 {
     let f = turned(n, d);
-    let e = vector_units::size(d);
+    let e = d.unsigned_abs();
     let low = low_of(e);
     PreparedHalfspace {
         f: f,
@@ -108,7 +111,7 @@ fn upper_square(a: i64) -> u64
     requires { Upto (2 ^ 41) a }
     ensures { (result ≡ upper_square a) × (result ≤ 2 ^ 62) }
 {
-    let n = vector_units::size(a) / 1024;
+    let n = a.unsigned_abs() / 1024;
     n * n
 }
 

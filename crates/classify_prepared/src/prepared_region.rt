@@ -1,5 +1,5 @@
 // Prepared halfspaces of a region. What they are stands in specs/PreparedLists.
-ghost use Rattle.std.specs.Prelude.{◌≡◌, ◌≤◌, take};
+ghost use Rattle.std.specs.Prelude.{◌≡◌, ◌≤◌, ◌↔◌, IsTrue, take};
 
 use crate::PreparedHalfspace;
 use limits::{CONVEXES, HALFSPACES};
@@ -7,7 +7,8 @@ use limits::{CONVEXES, HALFSPACES};
 // The halfspaces of a region, prepared, convex after convex, and for each convex the number of halfspaces before its end. There is room for H halfspaces
 // in C convexes; places behind the counts are not used.
 // Kept: that some region was prepared to the lists is a clause, `ReadyRegion`: a ghost field tells only that there is one, and callees ask for its halfspaces.
-#[derive(Drop)]
+// Kept: arrays with counts, and no Vec: nothing is allocated (docs/C.md), and each level of the cutting that finds halfspaces has its lists on the stack.
+#[derive(Clone, Copy)]
 pub struct HalfspaceLists<const H: usize, const C: usize> {
     pub halfspaces: [PreparedHalfspace; H],
     pub ends: [usize; C],
@@ -30,6 +31,22 @@ impl<const H: usize, const C: usize> HalfspaceLists<H, C> {
         ensures { result.now ≡ take self.now.convexes self.now.ends }
     {
         &self.ends[..self.convexes]
+    }
+
+    // Whether there is no halfspace.
+    pub fn is_empty(&self) -> bool
+        ensures { IsTrue result ↔ (self.now.count ≡ 0) }
+    {
+        self.count == 0
+    }
+
+    // Takes all halfspaces out. What stood in their places stays there.
+    pub fn clear(&mut self)
+        ensures counts { (self.new.count ≡ 0) × (self.new.convexes ≡ 0) }
+        ensures places { (self.new.halfspaces ≡ self.old.halfspaces) × (self.new.ends ≡ self.old.ends) }
+    {
+        self.count = 0;
+        self.convexes = 0;
     }
 }
 

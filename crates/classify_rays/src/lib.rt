@@ -16,6 +16,7 @@ use vector::Vec3;
 use wide::Wide;
 
 // How many of the three rays of a trixel pass.
+// Kept: None, Some and All, as the edit passed_none_is_some and `passed_of` of specs/Rays name them; no Option, as there are three.
 #[derive(Clone, Copy)]
 pub enum Passed {
     None,
@@ -44,7 +45,7 @@ fn squared(a: i64) -> Wide
     requires { Upto (2 ^ 41) a }
     ensures { (value_of result ≡ nat_abs a * nat_abs a) × (value_of result ≤ 2 ^ 82) }
 {
-    let n = vector_units::size(a);
+    let n = a.unsigned_abs();
     wide::product(n, n)
 }
 
@@ -72,6 +73,7 @@ const UPPER: u64 = 2147483648;
 
 // Whether x² ≥ g² (r·r) for the ray r of height h, where a filter is sure. With p = g² / 2^10 and q = x / 2^31 it is so where (p + 1)(h + 5) ≤ q², and not so
 // where (q + 1)² ≤ p h.
+// Kept: two tests as in `square_passes` of classify_halfspace; one function of both would take the two bounds of three numbers, and be no shorter.
 fn filtered(x: u64, h: u64, g: u64) -> Option<bool>
     requires { (x ≤ 3 * 2 ^ 61) × (g ≤ 2 ^ 21) × (h + 5 < 2 ^ 32) }
     ensures { result ≡ filter_reach x h g }
@@ -110,7 +112,7 @@ fn passes(f: Vec3, g: i64, y: Ray) -> bool
     if x <= 0 {
         return false;
     }
-    reaches(x as u64, y, vector_units::size(g))
+    reaches(x as u64, y, g.unsigned_abs())
 }
 
 // Whether all rays of a trixel pass: the next is tried where those before it do.

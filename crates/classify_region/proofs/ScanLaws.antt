@@ -3,10 +3,10 @@
 use Prim.Native.Nat.{ℕ, suc, ◌+◌, ◌-◌, ◌≤◌, ◌<◌}
 use native.Mathlib.Omega.{arith}
 use mathlib.Core.Path.{◌≡◌, refl, sym, ap, subst, ◌∙◌}
-use mathlib.Core.Bool.{Bool, true, false, cond, ◌&&◌, ◌||◌}
+use mathlib.Core.Bool.{Bool, true, false, false≢true, cond, ◌&&◌, ◌||◌}
 use mathlib.Core.List.{List, [], ◌∷◌, ◌++◌, append-nil}
 use lib.ListN.{length, get_or, take, drop, length-drop, length-append}
-use lib.Seq.{drop-cons, drop-drop, take_at, drop_at}
+use lib.Seq.{drop-length, drop-cons, drop-drop, take_at, drop_at}
 use Rattle.std.specs.Ordering.{ord_min, ord_max}
 use Rattle.algebra.specs.Lists.{every, some}
 use Rattle.algebra.proofs.Tests.{and_left, and_right}
@@ -15,7 +15,7 @@ use Rattle.mesh.specs.declared.Trixel.{Trixel}
 use Rattle.region.specs.declared.Halfspace.{Halfspace}
 use Rattle.region.specs.Regions.{Convex, Region}
 use Rattle.region.specs.Building.{total, is_offset}
-use Rattle.region.proofs.GoodRegions.{good_halfspace, good}
+use Rattle.region.proofs.GoodRegions.{good_halfspace, good_convex}
 use Rattle.region.proofs.FilledLaws.{Filled}
 use Rattle.classify.specs.declared.Class.{Class}
 use Rattle.classify.specs.declared.Class.TheVariants.{Outside, Partial, Full}
@@ -52,6 +52,16 @@ max_is_join Partial Full = refl
 max_is_join Full Outside = refl
 max_is_join Full Partial = refl
 max_is_join Full Full = refl
+
+pub outside_is : (c : Class) → is_outside c ≡ true → c ≡ Outside
+outside_is Outside e = refl
+outside_is Partial e = absurd (false≢true e)
+outside_is Full e = absurd (false≢true e)
+
+pub full_is : (c : Class) → is_full c ≡ true → c ≡ Full
+full_is Outside e = absurd (false≢true e)
+full_is Partial e = absurd (false≢true e)
+full_is Full e = refl
 
 pub meet_assoc : (a b c : Class) → meet (meet a b) c ≡ meet a (meet b c)
 meet_assoc Outside b c = refl
@@ -274,6 +284,15 @@ module _ (t : Trixel) (xs : List PreparedHalfspace) where
   exhausted {j} {a} o h v p =
       let s = o v p in
       sym (meet_full a) ∙ ap (meet a) (sym (convex_end s.left (drop j xs) s.at (omega (arith, length-drop j xs)) t)) ∙ s.class
+
+  -- the class of all of it is that of a scan that is at its end
+  pub at_end : {a : Class} → ClassedConvex t xs a → InConvex (length xs) a
+  unfolding convex_prepared good_convex every
+  at_end {a} f v p = record {
+    left = [];
+    at = record { good = refl; halfspaces = drop-length xs };
+    class = ap (meet a) (no_convex [] t refl) ∙ meet_full a ∙ f v p;
+  }
 
   -- the trixel is outside of it, whatever is left
   pub convex_left_out : {j : ℕ} {a : Class} → InConvex j a → a ≡ Outside → ClassedConvex t xs a

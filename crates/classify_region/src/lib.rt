@@ -4,6 +4,7 @@
 
 ghost use Rattle.std.specs.Prelude.{◌≡◌};
 ghost use Rattle.mesh_trixels.specs.Corners.{SmallTrixel};
+ghost use Rattle.classify.specs.Classes.{is_outside, is_full};
 ghost use Rattle.classify_prepared.specs.Measures.{RaysOf};
 ghost use Rattle.classify_cap.specs.Middle.{IsBoundingCap};
 ghost use Rattle.classify_prepared.specs.PreparedLists.{Ready, Classed, ReadyConvex, ClassedConvex};
@@ -12,6 +13,27 @@ use classify::Class;
 use classify_cap::BoundingCap;
 use classify_prepared::{PreparedHalfspace, TrixelRays};
 use mesh::Trixel;
+
+// Whether a class is outside.
+// Kept: a match, as the edit scan_outside_goes_on is of one of its arms; so in `is_full`, whose edit is scan_full_not_settled.
+fn is_outside(c: Class) -> bool
+    ensures { result ≡ is_outside c }
+{
+    match c {
+        Class::Outside => true,
+        Class::Partial | Class::Full => false,
+    }
+}
+
+// Whether a class is full.
+fn is_full(c: Class) -> bool
+    ensures { result ≡ is_full c }
+{
+    match c {
+        Class::Outside | Class::Partial => false,
+        Class::Full => true,
+    }
+}
 
 // The class of a trixel for the region whose halfspaces and ends of convexes these are. The scan of a convex ends at its first halfspace that leaves the
 // trixel outside, that of the region at its first full convex.
@@ -32,12 +54,12 @@ pub fn classify_convexes(
         let mut class = Class::Full;
         'halfspaces: for q in &halfspaces[start..end] {
             class = class.min(classify_halfspace::classify_one(t, s, m, *q));
-            if class == Class::Outside {
+            if is_outside(class) {
                 break 'halfspaces;
             }
         }
         settled = settled.max(class);
-        if settled == Class::Full {
+        if is_full(settled) {
             break 'convexes;
         }
         start = end;
@@ -46,6 +68,7 @@ pub fn classify_convexes(
 }
 
 // The class for a convex, by the rays first: where a region is one convex of few halfspaces that is quicker than a bounding cap for every trixel.
+// Kept: a loop as in `classify_convexes`; tried as one function over a closure, and what its call asks, of a trixel that is lent to it, did not close.
 pub fn classify_few(t: &Trixel, s: TrixelRays, halfspaces: &[PreparedHalfspace]) -> Class
     requires rays_of { RaysOf t.now s × SmallTrixel t.now }
     requires ready { ReadyConvex halfspaces.now }
@@ -54,7 +77,7 @@ pub fn classify_few(t: &Trixel, s: TrixelRays, halfspaces: &[PreparedHalfspace])
     let mut class = Class::Full;
     for q in halfspaces {
         class = class.min(classify_halfspace::classify_by_rays(t, s, *q));
-        if class == Class::Outside {
+        if is_outside(class) {
             return class;
         }
     }

@@ -16,7 +16,7 @@ use Rattle.std.specs.Simd.{first_chunks}
 use lib.Pointwise.{pointwise}
 use Rattle.std.proofs.lemmas.Bool.Decides.{Decides-eqb}
 use Rattle.std.proofs.lemmas.Slice.Eq.{slice_eq-Decides}
-use Rattle.command_words.specs.Files.{hex_value, is_hex, is_no_bytes, up_to_capacity, FileCapacity, bytes_in, FileDigits, past, grown, line_with, BytePushed, ByteStored}
+use Rattle.command_words.specs.Files.{hex_value, is_hex, is_no_bytes, up_to_capacity, FileCapacity, bytes_in, FileDigits, past, grown, line_with, BytePushed, ByteAppended}
 use Rattle.command_words.proofs.NumberLaws.{and_false}
 
 -- ---- how many bytes a word writes
@@ -141,20 +141,20 @@ module _ (p n b : ℕ) (line : List ℕ) (within : n ≤ length line) where
   length_pushed : length (stored ++ (b ∷ [])) ≡ n + 1
   length_pushed = simp (length-append, length-take-le n line within)
 
-  stored_pushed : {after : List ℕ} {r : ℕ} {q : Option ℕ} → line_with q stored b ≡ stored ++ (b ∷ []) → BytePushed n b line after r → ByteStored q n b line after r
+  stored_pushed : {after : List ℕ} {r q : Option ℕ} → line_with q stored b ≡ stored ++ (b ∷ []) → BytePushed n b line after r → ByteAppended q n b line after r
   stored_pushed {after} {r} {q} one done =
       let long : length (line_with q stored b) ≡ n + 1 = ap length one ∙ length_pushed in
       record {
-        fits = λ _ k.
+        fits = λ k.
             let new = done.fits (omega arith) in
-            simp (new.0, new.1, one) (subst (λ (m : ℕ). take m (set line n b) ≡ stored ++ (b ∷ [])) (sym (add-one n)) (take-suc-set line n b (omega arith)));
-        exact = λ _ k. let new = done.fits (omega arith) in new.0 ∙ sym long;
-        full = λ k. let new = done.full (omega arith) in omega (arith, new.0);
-        over = λ k. absurd (omega arith);
+            let all : take (n + 1) (set line n b) ≡ stored ++ (b ∷ []) = rw (add-one n) (take-suc-set line n b (omega arith)) in
+            ap (λ (m : ℕ). take m after) long ∙ ap (λ (w : List ℕ). take (n + 1) w) new.1 ∙ all ∙ sym one;
+        exact = λ k. let new = done.fits (omega arith) in new.0 ∙ ap (λ (m : ℕ). Some m) (sym long);
+        full = λ k. let new = done.full (omega arith) in new.0;
       }
 
   -- with no file
-  pub plain : {after : List ℕ} {r : ℕ} → BytePushed n b line after r → ByteStored None n b line after r
+  pub plain : {after : List ℕ} {r : Option ℕ} → BytePushed n b line after r → ByteAppended None n b line after r
   plain done = stored_pushed refl done
 
   word_length : length word ≡ n - p
@@ -179,37 +179,35 @@ module _ (p n b : ℕ) (line : List ℕ) (within : n ≤ length line) where
   line_dropped h e =
       ap (λ (w : List ℕ). take p stored ++ w) e ∙ sym (take-add p FileDigits stored) ∙ take-take (p + FileDigits) n line h
 
-  stored_other : p < n → grown word b ≡ set word 0 b → ByteStored (Some p) n b line (set line p b) n
+  stored_other : p < n → grown word b ≡ set word 0 b → ByteAppended (Some p) n b line (set line p b) (Some n)
   stored_other h e =
       let one : line_with (Some p) stored b ≡ take n (set line p b) = line_other h e in
       let long : length (line_with (Some p) stored b) ≡ n = ap length one ∙ length-take-le n (set line p b) (simp length-set within) in
       record {
-        fits = λ _ k. sym one;
-        exact = λ _ k. sym long;
+        fits = λ k. ap (λ (m : ℕ). take m (set line p b)) long ∙ sym one;
+        exact = λ k. ap (λ (m : ℕ). Some m) (sym long);
         full = λ k. absurd (omega arith);
-        over = λ k. absurd (omega arith);
       }
 
-  stored_dropped : p + FileDigits ≤ n → grown word b ≡ take FileDigits word → ByteStored (Some p) n b line line (p + FileDigits)
+  stored_dropped : p + FileDigits ≤ n → grown word b ≡ take FileDigits word → ByteAppended (Some p) n b line line (Some (p + FileDigits))
   stored_dropped h e =
       let one : line_with (Some p) stored b ≡ take (p + FileDigits) line = line_dropped h e in
       let long : length (line_with (Some p) stored b) ≡ p + FileDigits = ap length one ∙ length-take-le (p + FileDigits) line (omega arith) in
       record {
-        fits = λ _ k. sym one;
-        exact = λ _ k. sym long;
+        fits = λ k. ap (λ (m : ℕ). take m line) long ∙ sym one;
+        exact = λ k. ap (λ (m : ℕ). Some m) (sym long);
         full = λ k. absurd (omega arith);
-        over = λ k. absurd (omega arith);
       }
 
-  pub short : {after : List ℕ} {r : ℕ} → n - p < FileDigits → BytePushed n b line after r → ByteStored (Some p) n b line after r
+  pub short : {after : List ℕ} {r : Option ℕ} → n - p < FileDigits → BytePushed n b line after r → ByteAppended (Some p) n b line after r
   short h done = stored_pushed (line_pushed (grown_short word b (omega (arith, word_length)))) done
 
   module _ (far : p + FileDigits ≤ n) where
-    pub other : is_hex b ≡ false → ByteStored (Some p) n b line (set line p b) n
+    pub other : is_hex b ≡ false → ByteAppended (Some p) n b line (set line p b) (Some n)
     other h = stored_other (omega arith) (grown_other word b (omega (arith, word_length)) h)
 
-    pub first_digit : {after : List ℕ} {r : ℕ} → n - p ≤ FileDigits → is_hex b ≡ true → BytePushed n b line after r → ByteStored (Some p) n b line after r
+    pub first_digit : {after : List ℕ} {r : Option ℕ} → n - p ≤ FileDigits → is_hex b ≡ true → BytePushed n b line after r → ByteAppended (Some p) n b line after r
     first_digit k h done = stored_pushed (line_pushed (grown_first word b (omega (arith, word_length)) h)) done
 
-    pub second_digit : FileDigits < n - p → is_hex b ≡ true → ByteStored (Some p) n b line line (p + FileDigits)
+    pub second_digit : FileDigits < n - p → is_hex b ≡ true → ByteAppended (Some p) n b line line (Some (p + FileDigits))
     second_digit k h = stored_dropped far (grown_second word b (omega (arith, word_length)) h)

@@ -12,6 +12,7 @@ use lib.Dec.{leb}
 use lib.ListN.{length, get_or, drop}
 use lib.Seq.{drop-cons, drop-length}
 use Rattle.std.specs.Prelude.{Option, Some, None}
+use Rattle.std.specs.Bool.{then_some}
 use Rattle.std.specs.Int.{IsInRange, IsOutOfRange}
 use Rattle.std.proofs.lemmas.Bool.Decides.{nat_tests}
 use Rattle.command_words.specs.Numbers.{is_digit, digits, value_from, provided, natural_from, UpTo}
@@ -61,6 +62,10 @@ pub ends : (m n : ℕ) (w : List ℕ) {i : ℕ} → i ≡ length w → n ≤ m �
 unfolding digits value_from
 ends m n w e h = simp (e, drop-length w, le-leb n m h)
 
+some_provided : (t : Bool) (v : ℕ) → then_some t v ≡ provided t v
+some_provided true v = refl
+some_provided false v = refl
+
 -- one digit more
 module _ (m n b : ℕ) where
   pub no_digit : IsOutOfRange 48 57 b → None ≡ natural_from m n (b ∷ [])
@@ -72,12 +77,14 @@ module _ (m n b : ℕ) where
     unfolding digits value_from
     past h = simp (lt-leb _ _ h, and_false)
 
-    pub fits : n * 10 + (b - 48) ≤ m → Some (n * 10 + (b - 48)) ≡ natural_from m n (b ∷ [])
+    -- a number with one digit more, where it keeps to the bound
+    pub fits : {k : ℕ} → k ≡ n * 10 + (b - 48) → then_some (leb k m) k ≡ natural_from m n (b ∷ [])
     unfolding digits value_from
-    fits h =
+    fits e =
         let low : 48 ≤ b = omega (arith, digit) in
         let high : b ≤ 57 = omega (arith, digit) in
-        simp (le-leb _ _ low, le-leb _ _ high, le-leb _ _ h)
+        ap (λ (v : ℕ). then_some (leb v m) v) e
+        ∙ simp (le-leb _ _ low, le-leb _ _ high) (some_provided (leb (n * 10 + (b - 48)) m) (n * 10 + (b - 48)))
 
 -- what was read is at most the bound
 provided_most : (m v : ℕ) (a t : Bool) → leb v m ≡ t → UpTo m (provided (a && t) v)

@@ -10,7 +10,9 @@
 --   stored_of w           what is stored of a whole file
 --   line_with p s b       what is stored of a line with a file from p on, or with none, when s is stored of it and b follows
 --   file_place b p        where the file of a line begins that had one from p on when b follows: nowhere after a blank, which ends it
---   BytePushed, ByteStored   a byte is appended to a list of which n bytes are stored: r are stored then, or r is more than the list can hold
+--   BytePushed, ByteAppended   a byte is appended to a list of which n bytes are stored: so many are stored then as r says, none where the list cannot
+--                        hold them
+--   ByteStored           as above, where n is an Option too: of a line that was too long nothing is stored
 use Rattle.std.specs.Prelude.{ℕ, ◌+◌, ◌-◌, ◌*◌, ◌/◌, ◌≤◌, ◌<◌, ◌≡◌, Bool, cond, ◌&&◌, List, [], ◌∷◌, ◌++◌, leb, eqb, length, get_or, take, drop, set, Option, Some, None}
 use Rattle.std.specs.Borrow.{Bor}
 use Rattle.std.specs.Option.{option_map, is_some}
@@ -72,12 +74,15 @@ NoFile = None
 abbrev pub file_place : ℕ → Option ℕ → Option ℕ
 file_place b p = cond (eqb b 32) NoFile p
 
-pub record BytePushed (n b : ℕ) (line after : List ℕ) (r : ℕ) : Type 0 where
-  pub fits : n < length line → (r ≡ n + 1) × (after ≡ set line n b)
-  pub full : length line ≤ n → (r ≡ length line + 1) × (after ≡ line)
+pub record BytePushed (n b : ℕ) (line after : List ℕ) (r : Option ℕ) : Type 0 where
+  pub fits : n < length line → (r ≡ Some (n + 1)) × (after ≡ set line n b)
+  pub full : length line ≤ n → (r ≡ None) × (after ≡ line)
 
-pub record ByteStored (p : Option ℕ) (n b : ℕ) (line after : List ℕ) (r : ℕ) : Type 0 where
-  pub fits : n ≤ length line → length (line_with p (take n line) b) ≤ length line → take r after ≡ line_with p (take n line) b
-  pub exact : n ≤ length line → length (line_with p (take n line) b) ≤ length line → r ≡ length (line_with p (take n line) b)
-  pub full : length line < length (line_with p (take n line) b) → length line < r
-  pub over : length line < n → length line < r
+pub record ByteAppended (p : Option ℕ) (n b : ℕ) (line after : List ℕ) (r : Option ℕ) : Type 0 where
+  pub fits : length (line_with p (take n line) b) ≤ length line → take (length (line_with p (take n line) b)) after ≡ line_with p (take n line) b
+  pub exact : length (line_with p (take n line) b) ≤ length line → r ≡ Some (length (line_with p (take n line) b))
+  pub full : length line < length (line_with p (take n line) b) → r ≡ None
+
+abbrev pub ByteStored : Option ℕ → Option ℕ → ℕ → List ℕ → List ℕ → Option ℕ → Type 0
+ByteStored p (Some n) b line after r = ByteAppended p n b line after r
+ByteStored p None b line after r = r ≡ None

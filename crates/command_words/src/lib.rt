@@ -1,11 +1,13 @@
 // A command line as it is stored, and its words: numbers, pointings, files and floats in hexadecimal digits, lists of numbers.
 #![tactic(auto)]
 
-ghost use Rattle.std.specs.Prelude.{◌≡◌, [], ◌∷◌, ◌+◌, ◌-◌, ◌<◌, ◌≤◌, length, IfSome};
+ghost use Rattle.std.specs.Prelude.{◌≡◌, [], ◌∷◌, ◌+◌, ◌-◌, ◌^◌, ◌<◌, ◌≤◌, length, IfSome, Some, None};
 ghost use Rattle.std.specs.Iterator.{at_most};
-ghost use Rattle.std.specs.Option.{option_map_or};
+ghost use Rattle.std.specs.Option.{ForSome, OnSome, is_none, option_map, option_map_or};
+ghost use Rattle.std.specs.Result.{result_ok, is_ok, IfOk, OnOk};
 ghost use Rattle.command_words.specs.Numbers.{UpTo, natural_from, natural_in, whole_in};
-ghost use Rattle.command_words.specs.Files.{FileDigits, hex_value, bytes_in, file_length, file_place, BytePushed, ByteStored};
+ghost use Rattle.command_words.specs.Files.{FileDigits, hex_value, bytes_in, file_length, file_place, BytePushed, ByteAppended, ByteStored};
+ghost use Rattle.command_words.specs.Words.{left, blank_in, first_word, after_word, words_in, number_next, whole_next, point_next, file_next};
 
 use limits::MAX_FILE_BYTES;
 use lines::{LINE_FEED, Line};
@@ -31,32 +33,36 @@ const LARGEST_NEGATIVE: u64 = LARGEST + 1;
 // One digit less than a file of FILE_CAPACITY bytes has.
 const FILE_DIGITS: usize = 2 * FILE_CAPACITY - 1;
 
-// What is stored of a line while it comes: how many bytes, and the place where its file begins while that comes.
-#[derive(Drop)]
+// What is stored of a line while it comes: how many bytes, none where it is too long to be stored, and the place where its file begins while that comes.
+// Kept: a buffer and a count, and no Vec, as the programs take no heap.
+#[derive(Clone, Copy)]
 pub struct StoredLine {
     line: Buffer,
-    bytes: usize,
+    bytes: Option<usize>,
     file: Option<usize>,
+    ghost within: { ForSome bytes (λ n. n ≤ 65536) },
 }
 
 impl StoredLine {
     // A line of which nothing has come.
-    fn empty() -> StoredLine {
+    pub fn empty() -> StoredLine
+        ensures { (result.bytes ≡ Some 0) × (result.file ≡ None) }
+    {
         StoredLine {
             line: io::large_buffer(),
-            bytes: 0,
+            bytes: Some(0),
             file: None,
         }
     }
 
     // The next line: nothing has come of it.
     fn clear(&mut self) {
-        self.bytes = 0;
+        self.bytes = Some(0);
         self.file = None;
     }
 
     // Appends a byte. Of a file only as many digits are stored as show that it is too long for a region file, so a line with a file may have any
-    // length. A line that is too long otherwise counts as more bytes than can be stored.
+    // length.
     pub fn append(&mut self, b: u8)
         ensures { ByteStored (file_place b self.old.file) self.old.bytes b self.old.line self.new.line self.new.bytes }
     {
@@ -71,55 +77,52 @@ impl StoredLine {
 
     // Where a file begins that follows the bytes so far and a blank.
     fn file_after(&self) -> Option<usize> {
-        let n = self.bytes;
-        if n < self.line.len() && is_before_file(&self.line[..n]) {
-            Some(n + 1)
-        } else {
-            None
-        }
+        let n = self.bytes?;
+        is_before_file(&self.line[..n]).then_some(n + 1)
     }
 
     // Appends a byte, with a file from `file` on.
     fn store(&mut self, file: Option<usize>, b: u8)
         ensures { ByteStored file self.old.bytes b self.old.line self.new.line self.new.bytes }
     {
-        if self.line.len() < self.bytes {
+        let Some(n) = self.bytes else {
             return;
-        }
-        match file {
-            Some(p) if FILE_DIGITS <= self.bytes.saturating_sub(p) => self.store_past(p, b),
-            _ => self.push(b),
-        }
+        };
+        self.bytes = match file {
+            Some(p) if FILE_DIGITS <= n.saturating_sub(p) => self.store_past(p, n, b),
+            _ => self.push(n, b),
+        };
     }
 
     // As above, where FILE_DIGITS of the file are stored: a digit is stored until a second one comes, and then both are dropped. Another byte takes the
-    // place of the first digit, so that there is no file.
-    fn store_past(&mut self, file: usize, b: u8)
-        requires file_bound { file + FileDigits ≤ self.old.bytes }
-        requires n_in_bounds { self.old.bytes ≤ length self.old.line }
-        ensures { ByteStored (Some file) self.old.bytes b self.old.line self.new.line self.new.bytes }
+    // place of the first digit, so that there is no file. How many bytes are stored then, out of n.
+    fn store_past(&mut self, file: usize, n: usize, b: u8) -> Option<usize>
+        requires file_bound { file + FileDigits ≤ n }
+        requires n_in_bounds { n ≤ length self.old.line }
+        ensures stored { ByteAppended (Some file) n b self.old.line self.new.line result }
+        ensures in_bounds { ForSome result (λ k. k ≤ 65536) }
     {
         if digit(b).is_none() {
             self.line[file] = b;
-            return;
+            return Some(n);
         }
-        if FILE_DIGITS < self.bytes - file {
-            self.bytes = file + FILE_DIGITS;
-            return;
+        if FILE_DIGITS < n - file {
+            return Some(file + FILE_DIGITS);
         }
-        self.push(b);
+        self.push(n, b)
     }
 
-    // Appends a byte as it comes.
-    fn push(&mut self, b: u8)
-        ensures { BytePushed self.old.bytes b self.old.line self.new.line self.new.bytes }
+    // Stores a byte behind the first n: how many they are then.
+    fn push(&mut self, n: usize, b: u8) -> Option<usize>
+        requires { n ≤ length self.old.line }
+        ensures pushed { BytePushed n b self.old.line self.new.line result }
+        ensures in_bounds { ForSome result (λ k. k ≤ 65536) }
     {
-        if self.bytes < self.line.len() {
-            self.line[self.bytes] = b;
-            self.bytes += 1;
-            return;
+        if n < self.line.len() {
+            self.line[n] = b;
+            return Some(n + 1);
         }
-        self.bytes = self.line.len() + 1;
+        None
     }
 
     // Appends bytes as they come, in which a file may begin.
@@ -129,28 +132,31 @@ impl StoredLine {
         }
     }
 
-    // The line that ends with these bytes, the last of them its line feed: they are all of it, or stand behind what is stored.
-    fn ended<'a>(&'a mut self, rest: &'a [u8]) -> Line<'a> {
-        let (text, _) = rest.split_at(rest.len().saturating_sub(1));
-        if self.bytes == 0 {
-            return Line {
+    // The line that ends with this part of the input, if it does: the part is all of it, or stands behind what is stored. A part that ends no line is stored.
+    fn ended<'a>(&'a mut self, part: &'a [u8]) -> Option<Line<'a>> {
+        let Some(text) = part.strip_suffix(&[LINE_FEED]) else {
+            self.extend(part);
+            return None;
+        };
+        if self.bytes == Some(0) {
+            return Some(Line {
                 text,
-                with_feed: rest,
-            };
+                with_feed: part,
+            });
         }
         self.extend(text);
         let to = self.bytes;
-        self.push(LINE_FEED);
+        self.store(None, LINE_FEED);
         let after = self.bytes;
-        Line {
+        Some(Line {
             text: self.first(to),
             with_feed: self.first(after),
-        }
+        })
     }
 
     // The last line, which has no line feed, if something has come of it.
     fn last(&self) -> Option<Line<'_>> {
-        if self.bytes == 0 {
+        if self.bytes == Some(0) {
             return None;
         }
         let text = self.first(self.bytes);
@@ -161,24 +167,24 @@ impl StoredLine {
     }
 
     // The first n bytes. A line that is too long to be stored has none.
-    fn first(&self, n: usize) -> &[u8] {
-        if self.line.len() < n {
-            return &self.line[..0];
-        }
-        &self.line[..n]
+    fn first(&self, n: Option<usize>) -> &[u8]
+        requires { ForSome n (λ k. k ≤ 65536) }
+    {
+        &self.line[..n.unwrap_or(0)]
     }
 }
 
 // Whether the word after these is a file, or a catalogue line, in digits: after the command's name or, for some commands, after the owner.
 fn is_before_file(line: &[u8]) -> bool {
     let mut words = Words::of(line);
-    match (words.next(), words.next(), words.next()) {
-        (Some(b"rows" | b"togrouped" | b"toplain" | b"holds" | b"cover" | b"line"), None, _) => {
-            true
-        },
-        (Some(b"frames" | b"trial"), Some(_), None) => true,
-        _ => false,
-    }
+    matches!(
+        (words.next(), words.next(), words.next()),
+        (
+            Some(b"rows" | b"togrouped" | b"toplain" | b"holds" | b"cover" | b"line"),
+            None,
+            _
+        ) | (Some(b"frames" | b"trial"), Some(_), None)
+    )
 }
 
 // The words of a line that are left, parted by one blank each.
@@ -192,9 +198,11 @@ impl<'a> Iterator for Words<'a> {
 
     ghost remaining = { λ w. at_most (option_map_or (λ rest. length rest.now + 1) w.rest 0) };
 
+    ghost next_gives = { λ w r v. (left r ≡ first_word (left w.rest)) × (left v.rest ≡ after_word (left w.rest)) };
+
     fn next(&mut self) -> Option<&'a [u8]> {
         let rest = self.rest?;
-        match rest.iter().position(|b| *b == BLANK) {
+        match blank(rest) {
             Some(n) => {
                 self.rest = Some(&rest[n + 1..]);
                 Some(&rest[..n])
@@ -207,18 +215,33 @@ impl<'a> Iterator for Words<'a> {
     }
 }
 
+// The place of the first blank.
+fn blank(line: &[u8]) -> Option<usize>
+    ensures value { result ≡ blank_in line.now }
+    ensures within { IfSome result (λ n. n < length line.now) }
+{
+    line.iter().position(|b| *b == BLANK)
+}
+
 impl<'a> Words<'a> {
-    pub fn of(line: &'a [u8]) -> Words<'a> {
+    // The words of a line.
+    pub fn of(line: &'a [u8]) -> Words<'a>
+        ensures { left result.rest ≡ Some line.now }
+    {
         Words { rest: Some(line) }
     }
 
     // Whether no word is left.
-    pub fn is_over(&self) -> bool {
+    pub fn is_over(&self) -> bool
+        ensures { result ≡ is_none self.now.rest }
+    {
         self.rest.is_none()
     }
 
     // Malformed where a word is left.
-    pub fn end(self) -> Result<(), Fault> {
+    pub fn end(self) -> Result<(), Fault>
+        ensures { is_ok result ≡ is_none self.entry.rest }
+    {
         match self.rest {
             None => Ok(()),
             Some(_) => Err(Fault::Malformed),
@@ -226,51 +249,71 @@ impl<'a> Words<'a> {
     }
 
     // The next word.
-    pub fn word(&mut self) -> Result<&'a [u8], Fault> {
+    pub fn word(&mut self) -> Result<&'a [u8], Fault>
+        ensures word { left (result_ok result) ≡ first_word (left self.old.rest) }
+        ensures rest { left self.new.rest ≡ after_word (left self.old.rest) }
+    {
         self.next().ok_or(Fault::Malformed)
     }
 
     // A number of 32 bits with no sign.
-    pub fn natural(&mut self) -> Result<u32, Fault> {
+    pub fn natural(&mut self) -> Result<u32, Fault>
+        ensures value { result_ok result ≡ number_next (2 ^ 32 - 1) (left self.old.rest) }
+        ensures rest { left self.new.rest ≡ after_word (left self.old.rest) }
+    {
         let n = natural_of(self.word()?, LARGEST_NATURAL).ok_or(Fault::Malformed)?;
         Ok(n as u32)
     }
 
     // A number of 32 bits with a minus or with no sign.
-    fn whole(&mut self) -> Result<i32, Fault> {
+    fn whole(&mut self) -> Result<i32, Fault>
+        ensures value { result_ok result ≡ whole_next (left self.old.rest) }
+        ensures rest { left self.new.rest ≡ after_word (left self.old.rest) }
+    {
         whole_of(self.word()?).ok_or(Fault::Malformed)
     }
 
     // Three whole numbers.
-    pub fn point(&mut self) -> Result<(i32, i32, i32), Fault> {
+    pub fn point(&mut self) -> Result<(i32, i32, i32), Fault>
+        ensures value { result_ok result ≡ point_next (left self.old.rest) }
+        ensures rest { OnOk result (left self.new.rest ≡ after_word (after_word (after_word (left self.old.rest)))) }
+    {
         Ok((self.whole()?, self.whole()?, self.whole()?))
     }
 
-    pub fn identifier(&mut self) -> Result<u64, Fault> {
+    // A number of 64 bits with no sign.
+    pub fn identifier(&mut self) -> Result<u64, Fault>
+        ensures value { result_ok result ≡ number_next (2 ^ 64 - 1) (left self.old.rest) }
+        ensures rest { left self.new.rest ≡ after_word (left self.old.rest) }
+    {
         natural_of(self.word()?, u64::MAX).ok_or(Fault::Malformed)
     }
 
     // The bits of a float: exactly `digits` hexadecimal digits, 16 at most.
-    pub fn bits(&mut self, digits: usize) -> Result<u64, Fault> {
+    pub fn bits(&mut self, digits: usize) -> Result<u64, Fault>
+        ensures word { OnOk result (option_map (λ w. length w) (first_word (left self.old.rest)) ≡ Some digits) }
+        ensures rest { left self.new.rest ≡ after_word (left self.old.rest) }
+    {
         bits_of(self.word()?, digits).ok_or(Fault::Malformed)
     }
 
     // The bytes of a file, stored in `to`.
-    pub fn file<'b>(&mut self, to: &'b mut [u8; FILE_CAPACITY]) -> Result<&'b [u8], Fault> {
+    pub fn file<'b>(&mut self, to: &'b mut [u8; FILE_CAPACITY]) -> Result<&'b [u8], Fault>
+        ensures length { file_length (result_ok result) ≡ file_next (left self.old.rest) }
+        ensures rest { left self.new.rest ≡ after_word (left self.old.rest) }
+    {
         file(self.word()?, to).ok_or(Fault::Malformed)
     }
 
     // The words that are left, each a whole number, stored in `to`.
-    pub fn numbers<'b>(self, to: &'b mut [i32; WORD_CAPACITY]) -> Result<&'b [i32], Fault> {
-        let mut n = 0;
-        for word in self {
-            if n == WORD_CAPACITY {
-                return Err(Fault::Malformed);
-            }
-            to[n] = whole_of(word).ok_or(Fault::Malformed)?;
-            n += 1;
+    pub fn numbers<'b>(self, to: &'b mut [i32; WORD_CAPACITY]) -> Result<&'b [i32], Fault>
+        ensures { IfOk result (λ numbers. length numbers.now ≡ length (words_in (left self.entry.rest))) }
+    {
+        let numbers = to.get_mut(..self.count()).ok_or(Fault::Malformed)?;
+        for (number, word) in numbers.iter_mut().zip(self) {
+            *number = whole_of(word).ok_or(Fault::Malformed)?;
         }
-        Ok(&to[..n])
+        Ok(numbers)
     }
 }
 
@@ -307,10 +350,7 @@ fn with_digit(n: u64, byte: u8, most: u64) -> Option<u64>
         return None;
     }
     let sum = n.checked_mul(10)?.checked_add((byte - b'0') as u64)?;
-    if most < sum {
-        return None;
-    }
-    Some(sum)
+    (sum <= most).then_some(sum)
 }
 
 // The bytes of a file: two digits each, and `-` for a file with no bytes. Of a longer file the first FILE_CAPACITY bytes are stored.
@@ -324,18 +364,18 @@ fn file<'a>(word: &[u8], to: &'a mut [u8; FILE_CAPACITY]) -> Option<&'a [u8]>
     if pairs.is_empty() || !odd.is_empty() {
         return None;
     }
-    let mut n = 0;
-    for [high, low] in pairs {
+    for (i, [high, low]) in pairs.iter().enumerate() {
         let value = digit(*high)? * 16 + digit(*low)?;
-        if n < FILE_CAPACITY {
-            to[n] = value as u8;
-            n += 1;
+        if i < FILE_CAPACITY {
+            to[i] = value as u8;
         }
     }
-    Some(&to[..n])
+    Some(&to[..pairs.len().min(FILE_CAPACITY)])
 }
 
-fn bits_of(word: &[u8], digits: usize) -> Option<u64> {
+fn bits_of(word: &[u8], digits: usize) -> Option<u64>
+    ensures { OnSome result (length word.now ≡ digits) }
+{
     if word.len() != digits {
         return None;
     }

@@ -1,15 +1,12 @@
-// The lines of standard input, one after the other. A line that lies in one block of the input is found where it lies; of one that does not, the bytes
-// are stored until it ends. What is collected for standard output is written before each read. After a read that failed the line that has begun is not
-// found, and after a write that failed nothing more is read.
-ghost use Rattle.std.specs.Prelude.{◌≡◌, ◌+◌, ◌<◌, ◌≤◌, IfSome};
-
+// The lines of standard input, one after the other. A line that lies in one block of the input is answered where it lies; of one that does not, the
+// bytes are stored until it ends. What is collected for standard output is written before each read. After a read that failed the line that has begun is
+// not answered, and after a write that failed nothing more is read.
 use crate::StoredLine;
 use print::{Buffer, Fault, Output};
-use std::fmt;
 use streams::Streams;
 
-// A loop must end, and no run has so many lines or blocks.
-const LINES: u64 = u64::MAX;
+// No run has so many blocks.
+const BLOCKS: u64 = u64::MAX;
 
 pub(crate) const LINE_FEED: u8 = b'\n';
 
@@ -20,103 +17,6 @@ pub struct Line<'a> {
     pub with_feed: &'a [u8],
 }
 
-// The block that was read last, and what is left of it, from place to place.
-#[derive(Drop)]
-struct Block {
-    bytes: Buffer,
-    next: usize,
-    end: usize,
-    ghost ordered: { next ≤ end },
-    ghost within: { end ≤ 65536 },
-}
-
-impl Block {
-    // With nothing left.
-    fn empty() -> Block {
-        Block {
-            bytes: io::large_buffer(),
-            next: 0,
-            end: 0,
-        }
-    }
-
-    // How many bytes are left up to the first line feed.
-    fn feed(&self) -> Option<usize>
-        ensures { IfSome result (λ n. self.now.next + n < self.now.end) }
-    {
-        self.bytes[self.next..self.end]
-            .iter()
-            .position(|b| *b == LINE_FEED)
-    }
-
-    // The next n bytes, which are left no longer.
-    fn take(&mut self, n: usize) -> &[u8]
-        requires { self.old.next + n ≤ self.old.end }
-    {
-        let from = self.next;
-        self.next += n;
-        &self.bytes[from..from + n]
-    }
-
-    // All that is left.
-    fn take_all(&mut self) -> &[u8] {
-        let from = self.next;
-        self.next = self.end;
-        &self.bytes[from..self.end]
-    }
-
-    // Reads the next block: how many bytes it has, 0 at the input's end; none where the read has failed.
-    fn fill(&mut self, streams: Streams) -> Option<usize> {
-        self.next = 0;
-        self.end = 0;
-        let n = streams.read(&mut self.bytes)?;
-        self.end = n;
-        Some(n)
-    }
-}
-
-// The lines that are to come: the block that was read last, and what is stored of a line that began before it. After a last line with no line feed the
-// input is over.
-#[derive(Drop)]
-struct Lines {
-    streams: Streams,
-    block: Block,
-    store: StoredLine,
-    is_over: bool,
-}
-
-impl Lines {
-    // Before the first line.
-    fn begin(streams: Streams) -> Lines {
-        Lines {
-            streams,
-            block: Block::empty(),
-            store: StoredLine::empty(),
-            is_over: false,
-        }
-    }
-
-    // The next line.
-    fn next(&mut self, out: &mut Output) -> Option<Line<'_>> {
-        self.store.clear();
-        for _ in 0..LINES {
-            if let Some(n) = self.block.feed() {
-                let rest = self.block.take(n + 1);
-                return Some(self.store.ended(rest));
-            }
-            self.store.extend(self.block.take_all());
-            if self.is_over || out.flush().is_err() {
-                return None;
-            }
-            if self.block.fill(self.streams)? == 0 {
-                self.is_over = true;
-                return self.store.last();
-            }
-        }
-        None
-    }
-}
-
 // Answers each line of the input.
 pub fn answer_lines<F: FnMut(Line<'_>, &mut Output) -> Result<(), Fault>>(
     streams: Streams,
@@ -124,12 +24,31 @@ pub fn answer_lines<F: FnMut(Line<'_>, &mut Output) -> Result<(), Fault>>(
 )
     requires { F.IsAlwaysCallable answer }
 {
-    let mut lines = Lines::begin(streams);
+    let mut block: Buffer = io::large_buffer();
+    let mut store = StoredLine::empty();
     let mut out = Output::new(streams);
-    for _ in 0..LINES {
-        let Some(line) = lines.next(&mut out) else {
-            break;
+    // Kept: a count, as a loop with no end needs the handle Wait, and this repository allows no handle.
+    for _ in 0..BLOCKS {
+        if out.flush().is_err() {
+            return;
+        }
+        let Ok(n) = streams.read(&mut block) else {
+            return;
         };
+        if n == 0 {
+            break;
+        }
+        for part in block[..n].split_inclusive(|b| *b == LINE_FEED) {
+            if let Some(line) = store.ended(part) {
+                let said = answer(line, &mut out);
+                if out.ended(said).is_err() {
+                    return;
+                }
+                store.clear();
+            }
+        }
+    }
+    if let Some(line) = store.last() {
         let said = answer(line, &mut out);
         if out.ended(said).is_err() {
             return;

@@ -7,6 +7,7 @@ use print::Output;
 use streams::Streams;
 
 // A byte longer than the longest region file, so that a file that is too long is seen to be.
+// Kept: the like of command_words, on which this program does not stand, as it reads no lines.
 const BYTES: usize = MAX_FILE_BYTES + 1;
 
 fn main(rt: HostRuntime) {
@@ -15,7 +16,7 @@ fn main(rt: HostRuntime) {
         return;
     }
     let mut file = [0u8; BYTES];
-    let Some(n) = streams.read_all(&mut file) else {
+    let Ok(n) = streams.read_all(&mut file) else {
         return;
     };
     let mut out = Output::new(streams);

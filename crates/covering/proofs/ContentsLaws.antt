@@ -11,7 +11,7 @@ use Rattle.mesh.specs.Trixels.{child, root_trixel}
 use Rattle.mesh.specs.Identifiers.{identifiers_at}
 use Rattle.region.specs.Regions.{Region}
 use Rattle.classify.specs.Classes.{region_class}
-use Rattle.ranges.specs.Ranges.{Range}
+use Rattle.ranges.specs.declared.Range.{Range}
 use Rattle.ranges.specs.Contents.{identifiers, Contains}
 use Rattle.ranges.proofs.ContentsLaws.{identifiers_append, identifiers_few, between_contains, between_outer, identifiers_outer}
 use Rattle.ranges.proofs.ListLaws.{Between}

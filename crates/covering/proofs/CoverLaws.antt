@@ -29,7 +29,7 @@ use Rattle.classify.specs.declared.Class.{Class}
 use Rattle.classify.specs.declared.Class.TheVariants.{Outside, Partial, Full}
 use Rattle.classify.specs.Classes.{is_outside, is_full, region_class}
 use Rattle.classify.proofs.ClassLaws.{full_region, outside_region}
-use Rattle.ranges.specs.Ranges.{Range}
+use Rattle.ranges.specs.declared.Range.{Range}
 use Rattle.ranges.proofs.Sound.{In, Has, SpacedBy}
 use Rattle.ranges.proofs.ListLaws.{Between, between_widen, between_append, between_spaced, has_left, has_right, has_cases, row, has_row, row_has, between_row, own, row_own}
 use Rattle.covering.specs.Cover.{Found, descendants, left_out, taken_full, taken_partial, cut_into, four, parted, visit, visit_root, cutting, cover_of, SeenBound}

@@ -7,7 +7,8 @@ use mathlib.Core.List.{List, [], ◌∷◌, ◌++◌, append_assoc}
 use lib.ListN.{length, take, drop, length-append, length-drop}
 use lib.Seq.{take-append-add, take_at, drop_at, length-take-le}
 use Rattle.answer.specs.Lent.{put}
-use Rattle.ranges.specs.Ranges.{Range, pairs, ranges_in}
+use Rattle.ranges.specs.declared.Range.{Range}
+use Rattle.ranges.specs.Ranges.{pairs, ranges_in}
 use Rattle.covering.specs.Cover.{Cover, both_listed}
 
 length_pairs : (rs : List Range) → length (pairs rs) ≡ 2 * length rs

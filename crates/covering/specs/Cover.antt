@@ -20,7 +20,8 @@ use Rattle.region.specs.Budgets.{budget_of}
 use Rattle.region.specs.Reader.{File, Accepted}
 use Rattle.classify.specs.declared.Class.TheVariants.{Outside, Partial, Full}
 use Rattle.classify.specs.Classes.{region_class}
-use Rattle.ranges.specs.Ranges.{Range, pairs}
+use Rattle.ranges.specs.declared.Range.{Range}
+use Rattle.ranges.specs.Ranges.{pairs}
 use Rattle.ranges.specs.Lists.{outer_of, inner_of}
 use Rattle.ranges.specs.Contents.{identifiers, swallowed_of}
 use Rattle.covering.specs.declared.Counts.{Counts}

@@ -21,21 +21,16 @@ use covering_walk::Level;
 use covering_walk::stored_trixel::StoredTrixel;
 use limits::{CONVEXES, HALFSPACES};
 
-// 4 to the power n.
-fn power(n: u32) -> u64
-    requires { n ≤ 11 }
-    ensures { result ≡ 4 ^ n }
-{
-    4u64.pow(n)
-}
-
 // Root number k, with its first ray.
 fn root(k: u64) -> StoredTrixel
     requires { k < 8 }
     ensures { result.trixel ≡ root_trixel k }
 {
     let root = mesh_trixels::root(k);
-    covering_walk::stored_trixel::stored(root, classify_prepared::first_ray(&root))
+    StoredTrixel {
+        trixel: root,
+        ray: classify_prepared::first_ray(&root),
+    }
 }
 
 // The eight roots, in identifier order.
@@ -51,7 +46,7 @@ fn visit_each_root(
     ensures { RootsGive depth region.now s.old out.old s.new out.new }
 {
     let left = depth - 1;
-    let span = power(left);
+    let span = 4u64.pow(left);
     for k in 0..8 {
         let trixel = root(k);
         let level = Level {
@@ -68,11 +63,12 @@ fn visit_roots(depth: u32, region: &PreparedRegion, out: &mut [u64], s: &mut Tal
     requires { RootNeeds depth region.now s.old out.old }
     ensures { RootsGive depth region.now s.old out.old s.new out.new }
 {
-    let active = classify_active::none_active();
+    let active = ActiveHalfspaces::default();
     visit_each_root(depth, region, &active, out, s);
 }
 
 // Closes the inner list. The result is how many ranges it has.
+// Kept: the part that begins at element 2 × budget, as in `push_inner` of covering_tally.
 fn end_inner(out: &mut [u64], s: &Tally) -> usize
     requires { TallyInvariant s.now out.old }
     ensures { InnerEnded s.now.budget out.old out.new
@@ -83,14 +79,15 @@ fn end_inner(out: &mut [u64], s: &Tally) -> usize
 }
 
 // How many identifiers the first n ranges of a list contain.
+// Kept: ranges are pairs of numbers in a list, as C lends it.
 fn identifiers_in(list: &[u64], n: usize) -> u64
     requires { (2 * n ≤ length list.now) × (identifiers (ranges_in n list.now) ≤ 2 ^ 25) }
     ensures { result ≡ identifiers (ranges_in n list.now) }
 {
+    let (pairs, _) = list.as_chunks::<2>();
     let mut sum = 0;
-    // Kept: by number, as `ranges_in` of ranges/specs/Ranges reads a lent list so.
-    for i in 0..n {
-        sum += list[2 * i + 1].saturating_sub(list[2 * i]) + 1;
+    for [low, high] in &pairs[..n] {
+        sum += high.saturating_sub(*low) + 1;
     }
     sum
 }
@@ -101,12 +98,14 @@ fn finish(out: &mut [u64], s: &Tally) -> Counts
     requires counts_contained { CountsContained s.now out.old }
     ensures { Finishes s.now out.old result out.new }
 {
-    let contained = identifiers_in(out, s.outer);
+    let contained = identifiers_in(out, s.outer.n);
     let m = end_inner(out, s);
     s.counts(m as u64, contained)
 }
 
 // The cover of a prepared region.
+// Kept: depth and budget are numbers, and their bounds clauses: that of the budget is of the lent list too, and a type of the depth would be made by `cover` of
+// htm, frames_in and try_setting for this one call each.
 fn cover_prepared(depth: u32, region: &PreparedRegion, budget: usize, out: &mut [u64]) -> Counts
     requires le_depth { (1 ≤ depth) × (depth ≤ 12) }
     requires ready { ReadyRegion region.now }
@@ -119,6 +118,8 @@ fn cover_prepared(depth: u32, region: &PreparedRegion, budget: usize, out: &mut 
 }
 
 // The cover of the region of n rows: the outer list from element 0 of `out`, the inner list from element 2 × budget.
+// Kept: an array and how many rows it begins with, as `SomeRows` and `CoversRows` speak of both; so `FitRows` of `prepare`, `rows_hold` of region_points and
+// `FilledRows` of `convexes_in`.
 pub fn cover(
     depth: u32,
     rows: &[i32; 5 * HALFSPACES],
@@ -137,6 +138,6 @@ pub fn cover(
         count: 0,
         convexes: 0,
     };
-    classify_prepared::lists::prepare(rows, n, &mut region);
+    classify_prepared::preparing::prepare(rows, n, &mut region);
     cover_prepared(depth, &region, budget, out)
 }

@@ -5,32 +5,32 @@ use mathlib.Core.Path.{◌≡◌, refl, sym, ap, subst, subst₂, ◌∙◌}
 use mathlib.Core.List.{List}
 use lib.ListN.{length}
 use Rattle.ranges_stored.specs.declared.Pending.{Pending}
-use Rattle.ranges_lists.specs.declared.PushResult.{PushResult}
-use Rattle.ranges.specs.Ranges.{Range, ranges_in}
+use Rattle.ranges_stored.specs.declared.StoredRanges.{StoredRanges}
+use Rattle.ranges.specs.declared.Range.{Range}
+use Rattle.ranges.specs.Ranges.{ranges_in}
 use Rattle.ranges.specs.Lists.{gaps}
 use Rattle.ranges.proofs.Pushing.{outer_push}
 use Rattle.ranges_stored.specs.Stored.{Writes, differences_in, Hinted}
 use Rattle.covering.specs.Cover.{taken_full, taken_partial}
-use Rattle.covering_tally.specs.Tally.{with_outer, with_inner, one_full, one_partial, OuterPushed, InnerNeeds, InnerPushed, InnerAdded, Countable, SmallRange, TallyInvariant, TrixelAccepted}
+use Rattle.covering_tally.specs.Tally.{with_outer, with_inner, one_full, one_partial, OuterPushed, InnerNeeds, InnerPushed, InnerAdded, SmallRange, TallyInvariant, TrixelAccepted}
 use Rattle.covering_tally.specs.declared.Tally.{Tally}
 use Rattle.covering_tally.proofs.WalkLaws.{taken_partial_law, taken_full_law, hinted_before, hinted_behind}
 
 -- ---- a range that is accepted
 
-pub outer_pushed : (r : Range) (m : PushResult) (s : Tally) {out out₁ : List ℕ}
-    → Writes (outer_push s.budget (ranges_in s.outer out) r) out out₁ m.n → m.n ≤ s.budget → Hinted m.hint (gaps (ranges_in m.n out₁)) → OuterPushed r s out (with_outer m s) out₁
+pub outer_pushed : (r : Range) (m : StoredRanges) (s : Tally) {out out₁ : List ℕ}
+    → Writes (outer_push s.budget (ranges_in s.outer.n out) r) out out₁ m.n → m.n ≤ s.budget → Hinted m.hint (gaps (ranges_in m.n out₁)) → OuterPushed r s out (with_outer m s) out₁
 outer_pushed r m s w few h = record { writes = w; few = few; hinted = h; inner = refl; seen = refl; budget = refl; full = refl; partial = refl }
 
 module _ {r : Range} {s s₁ : Tally} {out out₁ : List ℕ} (invariant : TallyInvariant s out) (o : OuterPushed r s out s₁ out₁) (same : length out₁ ≡ length out) where
-  behind : Hinted s.inner.hint (differences_in (2 * s.budget) 0 s.inner.n out₁)
-  behind = hinted_behind s.inner.hint s.inner.n s.budget o.writes o.few (omega (arith, invariant.list)) invariant.inner_hinted
+  behind : Hinted s.inner.stored.hint (differences_in (2 * s.budget) 0 s.inner.stored.n out₁)
+  behind = hinted_behind s.inner.stored.hint s.inner.stored.n s.budget o.writes o.few (omega (arith, invariant.list)) invariant.inner_hinted
 
   pub partial_taken : {s₂ : Tally} → s₂ ≡ one_partial s₁ → TrixelAccepted (taken_partial r) s out s₂ out₁
   partial_taken {s₂} e =
       subst (λ q. TrixelAccepted (taken_partial r) s out q out₁)
       (sym (e ∙ (λ i. record {
         outer = s₁.outer;
-        hint = s₁.hint;
         inner = o.inner i;
         seen = o.seen i + 1;
         budget = o.budget i;
@@ -38,7 +38,7 @@ module _ {r : Range} {s s₁ : Tally} {out out₁ : List ℕ} (invariant : Tally
         partial = o.partial i + 1;
       })))
       (record {
-        adds = λ start a w. taken_partial_law s.budget start a s out w r out₁ s₁.outer s₁.hint invariant.outer o.writes o.few;
+        adds = λ start a w. taken_partial_law s.budget start a s out w r out₁ s₁.outer invariant.outer o.writes o.few;
         invariant = record { budget = invariant.budget; outer = o.few; inner = invariant.inner; list = omega (arith, same, invariant.list); hinted = o.hinted; inner_hinted = behind; full = omega (arith, invariant.full); partial = omega (arith, invariant.partial) };
         seen = refl;
         budget = refl;
@@ -54,15 +54,15 @@ module _ {r : Range} {s s₁ : Tally} {out out₁ : List ℕ} (invariant : Tally
   module _ {out₂ : List ℕ} {p₂ : Pending} (long : length out₂ ≡ length out₁) where
     full_now : InnerPushed s.budget r s.inner out₁ p₂ out₂ → SmallRange r
         → TrixelAccepted (taken_full r) s out
-        (record { outer = s₁.outer; hint = s₁.hint; inner = p₂; seen = s.seen + 1; budget = s.budget; full = s.full + (r.high - r.low + 1); partial = s.partial }) out₂
+        (record { outer = s₁.outer; inner = p₂; seen = s.seen + 1; budget = s.budget; full = s.full + (r.high - r.low + 1); partial = s.partial }) out₂
     full_now k z = record {
-      adds = λ start a w. taken_full_law s.budget start a s out w r out₁ s₁.outer s₁.hint invariant.outer o.writes o.few out₂ p₂ k.behind;
+      adds = λ start a w. taken_full_law s.budget start a s out w r out₁ s₁.outer invariant.outer o.writes o.few out₂ p₂ k.behind;
       invariant = record {
         budget = invariant.budget;
         outer = o.few;
         inner = k.few;
         list = omega (arith, long, same, invariant.list);
-        hinted = hinted_before s₁.hint s₁.outer s.budget out₁ out₂ k.behind.rest o.few (omega (arith, same, invariant.list)) k.behind.list o.hinted;
+        hinted = hinted_before s₁.outer.hint s₁.outer.n s.budget out₁ out₂ k.behind.rest o.few (omega (arith, same, invariant.list)) k.behind.list o.hinted;
         inner_hinted = k.hinted;
         full = omega (arith, invariant.full, z.order, z.small);
         partial = omega (arith, invariant.partial);
@@ -78,7 +78,6 @@ module _ {r : Range} {s s₁ : Tally} {out out₁ : List ℕ} (invariant : Tally
       subst (λ q. TrixelAccepted (taken_full r) s out q out₂)
       (sym (more ∙ ap (one_full n) k.noted ∙ (λ i. record {
         outer = s₁.outer;
-        hint = s₁.hint;
         inner = k.beside;
         seen = o.seen i + 1;
         budget = o.budget i;
@@ -86,17 +85,6 @@ module _ {r : Range} {s s₁ : Tally} {out out₁ : List ℕ} (invariant : Tally
         partial = o.partial i;
       })))
       (full_now long (subst₂ (λ b p. InnerPushed b r p out₁ k.beside out₂) o.budget o.inner k.pushed) z)
-
--- the tally still counts what it counted
-pub outer_counts : {r : Range} {s s₁ : Tally} {out out₁ : List ℕ} → OuterPushed r s out s₁ out₁ → Countable s → Countable s₁
-outer_counts o h = record {
-  few = omega (arith, h.few, o.seen);
-  full = omega (arith, h.full, o.seen, o.full);
-  partial = omega (arith, h.partial, o.seen, o.partial);
-}
-
-pub inner_added_counts : {r : Range} {s s₁ : Tally} {out out₁ : List ℕ} → InnerAdded r s out s₁ out₁ → Countable s → Countable s₁
-inner_added_counts k h = subst Countable (sym k.noted) (record { few = h.few; full = h.full; partial = h.partial })
 
 pub inner_added : {r : Range} {s : Tally} {out out' : List ℕ} {q : Pending} → InnerPushed s.budget r s.inner out q out' → InnerAdded r s out (with_inner q s) out'
 inner_added {q = q} h = record { beside = q; pushed = h; noted = refl }

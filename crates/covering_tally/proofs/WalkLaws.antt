@@ -10,12 +10,14 @@ use Rattle.answer.specs.Lent.{put}
 use Rattle.region.specs.Regions.{Region}
 use Rattle.ranges_stored.specs.declared.MinHint.{MinHint}
 use Rattle.ranges_stored.specs.declared.Pending.{Pending}
-use Rattle.ranges.specs.Ranges.{Range, pairs, range, ranges_in}
+use Rattle.ranges_stored.specs.declared.StoredRanges.{StoredRanges}
+use Rattle.ranges.specs.declared.Range.{Range}
+use Rattle.ranges.specs.Ranges.{pairs, range, ranges_in}
 use Rattle.ranges.specs.Lists.{gaps, outer_of, inner_of}
 use Rattle.ranges.specs.Contents.{identifiers, swallowed_of}
 use Rattle.ranges.proofs.ContentsLaws.{identifiers_append}
 use Rattle.ranges.proofs.Pushing.{outer_push, outer_pass, empty, inner_push, inner_end, inner_pass}
-use Rattle.ranges_stored.specs.Stored.{differences, differences_in, written, Writes, Hinted, nothing_yet, state_of, Stores}
+use Rattle.ranges_stored.specs.Stored.{differences, differences_in, written, Writes, Hinted, none_stored, nothing_yet, state_of, Stores}
 use Rattle.ranges.proofs.OnePass.{one_pass}
 use Rattle.ranges_stored.proofs.StoredLaws.{laid, laid_put, length_written}
 use Rattle.ranges_lists.proofs.Pushes.{writes_in, writes_none, writes_push, stores_none, stores_push, stores_end}
@@ -129,7 +131,7 @@ module _ (b : ℕ) (start : List ℕ) (a : Found) (s : Tally) (out : List ℕ) (
     back = w.back;
     list = w.list;
     width = w.width;
-    outer = subst (λ rs. Writes (outer_pass b rs) (take (2 * b) start) w.front s.outer) (sym (append-nil a.accepted)) w.outer;
+    outer = subst (λ rs. Writes (outer_pass b rs) (take (2 * b) start) w.front s.outer.n) (sym (append-nil a.accepted)) w.outer;
     inner = subst (λ rs. Stores (inner_state b rs) (drop (2 * b) start) w.back s.inner) (sym (append-nil a.full)) w.inner;
     seen = ap (λ n. n + 1) w.seen;
     full = w.full ∙ ap identifiers (sym (append-nil a.full));
@@ -137,32 +139,32 @@ module _ (b : ℕ) (start : List ℕ) (a : Found) (s : Tally) (out : List ℕ) (
   }
 
   -- a range more in the outer list
-  module _ (r : Range) (out' : List ℕ) (n : ℕ) (h : MinHint) (few : s.outer ≤ b) (v : Writes (outer_push b (ranges_in s.outer out) r) out out' n) (most : n ≤ b) where
+  module _ (r : Range) (out' : List ℕ) (m : StoredRanges) (few : s.outer.n ≤ b) (v : Writes (outer_push b (ranges_in s.outer.n out) r) out out' m.n) (most : m.n ≤ b) where
     front' : List ℕ
-    front' = written (outer_push b (ranges_in s.outer w.front) r) w.front
+    front' = written (outer_push b (ranges_in s.outer.n w.front) r) w.front
 
-    same : ranges_in s.outer out ≡ ranges_in s.outer w.front
-    same = ap (ranges_in s.outer) w.list ∙ in_front s.outer w.front w.back (omega (arith, w.width))
+    same : ranges_in s.outer.n out ≡ ranges_in s.outer.n w.front
+    same = ap (ranges_in s.outer.n) w.list ∙ in_front s.outer.n w.front w.back (omega (arith, w.width))
 
-    short : 2 * length (outer_push b (ranges_in s.outer w.front) r) ≤ length w.front
+    short : 2 * length (outer_push b (ranges_in s.outer.n w.front) r) ≤ length w.front
     short = subst (λ rs. 2 * length (outer_push b rs r) ≤ length w.front) same (omega (arith, w.width, v.count))
 
     pushed_list : out' ≡ front' ++ w.back
     unfolding front'
     pushed_list =
-        v.list ∙ (λ i. written (outer_push b (same i) r) (w.list i)) ∙ written_front (outer_push b (ranges_in s.outer w.front) r) w.front w.back short
+        v.list ∙ (λ i. written (outer_push b (same i) r) (w.list i)) ∙ written_front (outer_push b (ranges_in s.outer.n w.front) r) w.front w.back short
 
     pushed_width : length front' ≡ 2 * b
     unfolding front'
-    pushed_width = length_written (outer_push b (ranges_in s.outer w.front) r) w.front short ∙ w.width
+    pushed_width = length_written (outer_push b (ranges_in s.outer.n w.front) r) w.front short ∙ w.width
 
-    pushed_outer : Writes (outer_pass b (a.accepted ++ r ∷ [])) (take (2 * b) start) front' n
+    pushed_outer : Writes (outer_pass b (a.accepted ++ r ∷ [])) (take (2 * b) start) front' m.n
     unfolding front' outer_pass
-    pushed_outer = subst (λ rs. Writes rs (take (2 * b) start) front' n) (sym (fold_snoc (outer_push b) [] a.accepted r))
-        (writes_push b (outer_pass b a.accepted) r (take (2 * b) start) w.front front' s.outer n w.outer
+    pushed_outer = subst (λ rs. Writes rs (take (2 * b) start) front' m.n) (sym (fold_snoc (outer_push b) [] a.accepted r))
+        (writes_push b (outer_pass b a.accepted) r (take (2 * b) start) w.front front' s.outer.n m.n w.outer
         (record { count = v.count ∙ ap (λ rs. length (outer_push b rs r)) same; list = refl }))
 
-    pub taken_partial_law : TallyHolds b start (both a (taken_partial r)) (record { outer = n; hint = h; inner = s.inner; seen = s.seen + 1; budget = s.budget; full = s.full; partial = s.partial + 1 }) out'
+    pub taken_partial_law : TallyHolds b start (both a (taken_partial r)) (record { outer = m; inner = s.inner; seen = s.seen + 1; budget = s.budget; full = s.full; partial = s.partial + 1 }) out'
     taken_partial_law = record {
       front = front';
       back = w.back;
@@ -177,7 +179,7 @@ module _ (b : ℕ) (start : List ℕ) (a : Found) (s : Tally) (out : List ℕ) (
 
     -- and in the inner list behind it
     pub taken_full_law : (out'' : List ℕ) (p : Pending) → InnerStored b out' out'' (inner_push b (state_of s.inner (drop (2 * b) out')) r) p
-        → TallyHolds b start (both a (taken_full r)) (record { outer = n; hint = h; inner = p; seen = s.seen + 1; budget = s.budget; full = s.full + (r.high - r.low + 1); partial = s.partial }) out''
+        → TallyHolds b start (both a (taken_full r)) (record { outer = m; inner = p; seen = s.seen + 1; budget = s.budget; full = s.full + (r.high - r.low + 1); partial = s.partial }) out''
     unfolding identifiers
     taken_full_law out'' p k =
         let before : take (2 * b) out' ≡ front' = ap (take (2 * b)) pushed_list ∙ take_at front' w.back (2 * b) pushed_width in
@@ -223,20 +225,20 @@ cut_adds f {s} {r} {s'} {out} {out'} e h start a w =
 -- ---- the beginning and the end
 
 -- the stored outer ranges are those of the rule
-pub outer_stored : {b : ℕ} {start : List ℕ} {a : Found} {s : Tally} {out : List ℕ} → TallyHolds b start a s out → 1 ≤ b → s.outer ≤ b
-    → ranges_in s.outer out ≡ outer_of b a.accepted
+pub outer_stored : {b : ℕ} {start : List ℕ} {a : Found} {s : Tally} {out : List ℕ} → TallyHolds b start a s out → 1 ≤ b → s.outer.n ≤ b
+    → ranges_in s.outer.n out ≡ outer_of b a.accepted
 outer_stored {b} {start} {a} {s} w one few =
-    ap (ranges_in s.outer) w.list ∙ in_front s.outer w.front w.back (omega (arith, w.width))
-    ∙ writes_in (outer_pass b a.accepted) (take (2 * b) start) w.front s.outer w.outer
+    ap (ranges_in s.outer.n) w.list ∙ in_front s.outer.n w.front w.back (omega (arith, w.width))
+    ∙ writes_in (outer_pass b a.accepted) (take (2 * b) start) w.front s.outer.n w.outer
     ∙ (one_pass b a.accepted one).0
 
 module _ (b : ℕ) (start : List ℕ) (long : 4 * b ≤ length start) where
   wide : length (take (2 * b) start) ≡ 2 * b
   wide = length-take-le (2 * b) start (omega arith)
 
-  pub walk_start : (h : MinHint) → TallyHolds b start nothing (record { outer = 0; hint = h; inner = nothing_yet; seen = 0; budget = b; full = 0; partial = 0 }) start
+  pub walk_start : TallyHolds b start nothing (record { outer = none_stored; inner = nothing_yet; seen = 0; budget = b; full = 0; partial = 0 }) start
   unfolding outer_pass identifiers
-  walk_start h = record {
+  walk_start = record {
     front = take (2 * b) start;
     back = drop (2 * b) start;
     list = sym (take-append-drop (2 * b) start);
@@ -264,9 +266,9 @@ module _ (b : ℕ) (start : List ℕ) (long : 4 * b ≤ length start) where
       ∙ (λ i. take_at F R (2 * b) lF i ++ (pairs n ++ (ap (λ k. drop k (F ++ R)) past ∙ drop-append-add F R m ∙ ap (λ k. drop k R) none) i))
 
   -- the outer list contains m identifiers
-  pub walk_end : (a : Found) (s : Tally) (out out' : List ℕ) (n m : ℕ) → TallyHolds b start a s out → 1 ≤ b → s.outer ≤ b
+  pub walk_end : (a : Found) (s : Tally) (out out' : List ℕ) (n m : ℕ) → TallyHolds b start a s out → 1 ≤ b → s.outer.n ≤ b
       → InnerEnded b out out' (inner_end b (state_of s.inner (drop (2 * b) out))) n
-      → m ≡ identifiers (ranges_in s.outer out) → identifiers (outer_of b a.accepted) ≡ identifiers a.full + a.partial + swallowed_of b a.accepted
+      → m ≡ identifiers (ranges_in s.outer.n out) → identifiers (outer_of b a.accepted) ≡ identifiers a.full + a.partial + swallowed_of b a.accepted
       → (counts_in s n m ≡ counts_of (listed b a)) × (out' ≡ both_listed b (listed b a) start)
   unfolding inner_pass
   walk_end a s out out' n m w one few e c all =
@@ -279,7 +281,7 @@ module _ (b : ℕ) (start : List ℕ) (long : 4 * b ≤ length start) where
       (subst (λ l. Writes (inner_end b (state_of s.inner l)) l e.rest n) after e.writes) in
       let x : m - s.full - s.partial ≡ swallowed_of b a.accepted =
       omega (arith, c, ap identifiers (outer_stored w one few), all, w.full, w.partial) in
-      let lo : s.outer ≡ length (outer_of b a.accepted) = w.outer.count ∙ ap length o in
+      let lo : s.outer.n ≡ length (outer_of b a.accepted) = w.outer.count ∙ ap length o in
       let li : n ≡ length (inner_of b a.full) = k.count ∙ ap length i in (
         λ j. record { outer = lo j; inner = li j; seen = w.seen j; full = w.full j; partial = w.partial j; swallowed = x j },
         e.list
@@ -292,7 +294,7 @@ pub roots_done : {b : ℕ} {start : List ℕ} {s : Tally} {out : List ℕ} (d k 
 roots_done {b} {start} {s} {out} d k g e w = subst (λ f. TallyHolds b start f s out) (ap (found_to (d - 1) g) e ∙ found_all d g) w
 
 -- after the whole cutting
-pub cutting_contained : {b : ℕ} {start : List ℕ} {s : Tally} {out : List ℕ} (d : ℕ) (g : Region) → TallyHolds b start (cutting d g) s out → 1 ≤ b → s.outer ≤ b → d ≤ 12
+pub cutting_contained : {b : ℕ} {start : List ℕ} {s : Tally} {out : List ℕ} (d : ℕ) (g : Region) → TallyHolds b start (cutting d g) s out → 1 ≤ b → s.outer.n ≤ b → d ≤ 12
     → CountsContained s out
 cutting_contained {b} d g w one few h =
     let e = ap identifiers (outer_stored w one few) in

@@ -17,40 +17,41 @@
 --                      sizes, less one, of the inner list's stored ranges is so; and the counts of identifiers are no more than the trixels seen can have
 use Rattle.std.specs.Prelude.{ℕ, ◌+◌, ◌-◌, ◌*◌, ◌^◌, ◌≤◌, ◌<◌, ◌≡◌, length, take, drop}
 use mathlib.Core.List.{List, [], ◌++◌, foldl}
-use Rattle.ranges_lists.specs.declared.PushResult.{PushResult}
+use Rattle.ranges_stored.specs.declared.StoredRanges.{StoredRanges}
 use Rattle.ranges_stored.specs.declared.Pending.{Pending}
-use Rattle.ranges.specs.Ranges.{Range, ranges_in}
+use Rattle.ranges.specs.declared.Range.{Range}
+use Rattle.ranges.specs.Ranges.{ranges_in}
 use Rattle.ranges.specs.Lists.{gaps}
 use Rattle.ranges.specs.Contents.{identifiers}
 use Rattle.ranges.proofs.Pushing.{outer_push, outer_pass, Inner, empty, inner_push}
-use Rattle.ranges_stored.specs.Stored.{differences_in, Writes, no_hint, Hinted, nothing_yet, state_of, Stores}
+use Rattle.ranges_stored.specs.Stored.{differences_in, Writes, Hinted, none_stored, nothing_yet, state_of, Stores}
 use Rattle.covering.specs.declared.Counts.{Counts}
 use Rattle.covering_tally.specs.declared.Tally.{Tally}
 use Rattle.covering.specs.Cover.{Found, both}
 
 abbrev pub no_tally : ℕ → Tally
-no_tally b = record { outer = 0; hint = no_hint; inner = nothing_yet; seen = 0; budget = b; full = 0; partial = 0 }
+no_tally b = record { outer = none_stored; inner = nothing_yet; seen = 0; budget = b; full = 0; partial = 0 }
 
-abbrev pub with_outer : PushResult → Tally → Tally
-with_outer m s = record { outer = m.n; hint = m.hint; inner = s.inner; seen = s.seen; budget = s.budget; full = s.full; partial = s.partial }
+abbrev pub with_outer : StoredRanges → Tally → Tally
+with_outer m s = record { outer = m; inner = s.inner; seen = s.seen; budget = s.budget; full = s.full; partial = s.partial }
 
 abbrev pub with_inner : Pending → Tally → Tally
-with_inner p s = record { outer = s.outer; hint = s.hint; inner = p; seen = s.seen; budget = s.budget; full = s.full; partial = s.partial }
+with_inner p s = record { outer = s.outer; inner = p; seen = s.seen; budget = s.budget; full = s.full; partial = s.partial }
 
 -- a trixel is classified
 abbrev pub one_more : Tally → Tally
-one_more s = record { outer = s.outer; hint = s.hint; inner = s.inner; seen = s.seen + 1; budget = s.budget; full = s.full; partial = s.partial }
+one_more s = record { outer = s.outer; inner = s.inner; seen = s.seen + 1; budget = s.budget; full = s.full; partial = s.partial }
 
 -- a full one, with n identifiers at the depth; a partial one
 abbrev pub one_full : ℕ → Tally → Tally
-one_full n s = record { outer = s.outer; hint = s.hint; inner = s.inner; seen = s.seen + 1; budget = s.budget; full = s.full + n; partial = s.partial }
+one_full n s = record { outer = s.outer; inner = s.inner; seen = s.seen + 1; budget = s.budget; full = s.full + n; partial = s.partial }
 
 abbrev pub one_partial : Tally → Tally
-one_partial s = record { outer = s.outer; hint = s.hint; inner = s.inner; seen = s.seen + 1; budget = s.budget; full = s.full; partial = s.partial + 1 }
+one_partial s = record { outer = s.outer; inner = s.inner; seen = s.seen + 1; budget = s.budget; full = s.full; partial = s.partial + 1 }
 
 -- the counts, where the inner list has n ranges and the outer list contains m identifiers
 abbrev pub counts_in : Tally → ℕ → ℕ → Counts
-counts_in s n m = record { outer = s.outer; inner = n; seen = s.seen; full = s.full; partial = s.partial; swallowed = m - s.full - s.partial }
+counts_in s n m = record { outer = s.outer.n; inner = n; seen = s.seen; full = s.full; partial = s.partial; swallowed = m - s.full - s.partial }
 
 abbrev pub nothing : Found
 nothing = record { accepted = []; full = []; seen = 0; partial = 0 }
@@ -63,7 +64,7 @@ pub record TallyHolds (b : ℕ) (start : List ℕ) (a : Found) (s : Tally) (out 
   pub back : List ℕ
   pub list : out ≡ front ++ back
   pub width : length front ≡ 2 * b
-  pub outer : Writes (outer_pass b a.accepted) (take (2 * b) start) front s.outer
+  pub outer : Writes (outer_pass b a.accepted) (take (2 * b) start) front s.outer.n
   pub inner : Stores (inner_state b a.full) (drop (2 * b) start) back s.inner
   pub seen : s.seen ≡ a.seen
   pub full : s.full ≡ identifiers a.full
@@ -74,9 +75,9 @@ abbrev pub Adds : Found → Tally → List ℕ → Tally → List ℕ → Type 0
 Adds found s out s' out' = (start : List ℕ) (a : Found) → TallyHolds s.budget start a s out → TallyHolds s'.budget start (both a found) s' out'
 
 pub record OuterPushed (r : Range) (s : Tally) (out : List ℕ) (s' : Tally) (out' : List ℕ) : Type 0 where
-  pub writes : Writes (outer_push s.budget (ranges_in s.outer out) r) out out' s'.outer
-  pub few : s'.outer ≤ s.budget
-  pub hinted : Hinted s'.hint (gaps (ranges_in s'.outer out'))
+  pub writes : Writes (outer_push s.budget (ranges_in s.outer.n out) r) out out' s'.outer.n
+  pub few : s'.outer.n ≤ s.budget
+  pub hinted : Hinted s'.outer.hint (gaps (ranges_in s'.outer.n out'))
   pub inner : s'.inner ≡ s.inner
   pub seen : s'.seen ≡ s.seen
   pub budget : s'.budget ≡ s.budget
@@ -95,11 +96,11 @@ pub record InnerEnded (b : ℕ) (before after : List ℕ) (rs : List Range) (n :
 
 pub record TallyInvariant (s : Tally) (out : List ℕ) : Type 0 where
   pub budget : 1 ≤ s.budget
-  pub outer : s.outer ≤ s.budget
-  pub inner : s.inner.n ≤ s.budget
+  pub outer : s.outer.n ≤ s.budget
+  pub inner : s.inner.stored.n ≤ s.budget
   pub list : 4 * s.budget ≤ length out
-  pub hinted : Hinted s.hint (gaps (ranges_in s.outer out))
-  pub inner_hinted : Hinted s.inner.hint (differences_in (2 * s.budget) 0 s.inner.n out)
+  pub hinted : Hinted s.outer.hint (gaps (ranges_in s.outer.n out))
+  pub inner_hinted : Hinted s.inner.stored.hint (differences_in (2 * s.budget) 0 s.inner.stored.n out)
   pub full : s.full ≤ 2 ^ 26 * s.seen
   pub partial : s.partial ≤ s.seen
 
@@ -116,20 +117,20 @@ pub record SmallRange (r : Range) : Type 0 where
 
 -- the stored outer ranges contain what was counted, and no more than a depth has
 pub record CountsContained (s : Tally) (out : List ℕ) : Type 0 where
-  pub few : identifiers (ranges_in s.outer out) ≤ 2 ^ 25
-  pub counted : s.full + s.partial ≤ identifiers (ranges_in s.outer out)
+  pub few : identifiers (ranges_in s.outer.n out) ≤ 2 ^ 25
+  pub counted : s.full + s.partial ≤ identifiers (ranges_in s.outer.n out)
 
 -- what the inner list's writer needs, and what it gives after the range r: p stands beside the list, then q
 pub record InnerNeeds (b : ℕ) (p : Pending) (out : List ℕ) : Type 0 where
   pub budget : 1 ≤ b
-  pub few : p.n ≤ b
+  pub few : p.stored.n ≤ b
   pub list : 4 * b ≤ length out
-  pub hinted : Hinted p.hint (differences_in (2 * b) 0 p.n out)
+  pub hinted : Hinted p.stored.hint (differences_in (2 * b) 0 p.stored.n out)
 
 pub record InnerPushed (b : ℕ) (r : Range) (p : Pending) (out : List ℕ) (q : Pending) (out' : List ℕ) : Type 0 where
   pub behind : InnerStored b out out' (inner_push b (state_of p (drop (2 * b) out)) r) q
-  pub few : q.n ≤ b
-  pub hinted : Hinted q.hint (differences_in (2 * b) 0 q.n out')
+  pub few : q.stored.n ≤ b
+  pub hinted : Hinted q.stored.hint (differences_in (2 * b) 0 q.stored.n out')
 
 pub record InnerAdded (r : Range) (s : Tally) (out : List ℕ) (s' : Tally) (out' : List ℕ) : Type 0 where
   pub beside : Pending

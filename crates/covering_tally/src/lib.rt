@@ -2,20 +2,20 @@
 #![tactic(auto)]
 
 ghost use Rattle.std.specs.Prelude.{◌≡◌, ◌+◌, ◌-◌, ◌≤◌};
-ghost use Rattle.ranges.specs.Ranges.{range};
 ghost use Rattle.covering.specs.Cover.{taken_full, taken_partial};
 ghost use Rattle.covering_tally.specs.Tally.{no_tally, one_more, one_full, one_partial, counts_in, TrixelAccepted, InnerNeeds, InnerPushed, InnerAdded, Countable, SmallRange, TallyInvariant, OuterPushed};
 
 use covering::Counts;
-use ranges_stored::{MinHint, Pending, Range};
+use ranges::Range;
+use ranges_stored::{Pending, StoredRanges};
 
-// What was found so far: how many outer ranges are stored and what is known of their gaps, what stands beside the inner list, the trixels classified, the
-// identifiers of full trixels and the partial trixels; and the budget, which stays.
+// What was found so far: what stands beside the outer and beside the inner list, the trixels classified, the identifiers of full trixels and the partial
+// trixels; and the budget, which stays.
 // Kept: `TallyInvariant` is a clause, as it is of the tally and of the lent list beside it.
-#[derive(Clone, Copy)]
+// Kept: `Countable` is a clause of each count and no ghost field: it says that one trixel more can be counted, which need not hold of the tally after it.
+#[derive(Clone, Copy, Default)]
 pub struct Tally {
-    pub outer: usize,
-    pub hint: MinHint,
+    pub outer: StoredRanges,
     pub inner: Pending,
     pub seen: u64,
     pub budget: usize,
@@ -24,10 +24,10 @@ pub struct Tally {
 }
 
 // Pushes a range onto the inner list, which is written from element 2 × budget on.
-// Kept: ranges as pairs of numbers, as document 01 says of the list that is lent.
+// Kept: both lists are parts of one list of numbers, as C lends it, and the part is lent on in the form that document 01 names.
 fn push_inner(out: &mut [u64], budget: usize, p: Pending, r: Range) -> Pending
     requires { InnerNeeds budget p out.old }
-    ensures { InnerPushed budget (range r.low r.high) p out.old result out.new }
+    ensures { InnerPushed budget r p out.old result out.new }
 {
     ranges_lists::inner_push(&mut out[2 * budget..], p, budget, r)
 }
@@ -38,17 +38,8 @@ impl Tally {
         ensures { result ≡ no_tally budget }
     {
         Tally {
-            outer: 0,
-            hint: ranges_stored::no_hint(),
-            inner: Pending {
-                n: 0,
-                last: None,
-                hint: ranges_stored::no_hint(),
-            },
-            seen: 0,
             budget,
-            full: 0,
-            partial: 0,
+            ..Tally::default()
         }
     }
 
@@ -58,7 +49,7 @@ impl Tally {
         ensures { result ≡ counts_in self.now inner contained }
     {
         Counts {
-            outer: self.outer as u64,
+            outer: self.outer.n as u64,
             inner,
             seen: self.seen,
             full: self.full,
@@ -87,7 +78,7 @@ impl Tally {
     // Counts a trixel as classified, and as full, with the identifiers of r at the depth.
     fn full_more(&mut self, r: Range)
         requires countable { Countable self.old }
-        requires small_range { SmallRange (range r.low r.high) }
+        requires small_range { SmallRange r }
         ensures { self.new ≡ one_full (r.high - r.low + 1) self.old }
     {
         self.seen_more();
@@ -97,17 +88,15 @@ impl Tally {
     // Pushes a range onto the outer list, and notes what is known of it then.
     fn push_outer(&mut self, out: &mut [u64], r: Range)
         requires { TallyInvariant self.old out.old }
-        ensures { OuterPushed (range r.low r.high) self.old out.old self.new out.new }
+        ensures { OuterPushed r self.old out.old self.new out.new }
     {
-        let pushed = ranges_lists::outer_push(out, self.outer, self.budget, r, self.hint);
-        self.outer = pushed.n;
-        self.hint = pushed.hint;
+        self.outer = ranges_lists::outer_push(out, self.outer, self.budget, r);
     }
 
     // Pushes a range onto the inner list, and notes what stands beside it then.
     fn add_inner(&mut self, out: &mut [u64], r: Range)
         requires { InnerNeeds self.old.budget self.old.inner out.old }
-        ensures { InnerAdded (range r.low r.high) self.old out.old self.new out.new }
+        ensures { InnerAdded r self.old out.old self.new out.new }
     {
         self.inner = push_inner(out, self.budget, self.inner, r);
     }
@@ -116,7 +105,7 @@ impl Tally {
     pub fn take_partial(&mut self, out: &mut [u64], r: Range)
         requires tally_invariant { TallyInvariant self.old out.old }
         requires countable { Countable self.old }
-        ensures { TrixelAccepted (taken_partial (range r.low r.high)) self.old out.old self.new out.new }
+        ensures { TrixelAccepted (taken_partial r) self.old out.old self.new out.new }
     {
         self.push_outer(out, r);
         self.partial_more();
@@ -126,8 +115,8 @@ impl Tally {
     pub fn take_full(&mut self, out: &mut [u64], r: Range)
         requires tally_invariant { TallyInvariant self.old out.old }
         requires countable { Countable self.old }
-        requires small_range { SmallRange (range r.low r.high) }
-        ensures { TrixelAccepted (taken_full (range r.low r.high)) self.old out.old self.new out.new }
+        requires small_range { SmallRange r }
+        ensures { TrixelAccepted (taken_full r) self.old out.old self.new out.new }
     {
         self.push_outer(out, r);
         self.add_inner(out, r);

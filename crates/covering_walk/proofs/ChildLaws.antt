@@ -1,5 +1,4 @@
--- The children of a trixel with its rays: each of the first three has a ray of the trixel as its first one, since it has two normals of the trixel as its
--- second and third. Assumes nothing.
+-- The children of a trixel by their numbers: each is what is made of the trixel and its cut. Assumes nothing.
 use mathlib.Core.Path.{◌≡◌, refl, sym, ap, ◌∙◌}
 use Prim.Native.Nat.{ℕ}
 use Rattle.vector.specs.declared.Vec3.{Vec3}

@@ -26,7 +26,6 @@ use Rattle.classify_prepared.specs.PreparedRegions.{halfspaces_in, ends_in, Read
 use Rattle.classify_active.specs.declared.ActiveHalfspaces.{ActiveHalfspaces}
 use Rattle.classify_active.specs.Active.{ActiveListsIn}
 use Rattle.ranges.specs.Ranges.{range}
-use Rattle.ranges_stored.specs.Stored.{no_hint}
 use Rattle.ranges_stored.proofs.HintLaws.{hinted_any}
 use Rattle.covering.specs.declared.Counts.{Counts}
 use Rattle.covering.specs.Cover.{descendants, left_out, taken_full, taken_partial, both, visit, cutting, listed, counts_of, both_listed}
@@ -296,7 +295,7 @@ module _ {depth : ℕ} {rg : HalfspaceLists 512 64} {ac : ActiveHalfspaces} {lef
         });
     budget = refl;
     seen = omega (arith, ap (λ q. q.seen) n.fresh);
-    tally = λ g p. subst (λ q. TallyHolds q.budget out₀ nothing q out₀) (sym n.fresh) (walk_start s₀.budget out₀ n.list no_hint);
+    tally = λ g p. subst (λ q. TallyHolds q.budget out₀ nothing q out₀) (sym n.fresh) (walk_start s₀.budget out₀ n.list);
   }
 
   module _ {k : ℕ} {s : Tally} {out : List ℕ} (d : Rooting depth rg ac left span s₀ out₀ k s out) (few : k < 8) where

@@ -139,7 +139,7 @@ pub record RootsGive (depth : ℕ) (p : HalfspaceLists 512 64) (s : Tally) (out 
 pub record Finishes (s : Tally) (out : List ℕ) (c : Counts) (out' : List ℕ) : Type 0 where
   pub inner : ℕ
   pub behind : InnerEnded s.budget out out' (inner_end s.budget (state_of s.inner (drop (2 * s.budget) out))) inner
-  pub counts : c ≡ counts_in s inner (identifiers (ranges_in s.outer out))
+  pub counts : c ≡ counts_in s inner (identifiers (ranges_in s.outer.n out))
 
 -- the lists stand in the lent list, and the counts are theirs
 abbrev pub Covers : HalfspaceLists 512 64 → ℕ → ℕ → List ℕ → Counts → List ℕ → Type 0

@@ -4,19 +4,21 @@
 
 ghost use Rattle.std.specs.Prelude.{◌≡◌, ◌-◌, ◌<◌};
 ghost use Rattle.mesh.specs.Trixels.{child};
+ghost use Rattle.mesh_trixels.specs.Corners.{SmallTrixel};
+ghost use Rattle.classify.specs.Shape.{ray0};
 ghost use Rattle.classify_prepared.specs.PreparedRegions.{ReadyRegion};
 ghost use Rattle.classify_active.specs.Active.{ActiveListsIn};
 ghost use Rattle.covering_tally.specs.Tally.{TallyInvariant};
 ghost use Rattle.covering_walk.specs.Children.{ClassifiedOf, CutParts};
 ghost use Rattle.covering_walk.specs.Walk.{found_in, found_below, child_level, LevelFits, Divisible, Needs, CutNeeds, Gives, AcceptedOrCut};
 
-use crate::stored_trixel::{StoredTrixel, stored};
+use crate::stored_trixel::StoredTrixel;
 use classify::Class;
 use classify_active::ActiveHalfspaces;
 use classify_prepared::prepared_region::PreparedRegion;
 use covering_tally::Tally;
-use mesh::Cut;
-use ranges_stored::Range;
+use mesh::{Cut, Trixel};
+use ranges::Range;
 use vector::Vec3;
 
 pub mod stored_trixel;
@@ -65,7 +67,7 @@ fn find_active(trixel: &StoredTrixel, region: &PreparedRegion, active: &mut Acti
     classify_active::find_active(&trixel.trixel, s, region, active);
 }
 
-// A trixel is left out or accepted by its class, where it needs not be cut; whether it is so. Else it is seen.
+// Counts a trixel as seen, and leaves it out or accepts it by its class. False where it is partial and above the depth: it is neither then, and is to be cut.
 fn accept_or_cut(
     classified: ClassifiedTrixel,
     level: Level,
@@ -117,6 +119,15 @@ fn child_level(level: Level, k: u64) -> Level
     }
 }
 
+// The trixel t, with its first ray r.
+fn stored(t: Trixel, r: Vec3) -> StoredTrixel
+    requires small_trixel { SmallTrixel t }
+    requires r_value { r ≡ ray0 t }
+    ensures { result.trixel ≡ t }
+{
+    StoredTrixel { trixel: t, ray: r }
+}
+
 // Child number k of a trixel with its cut. The first ray of child 0, 1 or 2 is the first, second or third ray of the trixel.
 fn child_of(k: u64, parent: &StoredTrixel, cut: Cut, classified: ClassifiedTrixel) -> StoredTrixel
     requires { CutParts parent.now.trixel cut parent.now.ray classified × (k < 4) }
@@ -143,9 +154,9 @@ fn copied(classified: ClassifiedTrixel) -> ClassifiedTrixel
     let second = classified.second;
     let third = classified.third;
     ClassifiedTrixel {
-        class: class,
-        second: second,
-        third: third,
+        class,
+        second,
+        third,
     }
 }
 
@@ -200,7 +211,7 @@ fn children_by_active(
     ensures { Gives region.now 4 (level.left - 1) (found_below level trixel.now.trixel) tally.old out.old tally.new
         out.new }
 {
-    let mut active = classify_active::none_active();
+    let mut active = ActiveHalfspaces::default();
     find_active(trixel, region, &mut active);
     children(trixel, classified, level, region, &active, out, tally);
 }

@@ -14,12 +14,3 @@ pub struct StoredTrixel {
     ghost small: { SmallTrixel trixel },
     ghost first: { ray ≡ ray0 trixel },
 }
-
-// The trixel t, with its first ray r.
-pub fn stored(t: Trixel, r: Vec3) -> StoredTrixel
-    requires small_trixel { SmallTrixel t }
-    requires r_value { r ≡ ray0 t }
-    ensures { result.trixel ≡ t }
-{
-    StoredTrixel { trixel: t, ray: r }
-}

@@ -9,7 +9,8 @@ use lib.Dec.{leb, ltb}
 use borrow.Author.Tests.{leb-true, leb-false, ltb-true, ltb-false, le-leb}
 use Rattle.algebra.specs.Lists.{some}
 use Rattle.algebra.proofs.Tests.{split}
-use Rattle.ranges.specs.Ranges.{Range, is_in, in_some, Ascends}
+use Rattle.ranges.specs.declared.Range.{Range}
+use Rattle.ranges.specs.Ranges.{is_in, in_some, Ascends}
 use Rattle.ranges.proofs.ListLaws.{is_in_law, not_below, not_above}
 use Rattle.frames.specs.Walk.{ahead, begins}
 

@@ -14,7 +14,8 @@ use borrow.Author.Tests.{ltb-true}
 use Rattle.algebra.specs.Lists.{every, tally}
 use Rattle.algebra.proofs.Tests.{and_left, and_right, and_both, or_cases}
 use Rattle.vector.specs.declared.Vec3.{Vec3}
-use Rattle.ranges.specs.Ranges.{Range, in_some}
+use Rattle.ranges.specs.declared.Range.{Range}
+use Rattle.ranges.specs.Ranges.{in_some}
 use Rattle.ranges.specs.Ranges as ranges
 use Rattle.index.specs.declared.Entry.{Entry}
 use Rattle.index.specs.Exposures.{only}

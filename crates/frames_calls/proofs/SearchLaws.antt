@@ -13,7 +13,8 @@ use Rattle.region.specs.Regions.{Region, holds}
 use Rattle.region.specs.Building.{total}
 use Rattle.region_points.specs.Points.{rows_hold}
 use Rattle.region_points.proofs.PointLaws.{rows_hold_law}
-use Rattle.ranges.specs.Ranges.{Range, ranges_in}
+use Rattle.ranges.specs.declared.Range.{Range}
+use Rattle.ranges.specs.Ranges.{ranges_in}
 use Rattle.ranges.proofs.Sound.{outer_few, inner_few}
 use Rattle.covering.specs.declared.Counts.{Counts}
 use Rattle.covering.specs.Cover.{Cover, cutting, listed, counts_of, both_listed}

@@ -2,7 +2,9 @@
 // test on the decoded rows. The rules are those of frames/specs/Answers.
 #![tactic(auto)]
 
-ghost use Rattle.std.specs.Prelude.{◌≡◌, true, List, ℕ, ◌+◌, ◌*◌, ◌≤◌, length};
+ghost use Rattle.std.specs.Prelude.{◌≡◌, true, List, ℕ, ◌+◌, ◌*◌, ◌≤◌, ◌<◌, length};
+ghost use Rattle.std.specs.Result.{MatchResult};
+ghost use Rattle.region.specs.Budgets.{budget_of};
 ghost use Rattle.index.specs.Exposures.{OwnerCapacity, is_owner};
 ghost use Rattle.frames.specs.Answers.{FramesCall};
 ghost use Rattle.covering_walk.specs.Walk.{SomeRows};
@@ -14,7 +16,7 @@ use covering::Counts;
 use frames::Frames;
 use frames_walk::DispositionCounts;
 use frames_walk::lists::{Lists, OwnedEntries, RegionRows};
-use index::{INDEX_LENGTH, OWNER_CAPACITY, OWNERS};
+use index::OWNER_CAPACITY;
 use limits::{HALFSPACES, MAX_DEPTH};
 use region::Header;
 
@@ -26,6 +28,8 @@ pub struct SearchResult {
 }
 
 // The cover of a region in the range list, and the walk over an owner's entries beside it, with the numbers delivered.
+// Kept: `SomeRows` is a clause and no ghost field of RegionRows: it is a word of covering_walk, which frames_walk, where RegionRows is made, does not stand on, and
+// a second type of the same rows would be no plainer.
 pub fn search(
     entries: OwnedEntries,
     region: RegionRows,
@@ -66,7 +70,18 @@ fn delivery(t: DispositionCounts) -> Frames
     }
 }
 
+// Whether a lent list has room for both lists of a cover under a budget as it is written; refusal 10.
+pub fn check_room(budget: u32, ranges: &[u64]) -> Result<(), Refusal>
+    ensures { MatchResult result (λ _. 4 * budget_of budget ≤ length ranges.now) (λ r. (r ≡ Refusal.Space) × (length ranges.now < 4 * budget_of budget)) }
+{
+    if ranges.len() < 4 * limits::budget_of(budget) {
+        return Err(Refusal::Space);
+    }
+    Ok(())
+}
+
 // The frames of a decoded file; refusal 10.
+// Kept: index, owner, ranges and numbers one by one, as htm_frames is lent them; so in the calls of a trial.
 fn frames_in(
     index: &[i64],
     owner: u32,
@@ -81,21 +96,17 @@ fn frames_in(
         → FramesCall owner index.now f ranges.old numbers.old
         result ranges.new numbers.new }
 {
-    let budget = limits::budget_of(h.budget);
-    if ranges.len() < 4 * budget {
-        return Err(Refusal::Space);
-    }
+    check_room(h.budget, ranges)?;
     if numbers.len() < OWNER_CAPACITY {
         return Err(Refusal::Space);
     }
-    if index.len() < INDEX_LENGTH {
-        return Err(Refusal::Space);
-    }
+    index::check_length(index)?;
     let region = RegionRows {
         rows,
         count: h.count as usize,
     };
     let entries = OwnedEntries { index, owner };
+    let budget = limits::budget_of(h.budget);
     let made = search(entries, region, h.depth, budget, ranges, numbers);
     Ok(delivery(made.dispositions))
 }
@@ -112,9 +123,7 @@ pub fn frames(
     ensures { FramesCall owner index.now file.now ranges.old numbers.old
         result ranges.new numbers.new }
 {
-    if OWNERS <= owner {
-        return Err(Refusal::Owner);
-    }
+    index::check_owner(owner)?;
     let mut rows = [0i32; 5 * HALFSPACES];
     let h = region_reader::decode(file, &mut rows)?;
     frames_in(index, owner, h, &rows, ranges, numbers)

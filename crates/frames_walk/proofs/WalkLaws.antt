@@ -1,20 +1,21 @@
 -- A walk, entry by entry: what the code does with an entry of the owner takes the walk past it, what it passes over is none that the walk visits, and from
 -- the first entry to the last that is the whole walk. Assumes nothing.
-use Prim.Native.Nat.{ℕ, suc, ◌+◌, ◌-◌, ◌*◌, ◌/◌, ◌^◌, ◌≤◌, ◌<◌}
+use Prim.Native.Nat.{ℕ, suc, ◌+◌, ◌-◌, ◌/◌, ◌^◌, ◌≤◌, ◌<◌}
 use mathlib.Core.Path.{◌≡◌, refl, sym, ap, subst, ◌∙◌}
 use mathlib.Core.Bool.{Bool, true, false, cond}
-use mathlib.Core.List.{List, [], ◌∷◌, ◌++◌, append_assoc, append-nil}
+use mathlib.Core.List.{List, [], ◌∷◌, ◌++◌, map, append_assoc, append-nil}
 use native.Mathlib.Omega.{arith}
-use lib.ListN.{take, drop, length-append}
-use lib.Seq.{take-nil, drop-drop}
+use native.Mathlib.Numerals.{add-one}
+use lib.ListN.{length, get_or, take, drop, length-append, length-map, get_or-map}
+use lib.Seq.{take-nil, drop-cons}
+use Rattle.std.proofs.lemmas.List.{drop_all}
 use lib.IntN.{ℤ}
 use Rattle.algebra.specs.Lists.{tally}
 use Rattle.answer.specs.Lent.{put}
 use Rattle.answer.proofs.PutLaws.{put_none}
 use Rattle.index.specs.declared.Entry.{Entry}
 use Rattle.index.specs.Exposures.{OwnerCapacity, only}
-use Rattle.index.specs.Entries.{is_owned, Width, entry_at, entries_from, count_in, entries_in}
-use Rattle.index_entries.proofs.EntryLaws.{entry_drop}
+use Rattle.index.specs.Entries.{is_owned, entry_at, entries_in}
 use Rattle.frames.specs.declared.Disposition.{Disposition}
 use Rattle.frames.specs.Walk.{natural, number_of, entries_of, ahead, begins, disposition_of, WalkStep, walk_step, walk, is_delivered, delivered_by}
 use Rattle.frames_walk.specs.declared.lists.Lists.{Lists}
@@ -105,8 +106,9 @@ module _ (x : OwnedEntries) (l : Lists) (g : RegionRows) (before : List ℕ) whe
   abbrev index : List ℤ
   index = x.index.now
 
+  -- those from number i on
   abbrev from : ℕ → List Entry
-  from i = entries_from (count_in index - i) (drop (1 + Width * i) index)
+  from i = drop i (entries_in index)
 
   abbrev whole : ℕ → List WalkStep
   whole d = walk d (held g) (outer_in l) (inner_in l) (entries_of o index)
@@ -116,40 +118,37 @@ module _ (x : OwnedEntries) (l : Lists) (g : RegionRows) (before : List ℕ) whe
   Past i a now = (d : ℕ) → l.span ≡ 4 ^ (12 - d) → Walking g d (whole d) (left o a.visited (from i)) before a now
 
   pub past_none : (t : DispositionCounts) → t ≡ disposition_counts 0 0 0 → Past 0 (record { visited = 0; lists = l; dispositions = t }) before
-  unfolding entries_in only tally
-  past_none t e d s =
-      let z : count_in index - 0 ≡ count_in index = omega arith in
-      record {
-        span = s;
-        behind = [];
-        parts = ap (λ k. walk d (held g) (outer_in l) (inner_in l) (take OwnerCapacity (only (is_owned o) (entries_from k (drop 1 index))))) z;
-        visited = refl;
-        dispositions = e;
-        numbers = sym (put_none 0 before);
-      }
+  unfolding only tally
+  past_none t e d s = record {
+    span = s;
+    behind = [];
+    parts = refl;
+    visited = refl;
+    dispositions = e;
+    numbers = sym (put_none 0 before);
+  }
 
-  next : (i : ℕ) → i < count_in index → from i ≡ entry_at index (1 + Width * i) ∷ from (i + 1)
-  unfolding entries_from
-  next i h =
-      let s : count_in index - i ≡ suc (count_in index - (i + 1)) = omega arith in
-      let q : 1 + Width * i + Width ≡ 1 + Width * (i + 1) = omega arith in
-      let r = drop-drop Width (1 + Width * i) index ∙ ap (λ k. drop k index) q in
-      ap (λ k. entries_from k (drop (1 + Width * i) index)) s
-      ∙ (λ j. entry_drop (1 + Width * i) index j ∷ entries_from (count_in index - (i + 1)) (r j))
+  -- each by its numbers
+  module _ (es : List (List ℤ)) (each : map (λ e. entry_at e 0) es ≡ entries_in index) where
+    next : (i : ℕ) (d : List ℤ) → i < length es → from i ≡ entry_at (get_or es i d) 0 ∷ from (i + 1)
+    next i d h =
+        ap (drop i) (sym each)
+        ∙ drop-cons (map (λ e. entry_at e 0) es) i (entry_at d 0) (omega (arith, length-map es (λ e. entry_at e 0)))
+        ∙ (λ j. get_or-map (λ e. entry_at e 0) es i d j ∷ drop (sym (add-one i) j) (each j))
 
-  pub past_next : (i : ℕ) (e : Entry) (a b : WalkState) (now then : List ℕ) → i < count_in index → e ≡ entry_at index (1 + Width * i)
-      → VisitsIfOwned o g e a now b then → Past i a now → Past (i + 1) b then
-  past_next i e a b now then h is goes past d s =
-      goes d (whole d) (from (i + 1)) before
-      (subst (λ xs. Walking g d (whole d) (left o a.visited xs) before a now) (next i h ∙ ap (λ f. f ∷ from (i + 1)) (sym is)) (past d s))
+    pub past_next : (i : ℕ) (n : List ℤ) (e : Entry) (a b : WalkState) (now then : List ℕ) → i < length es → e ≡ entry_at (get_or es i n) 0
+        → VisitsIfOwned o g e a now b then → Past i a now → Past (i + 1) b then
+    past_next i n e a b now then h is goes past d s =
+        goes d (whole d) (from (i + 1)) before
+        (subst (λ xs. Walking g d (whole d) (left o a.visited xs) before a now) (next i n h ∙ ap (λ f. f ∷ from (i + 1)) (sym is)) (past d s))
 
-  pub past_all : (i : ℕ) (a : WalkState) (now : List ℕ) → count_in index ≤ i → Past i a now → Walks x l g before a.dispositions now
-  unfolding entries_from only walk
-  past_all i a now h past d s =
-      let p = past d s in
-      let z : count_in index - i ≡ 0 = omega arith in
-      let none : left o a.visited (from i) ≡ [] = ap (λ k. left o a.visited (entries_from k (drop (1 + Width * i) index))) z ∙ take-nil (OwnerCapacity - a.visited) in
-      let all = sym (append-nil p.behind)
-      ∙ ap (λ xs. p.behind ++ walk d (held g) (outer_in a.lists) (inner_in a.lists) xs) (sym none)
-      ∙ p.parts in
-      record { dispositions = p.dispositions ∙ ap counts_by all; numbers = p.numbers ∙ ap (λ ms. put 0 (delivered_by ms) before) all }
+    pub past_all : (i : ℕ) (a : WalkState) (now : List ℕ) → length es ≤ i → Past i a now → Walks x l g before a.dispositions now
+    unfolding only walk
+    past_all i a now h past d s =
+        let p = past d s in
+        let z : from i ≡ [] = drop_all i (entries_in index) (omega (arith, length-map es (λ e. entry_at e 0), ap length each)) in
+        let none : left o a.visited (from i) ≡ [] = ap (left o a.visited) z ∙ take-nil (OwnerCapacity - a.visited) in
+        let all = sym (append-nil p.behind)
+        ∙ ap (λ xs. p.behind ++ walk d (held g) (outer_in a.lists) (inner_in a.lists) xs) (sym none)
+        ∙ p.parts in
+        record { dispositions = p.dispositions ∙ ap counts_by all; numbers = p.numbers ∙ ap (λ ms. put 0 (delivered_by ms) before) all }

@@ -14,7 +14,7 @@ ghost use Rattle.frames_walk.specs.Steps.{with_disposition, held, Fits, VisitsEn
 
 use crate::lists::{Lists, OwnedEntries, RegionRows};
 use frames::Disposition;
-use index::{Entry, OWNER_CAPACITY, WIDTH};
+use index::{Entry, OWNER_CAPACITY};
 use vector::Vec3;
 
 pub mod lists;
@@ -81,7 +81,8 @@ fn disposition_of(inner: bool, outer: bool, region: RegionRows, p: Vec3) -> Disp
     if !outer {
         return Disposition::Skipped;
     }
-    if vector_products::is_vector(p) && region_points::array_holds(region.rows, region.count, p) {
+    let rows = region.rows;
+    if vector_products::is_vector(p) && region_points::rows_hold(rows, region.count, p) {
         Disposition::Held
     } else {
         Disposition::Discarded
@@ -185,14 +186,9 @@ pub fn walk(
         lists,
         dispositions: DispositionCounts::default(),
     };
-    for i in 0..index_entries::count_in(entries.index) {
-        at = visit_if_owned(
-            at,
-            index_entries::entry_at(entries.index, 1 + WIDTH * i),
-            entries.owner,
-            region,
-            numbers,
-        );
+    for e in index_entries::entries(entries.index) {
+        let e = index_entries::entry_at(e, 0);
+        at = visit_if_owned(at, e, entries.owner, region, numbers);
     }
     at.dispositions
 }

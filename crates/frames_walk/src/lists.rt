@@ -32,6 +32,7 @@ impl<'a> Lists<'a> {
 }
 
 // The first n ranges of a list of numbers.
+// Kept: `pairs` of print gives what the list has, where that is less; this one asks for all n, and so gives the ranges of `ranges_in`.
 fn pairs<'a>(list: &'a [u64], n: usize) -> &'a [[u64; 2]]
     requires { 2 * n ≤ length list.now }
     ensures { ranges_of result.now ≡ ranges_in n list.now }
@@ -49,6 +50,7 @@ pub struct OwnedEntries<'a> {
 }
 
 // The rows of a region: the first `count` of an array.
+// Kept: an array and a count, as the clauses of `search` (`SomeRows`, `SearchesRows`) and `held` of specs/Steps speak of rows and of how many there are.
 #[derive(Clone, Copy)]
 pub struct RegionRows<'a> {
     pub rows: &'a [i32; 5 * HALFSPACES],

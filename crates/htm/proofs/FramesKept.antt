@@ -28,7 +28,8 @@ use Rattle.region.specs.Regions.{Region, holds}
 use Rattle.region.specs.Budgets.{budget_of}
 use Rattle.region.specs.Reader.{File, read, Accepted}
 use Rattle.region.proofs.ReaderLaws.{read_depth}
-use Rattle.ranges.specs.Ranges.{Range, is_in, in_some, ranges_in}
+use Rattle.ranges.specs.declared.Range.{Range}
+use Rattle.ranges.specs.Ranges.{is_in, in_some, ranges_in}
 use Rattle.covering.specs.Cover.{cover_of, cover, counts_of}
 use Rattle.covering.proofs.ListedLaws.{outer_back, inner_back}
 use Rattle.index.specs.declared.Entry.{Entry}

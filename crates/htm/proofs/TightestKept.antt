@@ -14,7 +14,8 @@ use Rattle.region.specs.Regions.{Region}
 use Rattle.region.specs.Budgets.{budget_of}
 use Rattle.region.proofs.BudgetLaws.{budget_one}
 use Rattle.region.proofs.ReaderLaws.{read_depth}
-use Rattle.ranges.specs.Ranges.{Range, in_some}
+use Rattle.ranges.specs.declared.Range.{Range}
+use Rattle.ranges.specs.Ranges.{in_some}
 use Rattle.ranges.specs.Lists.{outer_of}
 use Rattle.ranges.proofs.ListLaws.{some_has, Between, between_low, between_high}
 use Rattle.ranges.proofs.ContentsLaws.{between_outer}

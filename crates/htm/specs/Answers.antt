@@ -20,7 +20,8 @@ use Rattle.catalogue_line.specs.Lines.{pointing_in}
 use Rattle.mesh.specs.Lookup.{lookup}
 use Rattle.region.specs.Budgets.{budget_of}
 use Rattle.region.specs.Reader.{File, read}
-use Rattle.ranges.specs.Ranges.{Range, ranges_in}
+use Rattle.ranges.specs.declared.Range.{Range}
+use Rattle.ranges.specs.Ranges.{ranges_in}
 use Rattle.covering.specs.declared.Counts.{Counts}
 use Rattle.covering.specs.Cover.{cover, counts_of, both_listed}
 use Rattle.htm_abi.specs.Values.{or_zero}

@@ -9,7 +9,7 @@ use Rattle.std.specs.Prelude.{Ok}
 use Rattle.answer.specs.Calls.{answer_of}
 use Rattle.region.specs.Reader.{File, Accepted}
 use Rattle.mesh.specs.Identifiers.{identifiers_at}
-use Rattle.ranges.specs.Ranges.{Range}
+use Rattle.ranges.specs.declared.Range.{Range}
 use Rattle.ranges.specs.Contents.{Contains}
 use Rattle.covering.specs.declared.Counts.{Counts}
 use Rattle.covering.specs.Cover.{Found, cutting}

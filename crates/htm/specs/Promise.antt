@@ -18,7 +18,8 @@ use Rattle.region.specs.Regions.{holds}
 use Rattle.region.specs.Budgets.{budget_of}
 use Rattle.region.specs.Reader.{File, Accepted}
 use Rattle.region.specs.Answers.{point_test}
-use Rattle.ranges.specs.Ranges.{Range, in_some, times_in, Proper}
+use Rattle.ranges.specs.declared.Range.{Range}
+use Rattle.ranges.specs.Ranges.{in_some, times_in, Proper}
 use Rattle.covering.specs.Cover.{cover}
 use Rattle.covering.specs.declared.Counts.{Counts}
 use Rattle.htm.specs.Answers.{cover_answer, cover_after, outer_in, inner_in}

@@ -15,7 +15,8 @@ use Rattle.region.specs.declared.Style.{Style}
 use Rattle.region.specs.Writer.{write_in}
 use Rattle.region.specs.Converting.{convert}
 use Rattle.region.specs.Answers.{read_answer, read_after, file_answer, file_after}
-use Rattle.index.specs.Exposures.{is_owner, Exposure, Key}
+use Rattle.index.specs.declared.Key.{Key}
+use Rattle.index.specs.Exposures.{is_owner, Exposure}
 use Rattle.index.specs.Entries.{nothing}
 use Rattle.index.specs.Answers.{addable, removable, begin_answer, begin_after, add_answer, add_after, remove_answer, remove_after}
 use Rattle.frames.specs.Answers.{frames_answer, ranges_after, numbers_after}

@@ -12,7 +12,8 @@ use Rattle.answer.specs.Calls.{answer_of}
 use Rattle.mesh.specs.Identifiers.{identifier_at, identifiers_at}
 use Rattle.region.specs.Budgets.{budget_of}
 use Rattle.region.specs.Reader.{File, Accepted}
-use Rattle.ranges.specs.Ranges.{Range, in_some}
+use Rattle.ranges.specs.declared.Range.{Range}
+use Rattle.ranges.specs.Ranges.{in_some}
 use Rattle.ranges.specs.Contents.{different, Feasible}
 use Rattle.covering.specs.Cover.{cutting}
 use Rattle.covering.specs.declared.Counts.{Counts}

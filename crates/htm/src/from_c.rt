@@ -78,6 +78,8 @@ pub extern "C" fn htm_identifier(name: &[u8]) -> u64
 
 // The corners of the trixel of an identifier to depth 12, nine numbers at the beginning of `out`: 0, or minus the number of the refusal, 10 where
 // `out` has fewer than nine elements.
+// Kept: a match, so in all calls that fill a list: tried with `?`, and as a call from C gives no Result each was two functions, the second with the same
+// clauses of its lists once more.
 #[unsafe(no_mangle)]
 pub extern "C" fn htm_corners(id: u64, out: &mut [i32]) -> i64
     ensures value { result ≡ status_of (corners_for_c id out.old) }
@@ -132,6 +134,7 @@ pub extern "C" fn htm_to_plain(file: &[u8], out: &mut [u8]) -> i64
 }
 
 // The point test: 1 where the region holds the pointing, 0 where it does not, or minus the number of the refusal.
+// Kept: a match, as no other call answers yes or no: a function for it in htm_abi would have one caller, and be as long as this.
 #[unsafe(no_mangle)]
 pub extern "C" fn htm_holds(file: &[u8], x: i32, y: i32, z: i32) -> i64
     ensures { result ≡ held_for_c (point_test file.now (vec x y z)) }

@@ -47,6 +47,7 @@ pub extern "C" fn htm_index_count(index: &[i64]) -> i64
 
 // The entry at a place: 1, with its six numbers at the beginning of `out`; 0 where there is none; or minus the number of the refusal, 10 also where there is an
 // entry and `out` has fewer elements.
+// Kept: a match, here and in `htm_frames`, as in from_c.rt: with `?` each was two functions, the second with the same clauses of its lists once more.
 #[unsafe(no_mangle)]
 pub extern "C" fn htm_index_entry(index: &[i64], place: u32, out: &mut [i64]) -> i64
     ensures value { result ≡ found_for_c (entry_for_c place index.now out.old) }

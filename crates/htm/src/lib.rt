@@ -1,6 +1,6 @@
 // The public face: every exported call; those for a host in C stand in from_c.rt, index_from_c.rt and trial_from_c.rt. Each answers by the rule that its
-// contract names, for good and bad input alike, and none has a `requires`. A refusal carries its number only (crate answer), and then every lent element keeps
-// its value.
+// contract names, for good and bad input alike, and none has a `requires`. A refusal says no more than which check failed (`Refusal` of answer), and then every
+// lent element keeps its value.
 #![tactic(auto)]
 
 ghost use Rattle.std.specs.Prelude.{◌≡◌};
@@ -140,6 +140,7 @@ pub fn holds(file: &[u8], x: i32, y: i32, z: i32) -> Result<bool, Refusal>
 
 // The cover of a region file: the outer list from element 0 of `out`, the inner list from element 2 × budget, pairs low and high; both counts,
 // seen, full, partial and swallowed. The file's refusals, then 10 where `out` has fewer than 4 × budget elements.
+// Kept: the test of the room itself and not `frames_calls::check_room`, as the edit hollow_space_for_every_file is of it.
 pub fn cover(file: &[u8], out: &mut [u64]) -> Result<Counts, Refusal>
     ensures result_value { answer_of result ≡ cover_answer file.now out.old }
     ensures out_after { out.new ≡ cover_after file.now out.old }
@@ -162,6 +163,7 @@ pub fn index_begin(index: &mut [i64]) -> Result<(), Refusal>
 }
 
 // Adds an exposure of an owner, 0 or 1, to an index, by its number and its pointing; refusals 18, 8, 10, 15, 16.
+// Kept: index, owner, number and pointing one by one, as htm_add is handed them; so in the other calls of an index, and in those of a pointing.
 pub fn add(
     index: &mut [i64],
     owner: u32,

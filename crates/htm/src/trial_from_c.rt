@@ -13,6 +13,7 @@ const PART_LENGTH: usize = 2;
 
 // A trial: the two lists of each setting in its buffer, and eleven numbers at the beginning of `numbers`: unchecked, held, discarded, outer and inner count of
 // each setting, and the choice, 1 or 2. 0, or minus the number of the refusal, 10 also where `numbers` has fewer elements.
+// Kept: a match, as in from_c.rt: with `?` it was two functions, the second with the same clauses of its lists once more.
 #[unsafe(no_mangle)]
 pub extern "C" fn htm_trial(
     index: &[i64],
@@ -52,6 +53,7 @@ pub extern "C" fn htm_trial(
 
 // The part that `chosen` hands back, given what `htm_trial` returned, its numbers and its two buffers: which buffer, and how many elements of it, at the
 // beginning of `part`. Any status but 0 is a refusal: no buffer, and the empty part. 0, or −10.
+// Kept: two tests with one refusal, as each is of a list of its own: the edit c_part_of_one is of the second.
 #[unsafe(no_mangle)]
 pub extern "C" fn htm_chosen<'a>(
     status: i64,

@@ -55,6 +55,7 @@ pub fn or_zero(answer: Result<u64, Refusal>) -> u64
 }
 
 // A refusal's number, below zero.
+// Kept: of a number and no Refusal, as `number_for_c` is of the number in `refused`, and the edit c_holds_refusal_is_8 hands it one.
 pub fn minus(n: u32) -> i64
     ensures { (result ≡ neg_ℤ (pos n)) × Upto (2 ^ 32) result }
 {
@@ -72,7 +73,7 @@ pub fn number_or_minus(answer: Result<u64, Refusal>) -> i64
     }
 }
 
-// The answer of a call that changes the index: 0, or minus the number of the refusal.
+// 0 where a call was done, or minus the number of the refusal.
 pub fn status(answer: Result<(), Refusal>) -> i64
     ensures { (result ≡ status_of (answer_of answer)) × Upto (2 ^ 32) result }
 {
@@ -122,6 +123,7 @@ pub fn file_refusal_or_space(file: &[u8]) -> Refusal
 }
 
 // As above, with an owner: 18, the file's own refusal, or 10.
+// Kept: the test itself, here and in trials.rt: with `check_owner(owner).err()` the file would be read by a closure, which is no plainer.
 pub fn owner_refusal_or_space(owner: u32, file: &[u8]) -> Refusal
     ensures { check Owner (is_owner owner) (file_refusal_or_space file.now) ≡ refused (number result) }
 {

@@ -33,6 +33,7 @@ pub fn choice_number(c: Choice) -> u64
 }
 
 // The result of one setting, from element k on.
+// Kept: by place, as `result_in` reads a lent list; a pattern of five names, over parts of five, would name each number twice.
 fn result_at(numbers: &[u64], k: usize) -> SettingResult
     requires { k + 5 ≤ length numbers.now }
     ensures { result ≡ result_in numbers.now k }
@@ -59,6 +60,8 @@ pub fn trial_at(numbers: &[u64]) -> Trial
 }
 
 // The refusal of a trial where a lent list is too short: 18, the file's, 5 and 6 of each setting, or 10.
+// Kept: owner and file once more, as in specs/ShortLists: `owner_refusal_or_space` gives 10 for a good file, and no clause of `decode` says that a bad one has
+// another number.
 pub fn trial_refusal_or_space(owner: u32, file: &[u8], s: Setting, t: Setting) -> Refusal
     ensures { trial_refusal_or_space owner file.now s t ≡ refused (number result) }
 {

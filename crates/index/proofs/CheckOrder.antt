@@ -12,7 +12,8 @@ use lib.IntN.{ℤ}
 use Rattle.answer.specs.Answer.{Answer, refused, gives, check, then, Vector, Space, Owner}
 use Rattle.vector.specs.Vectors.{is_vector}
 use Rattle.index.specs.declared.Entry.{Entry}
-use Rattle.index.specs.Exposures.{is_owner, Exposure, Key, key_of, answered}
+use Rattle.index.specs.declared.Key.{Key}
+use Rattle.index.specs.Exposures.{is_owner, Exposure, key_of, answered}
 use Rattle.index.specs.Entries.{IndexLength, entry_of, entries_in, inserting, withdrawing}
 use Rattle.index.specs.Answers.{in_list, addable, removable, adding, removing, add_answer, remove_answer}
 

@@ -22,7 +22,8 @@ use Rattle.vector.specs.Numbers.{eq_z}
 use Rattle.vector.specs.Vectors.{is_vector}
 use Rattle.mesh.specs.Lookup.{identifier}
 use Rattle.index.specs.declared.Entry.{Entry}
-use Rattle.index.specs.Exposures.{IndexCapacity, OwnerCapacity, is_owner, Exposure, is_number, Key, key, key_of, has_owner, has_key, has_place, Call, adds, removes, without, giving, leaving, answered, content_from, content_of, answers_from}
+use Rattle.index.specs.declared.Key.{Key}
+use Rattle.index.specs.Exposures.{IndexCapacity, OwnerCapacity, is_owner, Exposure, is_number, key, key_of, has_owner, has_key, has_place, Call, adds, removes, without, giving, leaving, answered, content_from, content_of, answers_from}
 use Rattle.index.specs.Entries.{IndexLength, entry_of, is_owned, is_keyed, count_of, entries_from, entries_in, with_entries, inserted, withdrawn, has_room}
 use Rattle.index.specs.Answers.{adding, removing, add_answer, add_after, remove_answer, remove_after, begin_answer, begin_after, count_answer}
 use Rattle.index.specs.HistoryCorrect.{EntriesMatch, is_filed, IsIndex, IsEmpty, call_answer, call_after, Runs, numbered, Numbered, ServesAgain, HistoryCorrect}

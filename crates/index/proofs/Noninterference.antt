@@ -14,7 +14,8 @@ use Rattle.algebra.specs.Lists.{some, tally}
 use Rattle.algebra.proofs.Tests.{split}
 use Rattle.answer.specs.Answer.{Answer, refused, gives, check, with_value, Vector, Twice, Full, Absent, Owner}
 use Rattle.vector.specs.Vectors.{is_vector}
-use Rattle.index.specs.Exposures.{OwnerCapacity, is_owner, Exposure, Key, key_of, has_owner, has_key, only, has_place, Call, adds, removes, without, giving, leaving, answered, content_from, content_of, answers_from}
+use Rattle.index.specs.declared.Key.{Key}
+use Rattle.index.specs.Exposures.{OwnerCapacity, is_owner, Exposure, key_of, has_owner, has_key, only, has_place, Call, adds, removes, without, giving, leaving, answered, content_from, content_of, answers_from}
 use Rattle.index.specs.Entries.{entry_of, is_owned, entries_in}
 use Rattle.index.specs.HistoryCorrect.{Leaves}
 use Rattle.index.specs.Noninterference.{owner_of, calls_of, answers_to, Ran, Noninterference, OwnEntries}

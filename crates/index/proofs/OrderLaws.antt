@@ -11,7 +11,8 @@ use Rattle.algebra.specs.Lists.{every, some}
 use Rattle.algebra.proofs.Tests.{and_left, and_right, and_both, or_cases, or_left, or_right, split}
 use Rattle.vector.specs.Numbers.{eq_z}
 use Rattle.index.specs.declared.Entry.{Entry}
-use Rattle.index.specs.Exposures.{Exposure, Key, key_of, only}
+use Rattle.index.specs.declared.Key.{Key}
+use Rattle.index.specs.Exposures.{Exposure, key_of, only}
 use Rattle.index.specs.Entries.{entry_of, below, by_number, precedes, is_keyed, inserted, withdrawn}
 use Rattle.index.specs.HistoryCorrect.{Ascends}
 

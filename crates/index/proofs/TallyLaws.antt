@@ -10,7 +10,8 @@ use lib.Dec.{ltb}
 use lib.ListN.{length}
 use Rattle.algebra.specs.Lists.{every, some, tally}
 use Rattle.index.specs.declared.Entry.{Entry}
-use Rattle.index.specs.Exposures.{Key, only}
+use Rattle.index.specs.declared.Key.{Key}
+use Rattle.index.specs.Exposures.{only}
 use Rattle.index.specs.Entries.{precedes, is_keyed, inserted, withdrawn}
 
 -- ---- of any list

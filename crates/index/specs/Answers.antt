@@ -15,7 +15,8 @@ use Rattle.answer.specs.Answer.{Answer, refused, gives, check, Vector, Space, Ow
 use Rattle.answer.specs.Lent.{stored}
 use Rattle.vector.specs.Vectors.{is_vector}
 use Rattle.index.specs.declared.Entry.{Entry}
-use Rattle.index.specs.Exposures.{is_owner, Exposure, Key, key_of, answered}
+use Rattle.index.specs.declared.Key.{Key}
+use Rattle.index.specs.Exposures.{is_owner, Exposure, key_of, answered}
 use Rattle.index.specs.Entries.{IndexLength, entry_of, count_in, entries_in, with_entries, inserting, withdrawing, Slot, found, nothing, slot_at}
 
 -- what is answered on a list that is long enough

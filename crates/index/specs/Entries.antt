@@ -29,7 +29,8 @@ use Rattle.vector.specs.Numbers.{eq_z}
 use Rattle.vector.specs.Vectors.{vec, three}
 use Rattle.mesh.specs.Lookup.{identifier}
 use Rattle.index.specs.declared.Entry.{Entry}
-use Rattle.index.specs.Exposures.{IndexCapacity, OwnerCapacity, Exposure, Key, has_place}
+use Rattle.index.specs.declared.Key.{Key}
+use Rattle.index.specs.Exposures.{IndexCapacity, OwnerCapacity, Exposure, has_place}
 
 abbrev pub entry : ℤ → ℤ → ℤ → Vec3 → Entry
 entry id number owner pointing = record { id = id; number = number; owner = owner; pointing = pointing }

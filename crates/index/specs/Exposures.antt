@@ -20,6 +20,7 @@ use Rattle.algebra.specs.Lists.{some, tally}
 use Rattle.answer.specs.Answer.{Answer, refused, gives, check, with_value, Vector, Twice, Full, Absent, Owner}
 use Rattle.vector.specs.declared.Vec3.{Vec3}
 use Rattle.vector.specs.Vectors.{vec, is_vector}
+use Rattle.index.specs.declared.Key.{Key}
 
 abbrev pub IndexCapacity : ℕ
 IndexCapacity = 2048
@@ -43,10 +44,6 @@ exposure o n x y z = exposed o n (vec x y z)
 
 abbrev pub is_number : ℕ → Bool
 is_number n = ltb n 4294967296
-
-pub record Key : Type 0 where
-  pub owner : ℕ
-  pub number : ℕ
 
 abbrev pub key : ℕ → ℕ → Key
 key o n = record { owner = o; number = n }

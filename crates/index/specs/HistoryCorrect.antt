@@ -24,7 +24,8 @@ use Rattle.vector.specs.Numbers.{eq_z}
 use Rattle.vector.specs.Vectors.{is_vector}
 use Rattle.mesh.specs.Lookup.{identifier}
 use Rattle.index.specs.declared.Entry.{Entry}
-use Rattle.index.specs.Exposures.{IndexCapacity, OwnerCapacity, is_owner, Exposure, is_number, Key, key_of, has_owner, has_key, has_place}
+use Rattle.index.specs.declared.Key.{Key}
+use Rattle.index.specs.Exposures.{IndexCapacity, OwnerCapacity, is_owner, Exposure, is_number, key_of, has_owner, has_key, has_place}
 use Rattle.index.specs.Exposures.{Call, adds, removes, content_of, answers_of}
 use Rattle.index.specs.Entries.{IndexLength, entry_of, precedes, is_owned, is_keyed, has_room, entries_in}
 use Rattle.index.specs.Answers.{add_answer, add_after, remove_answer, remove_after, begin_answer, begin_after, count_answer}

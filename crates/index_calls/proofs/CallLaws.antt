@@ -4,10 +4,10 @@ use Prim.Native.Nat.{ℕ, zero, suc, ◌+◌, ◌*◌, ◌-◌, ◌≤◌, ◌<�
 use Rattle.std.specs.Prelude.{Result, Ok, Err}
 use Rattle.answer.specs.declared.Refusal.{Refusal}
 use mathlib.Core.Path.{◌≡◌, sym, ap, ◌∙◌, refl}
-use mathlib.Core.Bool.{Bool, true, false, not}
+use mathlib.Core.Bool.{Bool, true, false, not, ◌&&◌}
 use mathlib.Core.List.{List, [], ◌∷◌, ◌++◌}
 use native.Mathlib.Omega.{arith}
-use borrow.Author.Tests.{lt-leb, le-leb, lt-ltb, le-ltb}
+use borrow.Author.Tests.{lt-leb, le-leb, lt-ltb, le-ltb, ltb-true, ltb-false}
 use lib.Dec.{leb, ltb}
 use lib.ListN.{length, take, drop, set, length-append, length-drop}
 use lib.Seq.{length-take-le, drop-drop}
@@ -15,16 +15,18 @@ use lib.IntN.{ℤ, pos}
 use mir.Syntax.{w64}
 use mir.Val.{to_z}
 use Rattle.algebra.proofs.Sized.{nat}
+use Rattle.algebra.proofs.Tests.{split, and_then}
 use Rattle.answer.specs.Calls.{answer_of}
 use Rattle.algebra.specs.Lists.{some, tally}
 use Rattle.answer.specs.Answer.{Answer, refused, gives, check, Space, Owner}
 use Rattle.answer.specs.Lent.{put}
 use Rattle.index.specs.declared.Entry.{Entry}
-use Rattle.index.specs.Exposures.{IndexCapacity, OwnerCapacity, Exposure, Key, has_place}
+use Rattle.index.specs.declared.Key.{Key}
+use Rattle.index.specs.Exposures.{IndexCapacity, OwnerCapacity, Exposure, has_place}
 use Rattle.index.specs.Entries.{Width, IndexLength, numbers, entry_at, precedes, is_owned, is_keyed, count_in, entries_from, entries_in, written, with_entries, inserted, withdrawn, has_room, inserting, withdrawing, Slot, nothing, slot_at}
 use Rattle.index.specs.Answers.{in_list, beginning, adding, removing, begin_answer, begin_after, add_answer, add_after, remove_answer, remove_after, count_answer, entry_answer}
 use Rattle.index.proofs.WrittenLaws.{length_entries}
-use Rattle.algebra.proofs.Moves.{shifted_down}
+use Rattle.algebra.specs.Moves.{shifted_down}
 use Rattle.index_entries.specs.Steps.{leading, staying, raised}
 use Rattle.index_entries.proofs.EntryLaws.{entry_drop}
 use Rattle.index_entries.proofs.MovedLaws.{one_more, one_less}
@@ -100,7 +102,7 @@ module _ (l : List ℤ) (n : ℕ) (long : IndexLength ≤ length l) (is : n ≡ 
       owned : tally (is_owned k.owner) (entries_in l) ≡ w
       owned = ap (tally (is_owned k.owner)) (sym read) ∙ sym c
 
-      pub is_full_law : OwnerCapacity ≤ w → Done (in_list l (inserting k e (entries_in l))) l l (Err Refusal.Full)
+      is_full_law : OwnerCapacity ≤ w → Done (in_list l (inserting k e (entries_in l))) l l (Err Refusal.Full)
       is_full_law f =
           let g : has_place OwnerCapacity (is_owned k.owner) (entries_in l) ≡ false = ap (λ m. ltb m OwnerCapacity) owned ∙ le-ltb w OwnerCapacity f in
           record { answer = rw (a, b, g) refl; list = rw (a, b, g) refl }
@@ -109,7 +111,7 @@ module _ (l : List ℤ) (n : ℕ) (long : IndexLength ≤ length l) (is : n ≡ 
         place : has_place OwnerCapacity (is_owned k.owner) (entries_in l) ≡ true
         place = ap (λ m. ltb m OwnerCapacity) owned ∙ lt-ltb w OwnerCapacity f
 
-        pub no_room : IndexCapacity ≤ n → Done (in_list l (inserting k e (entries_in l))) l l (Err Refusal.Full)
+        no_room : IndexCapacity ≤ n → Done (in_list l (inserting k e (entries_in l))) l l (Err Refusal.Full)
         no_room h =
             let g : has_room (entries_in l) ≡ false = le-ltb (length (entries_in l)) IndexCapacity (omega (arith, entries)) in
             record { answer = rw (a, b, place, g) refl; list = rw (a, b, place, g) refl }
@@ -131,6 +133,13 @@ module _ (l : List ℤ) (n : ℕ) (long : IndexLength ≤ length l) (is : n ≡ 
             ∙ ap (λ x. pos x ∷ written (take p es ++ e ∷ drop p es) (drop 1 l)) m
             ∙ ap (λ x. with_entries x l) t in
             record { answer = rw (a, b, place, r) refl; list = rw (a, b, place, r) d }
+
+    pub is_full : (e : Entry) (w : ℕ) → n ≤ i → w ≡ tally (is_owned k.owner) (entries_from n (drop 1 l)) → ltb w OwnerCapacity && ltb n IndexCapacity ≡ false
+        → Done (in_list l (inserting k e (entries_in l))) l l (Err Refusal.Full)
+    is_full e w past c t =
+        split (ltb w OwnerCapacity)
+        (λ p. no_room e w past c (ltb-true w OwnerCapacity p) (ltb-false n IndexCapacity (and_then (ltb n IndexCapacity) p ∙ t)))
+        (λ p. is_full_law e w past c (ltb-false w OwnerCapacity p))
 
     pub is_absent : n ≤ i → Done (in_list l (withdrawing k (entries_in l))) l l (Err Refusal.Absent)
     is_absent h =

@@ -1,5 +1,4 @@
 pub mod EntryLaws
-pub mod NumberLaws
 pub mod ShiftLaws
 pub mod SearchLaws
 pub mod MovedLaws

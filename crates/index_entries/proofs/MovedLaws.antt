@@ -10,7 +10,7 @@ use lib.Seq.{take-add, drop-drop}
 use Rattle.answer.specs.Lent.{put}
 use Rattle.index.specs.declared.Entry.{Entry}
 use Rattle.index.specs.Entries.{Width, numbers, entry_at, entries_from, written}
-use Rattle.algebra.proofs.Moves.{shifted_down}
+use Rattle.algebra.specs.Moves.{shifted_down}
 use Rattle.index_entries.specs.Steps.{raised}
 use Rattle.index_entries.proofs.EntryLaws.{first}
 use Rattle.index_entries.proofs.ShiftLaws.{put_raised}

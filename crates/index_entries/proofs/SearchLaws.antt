@@ -14,7 +14,7 @@ use borrow.Author.Tests.{lt-ltb}
 use Rattle.algebra.specs.Lists.{every, some, tally}
 use Rattle.algebra.proofs.Tests.{and_both, and_no_left, and_no_right}
 use Rattle.index.specs.declared.Entry.{Entry}
-use Rattle.index.specs.Exposures.{Key}
+use Rattle.index.specs.declared.Key.{Key}
 use Rattle.index.specs.Entries.{precedes, is_keyed, Width, entry_at, entries_from, inserted, withdrawn}
 use Rattle.index_entries.specs.Steps.{leading, staying}
 use Rattle.index_entries.proofs.EntryLaws.{entry_drop}

@@ -7,7 +7,7 @@ use Rattle.std.specs.Prelude.{◌≡◌, ◌<◌, ℕ, suc, ◌+◌, Bool, cond,
 use Rattle.std.proofs.Math.Seq.{paste}
 use Rattle.algebra.specs.Lists.{every, tally}
 use Rattle.index.specs.declared.Entry.{Entry}
-use Rattle.index.specs.Exposures.{Key}
+use Rattle.index.specs.declared.Key.{Key}
 use Rattle.index.specs.Entries.{Width, is_owned, is_keyed}
 
 module _ {A : Type 0} where

@@ -36,7 +36,7 @@ pub const MAX_FILE_BYTES: usize = 10508;
 pub fn is_depth(d: u32) -> bool
     ensures { result ≡ is_depth d }
 {
-    1 <= d && d <= MAX_DEPTH
+    (1..=MAX_DEPTH).contains(&d)
 }
 
 // 6: a budget of at most 2048.

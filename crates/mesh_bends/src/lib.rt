@@ -24,24 +24,25 @@ pub struct Bends {
 
 const K_SQUARE: i64 = K * K;
 
+// What a bend is a part of.
+pub const BEND_UNIT: i64 = 16777216;
+
 // What products of bends are divided by.
-const EDGE_UNIT: i64 = 65536;
+const EDGE_UNIT: i64 = K_SQUARE / BEND_UNIT;
 
-const SQUARE_UNIT: i64 = 16777216;
+const CUBE_UNIT: i64 = 128 * BEND_UNIT;
 
-const CUBE_UNIT: i64 = 2147483648;
-
-const CUT_UNIT: i64 = 67108864;
+const CUT_UNIT: i64 = 4 * BEND_UNIT;
 
 // A fourth of CUT_UNIT, less a little: the first cut of an edge has nearly a fourth of its bend.
 const CUT_PART: i64 = 16537216;
 
-// The bend of an edge by s, which is 2^24 times the versine of its angle.
+// The bend of an edge by s, the versine of its angle as a part of BEND_UNIT.
 fn bend_by(s: i64) -> i64
     requires { Upto (2 ^ 26) s }
     ensures { result ≡ bend_by s }
 {
-    let s2 = s * s / SQUARE_UNIT;
+    let s2 = s * s / BEND_UNIT;
     s / 4 + s2 / 32 + s2 * s / CUBE_UNIT
 }
 
@@ -75,13 +76,13 @@ fn part(a: i64, n: u64) -> i64
     (a as u64 / n) as i64
 }
 
-// The bend of the edge that a cut makes, beside an edge with the bend a, by the sum of the three bends; FIRST, at the first cut below the table.
-fn cut<const FIRST: bool>(a: i64, sum: i64) -> i64
+// The bend of the edge that a cut makes, beside an edge with the bend a, by the sum of the three bends; `first`, at the first cut below the table.
+fn cut(a: i64, sum: i64, first: bool) -> i64
     requires pos_bound { (pos 0 ≤ℤ a) × Upto (2 ^ 20) a }
     requires upto { Upto (2 ^ 22) sum }
-    ensures { result ≡ cond FIRST (first_cut a sum) (later_cut a) }
+    ensures { result ≡ cond first (first_cut a sum) (later_cut a) }
 {
-    if FIRST {
+    if first {
         a * (CUT_PART + 266 * sum / 256 - 272 * a / 256) / CUT_UNIT
     } else {
         part(a, 4) + part(a, 256)
@@ -89,11 +90,11 @@ fn cut<const FIRST: bool>(a: i64, sum: i64) -> i64
 }
 
 // The bend of half an edge, after that cut.
-fn half<const FIRST: bool>(a: i64) -> i64
+fn half(a: i64, first: bool) -> i64
     requires { (pos 0 ≤ℤ a) × Upto (2 ^ 20) a }
-    ensures { result ≡ cond FIRST (first_half a) (later_half a) }
+    ensures { result ≡ cond first (first_half a) (later_half a) }
 {
-    if FIRST {
+    if first {
         part(a, 4) + part(a, 1024)
     } else {
         part(a, 4)
@@ -121,39 +122,39 @@ fn turned(a: Bends, k: u64) -> Bends
 }
 
 // After a cut, the bends of the child at the first corner.
-fn at_corner<const FIRST: bool>(a: Bends) -> Bends
+fn at_corner(a: Bends, first: bool) -> Bends
     requires { SmallBends a }
-    ensures { result ≡ cond FIRST (first_at_corner a) (later_at_corner a) }
+    ensures { result ≡ cond first (first_at_corner a) (later_at_corner a) }
 {
     Bends {
-        a0: cut::<FIRST>(a.a0, a.a0 + a.a1 + a.a2),
-        a1: half::<FIRST>(a.a1),
-        a2: half::<FIRST>(a.a2),
+        a0: cut(a.a0, a.a0 + a.a1 + a.a2, first),
+        a1: half(a.a1, first),
+        a2: half(a.a2, first),
     }
 }
 
 // Those of the child in the middle.
-fn in_middle<const FIRST: bool>(a: Bends) -> Bends
+fn in_middle(a: Bends, first: bool) -> Bends
     requires { SmallBends a }
-    ensures { result ≡ cond FIRST (first_in_middle a) (later_in_middle a) }
+    ensures { result ≡ cond first (first_in_middle a) (later_in_middle a) }
 {
     let sum = a.a0 + a.a1 + a.a2;
     Bends {
-        a0: cut::<FIRST>(a.a0, sum),
-        a1: cut::<FIRST>(a.a1, sum),
-        a2: cut::<FIRST>(a.a2, sum),
+        a0: cut(a.a0, sum, first),
+        a1: cut(a.a1, sum, first),
+        a2: cut(a.a2, sum, first),
     }
 }
 
-// The bends of child number k; 3 and above is the one in the middle. FIRST, from depth 3 to depth 4.
-pub fn bends_below<const FIRST: bool>(a: Bends, k: u64) -> Bends
+// The bends of child number k; 3 and above is the one in the middle. `first`, from depth 3 to depth 4.
+pub fn bends_below(a: Bends, k: u64, first: bool) -> Bends
     requires { SmallBends a }
-    ensures { result ≡ bends_below FIRST k a }
+    ensures { result ≡ bends_below first k a }
 {
     let t = turned(a, k);
     if k < 3 {
-        at_corner::<FIRST>(t)
+        at_corner(t, first)
     } else {
-        in_middle::<FIRST>(t)
+        in_middle(t, first)
     }
 }

@@ -64,8 +64,7 @@ const PUSH: i64 = 5;
 // The margin of the first level, 24 · 2^40. It doubles from level to level, as the numbers do.
 const FIRST_MARGIN: i64 = 26388279066624;
 
-// What a bend is a part of.
-const BEND_UNIT: u64 = 16777216;
+const BEND_UNIT: u64 = mesh_bends::BEND_UNIT as u64;
 
 // So many levels from the table on are bent: further down the edges are short enough.
 const BENT_LEVELS: u32 = 4;
@@ -267,18 +266,6 @@ fn child_numbers<const BENT: bool>(n: Numbers, a: Bends, digit: u64) -> Numbers
     }
 }
 
-// The bends of the child number d, k levels below the table.
-fn bends_below(k: u32, a: Bends, d: u64) -> Bends
-    requires { SmallBends a }
-    ensures { result ≡ bends_below (eqb k 0) d a }
-{
-    if k == 0 {
-        mesh_bends::bends_below::<true>(a, d)
-    } else {
-        mesh_bends::bends_below::<false>(a, d)
-    }
-}
-
 // The digits of p below the entry of the table with the corners c and the identifier id, as many of n as are sure, but at most those of the bent levels.
 fn bent_digits(p: Vec3, c: Corners, id: u64, n: u32) -> BentDigits
     requires small { Small p }
@@ -299,13 +286,14 @@ fn bent_digits(p: Vec3, c: Corners, id: u64, n: u32) -> BentDigits
             return BentDigits { sure, numbers };
         };
         numbers = child_numbers::<true>(numbers, bends, digit);
-        bends = bends_below(k, bends, digit);
+        bends = mesh_bends::bends_below(bends, digit, k == 0);
         sure = sure.with(digit);
     }
     BentDigits { sure, numbers }
 }
 
 // The digits of p below the entry of the table with the corners c and the identifier id, as many of n as are sure.
+// Kept: c and id are two parameters, as no trixel has both: c are the corners of S0's entry, id is of the root's trixel that it is turned to.
 pub fn jump(p: Vec3, c: Corners, id: u64, n: u32) -> SureDigits
     requires small { Small p }
     requires small_corners { SmallCorners c }

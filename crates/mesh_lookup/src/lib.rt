@@ -9,7 +9,7 @@ ghost use Rattle.vector.specs.Vectors as vectors;
 ghost use Rattle.vector.proofs.Sizes.{Small};
 ghost use Rattle.mesh.specs.Lookup as rule;
 ghost use Rattle.mesh.specs.Lookup.{not_negative, north_root, south_root, root_number};
-ghost use Rattle.mesh_table.specs.Table.{Row, vector_in};
+ghost use Rattle.mesh_table.specs.Table.{vector_at};
 ghost use Rattle.mesh_trixels.specs.Corners.{bare, SmallCorners};
 ghost use Rattle.mesh_jump.specs.Jumps.{along};
 ghost use Rattle.mesh_lookup.specs.LookupSteps.{digit_by, ChildStep, Descent, turned_corners, TableStart};
@@ -17,6 +17,7 @@ ghost use Rattle.mesh_lookup.specs.LookupSteps.{digit_by, ChildStep, Descent, tu
 use answer::Refusal;
 use mesh::Corners;
 use mesh_jump::SureDigits;
+use mesh_trixels::FIRST_ROOT;
 use vector::Vec3;
 
 // A digit, and the corners of that child.
@@ -50,8 +51,7 @@ fn exactly_on_side(a: Vec3, b: Vec3, p: Vec3) -> bool
     0 <= vector_products::dot(mesh_trixels::normal(a, b), p)
 }
 
-// The same, by (a × b)·p where that is beyond three times the largest component of a × b: it has the same sign there. With two calls of the exact test
-// the compiler leaves it outside the descent.
+// The same, by (a × b)·p where its size is beyond three times the largest component of a × b: it has the same sign there.
 fn on_side(a: Vec3, b: Vec3, p: Vec3) -> bool
     requires small { Small a × Small b }
     requires small_2 { Small p }
@@ -59,20 +59,14 @@ fn on_side(a: Vec3, b: Vec3, p: Vec3) -> bool
 {
     let c = vector_products::cross(a, b);
     let s = vector_products::dot(p, c);
-    let m = 3 * vector_units::largest(c) as i64;
-    if m < s {
-        return true;
-    }
-    if 0 <= s {
-        return exactly_on_side(a, b, p);
-    }
-    if s < -m {
-        return false;
+    if 3 * vector_units::largest(c) < s.unsigned_abs() {
+        return 0 < s;
     }
     exactly_on_side(a, b, p)
 }
 
 // The child that p goes to, by the cuts; the middle of the edge v1 v2 is found only where it is needed.
+// Kept: three tests one after the other, as each needs midpoints that those before it may make needless.
 fn step(p: Vec3, c: Corners) -> Child
     requires small { Small p }
     requires small_corners { SmallCorners c }
@@ -105,14 +99,14 @@ fn step(p: Vec3, c: Corners) -> Child
     }
 }
 
-// The trixel n levels down from that with the identifier id and the corners c.
-fn descend(p: Vec3, c: Corners, id: u64, n: u32) -> LocatedTrixel
+// The trixel n levels down from `start`.
+fn descend(p: Vec3, start: LocatedTrixel, n: u32) -> LocatedTrixel
     requires small { Small p }
-    requires small_corners { SmallCorners c }
-    requires id_bound { (id < 2 ^ 40) × (n ≤ 11) }
-    ensures { Descent p c id n result }
+    requires small_corners { SmallCorners start.corners }
+    requires id_bound { (start.id < 2 ^ 40) × (n ≤ 11) }
+    ensures { Descent p start.corners start.id n result }
 {
-    let mut at = LocatedTrixel { id, corners: c };
+    let mut at = start;
     for _level in 0..n {
         let s = step(p, at.corners);
         at = LocatedTrixel {
@@ -157,6 +151,8 @@ fn passes(p: Vec3, n: Vec3) -> bool
 }
 
 // The child that p goes to, by the normals of the three cuts turned round.
+// Kept: the rule's three tests; the place in an array of the first normal that passes, `[a, b, c].iter().position(..)`, would be an Option, with 3 for None and
+// a closure that asks that p and the normal are small.
 fn digit_by(p: Vec3, a: Vec3, b: Vec3, c: Vec3) -> u64
     requires small { Small p }
     requires small_2 { Small a × Small b × Small c }
@@ -175,37 +171,42 @@ fn digit_by(p: Vec3, a: Vec3, b: Vec3, c: Vec3) -> u64
     3
 }
 
-// The same, by three vectors of a row of the table.
-fn table_digit(row: &[i32; 72], p: Vec3, a: usize, b: usize, c: usize) -> u64
-    requires row { Row row.now }
+// The same, by three vectors of the table.
+fn table_digit(p: Vec3, a: usize, b: usize, c: usize) -> u64
     requires small { Small p }
-    requires a_bound { (a < 24) × (b < 24) × (c < 24) }
-    ensures value { result ≡ digit_by p (vector_in row.now a) (vector_in row.now b) (vector_in row.now c) }
+    requires a_bound { (a < 96) × (b < 96) × (c < 96) }
+    ensures value { result ≡ digit_by p (vector_at a) (vector_at b) (vector_at c) }
     ensures upper_bound { result < 4 }
 {
     digit_by(
         p,
-        mesh_table::vector_at(row, a),
-        mesh_table::vector_at(row, b),
-        mesh_table::vector_at(row, c),
+        mesh_table::vector_at(a),
+        mesh_table::vector_at(b),
+        mesh_table::vector_at(c),
     )
 }
 
-// The trixel of depth 3 that p goes to, from the table of S0, with p turned back into S0. The cuts of S0 stand in the table as normals of two children of its
-// middle child, those of a trixel of depth 2 as the normals of its middle child.
+// Where the cuts of S0 stand in the table, as normals of two children of its middle child.
+const CUT_0: usize = 83;
+
+const CUT_1: usize = 76;
+
+const CUT_2: usize = 77;
+
+// The trixel of depth 3 that p goes to, from the table of S0, with p turned back into S0. The cuts of a trixel of depth 2 stand
+// in it as the normals of its middle child. Below each child of S0 the table has 24 vectors.
 fn from_table(p: Vec3, root: u64) -> TableTrixel
     requires small { Small p }
     requires root_bound { root < 8 }
     ensures { TableStart p root result }
 {
-    let last = mesh_table::row(3);
     let q = mesh_table::turned_back(mesh_table::rotation(root), p);
-    let d = table_digit(&last, q, 11, 4, 5);
-    let row = mesh_table::row(d);
-    let e = table_digit(&row, q, 21, 22, 23);
+    let d = table_digit(q, CUT_0, CUT_1, CUT_2);
+    let below = 24 * d as usize;
+    let e = table_digit(q, below + 21, below + 22, below + 23);
     TableTrixel {
-        id: 128 + 16 * root + 4 * d + e,
-        entry: mesh_table::corners_at(&row, 6 * e as usize),
+        id: 16 * (FIRST_ROOT + root) + 4 * d + e,
+        entry: mesh_table::corners_at(below + 6 * e as usize),
         pointing: q,
     }
 }
@@ -218,13 +219,11 @@ fn rest_of(p: Vec3, c: Corners, sure: SureDigits, n: u32) -> u64
     requires id_bound { (sure.id < 2 ^ 40) × (sure.count ≤ n) × (n ≤ 9) }
     ensures { result ≡ rule.descend p (n - sure.count) (along sure.count sure.id (bare c)) sure.id }
 {
-    descend(
-        p,
-        mesh_jump::corners_along(c, sure.id, sure.count),
-        sure.id,
-        n - sure.count,
-    )
-    .id
+    let start = LocatedTrixel {
+        id: sure.id,
+        corners: mesh_jump::corners_along(c, sure.id, sure.count),
+    };
+    descend(p, start, n - sure.count).id
 }
 
 // The identifier of p n levels below the trixel t of a root: the sure digits by a jump in S0, those that are left from the entry turned to the root.
@@ -255,8 +254,14 @@ fn identifier(p: Vec3, depth: u32) -> u64
 {
     let root = root_number(p);
     match depth {
-        1 => 8 + root,
-        2 => descend(p, mesh_trixels::root_corners(root), 8 + root, 1).id,
+        1 => FIRST_ROOT + root,
+        2 => {
+            let start = LocatedTrixel {
+                id: FIRST_ROOT + root,
+                corners: mesh_trixels::root_corners(root),
+            };
+            descend(p, start, 1).id
+        }
         _ => {
             let start = from_table(p, root);
             if depth == 3 {

@@ -16,13 +16,11 @@ pub fn depth_of(id: u64) -> u32
     ensures upper_bound { result ≤ 31 }
 {
     let bits = 64 - u64::leading_zeros(id);
-    if bits < 4 {
-        return 0;
+    if bits < 4 || bits % 2 == 1 {
+        0
+    } else {
+        bits / 2 - 1
     }
-    if bits % 2 == 1 {
-        return 0;
-    }
-    bits / 2 - 1
 }
 
 // The letter for what stands before the digits, 2 or 3.
@@ -94,16 +92,7 @@ const MAX_NAME_BYTES: usize = 32;
 fn is_name(name: &[u8]) -> bool
     ensures { result ≡ is_name name.now }
 {
-    if name.len() < 2 {
-        return false;
-    }
-    if MAX_NAME_BYTES < name.len() {
-        return false;
-    }
-    if !is_letter(name[0]) {
-        return false;
-    }
-    are_digits(&name[1..])
+    (2..=MAX_NAME_BYTES).contains(&name.len()) && is_letter(name[0]) && are_digits(&name[1..])
 }
 
 // What a letter stands for: 2 or 3.

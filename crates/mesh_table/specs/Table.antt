@@ -1,34 +1,20 @@
 -- The table of the trixels of depth 3 under S0, by the cutting rule. Document 01, 'Pointings and the mesh'; document 02, F-6.
---   numbers t   corners and normals of a trixel, x y z of v0 v1 v2 p0 p1 p2: eighteen numbers
---   table_from   the numbers of so many trixels of depth 3; those of the 16 under S0, 128 to 143, are the table
---   row_of d     the numbers of the four trixels below child number d of S0; Row xs, that xs are such numbers
---   vector_in xs k  the vector number k of a list of numbers
---   vector_at k  the corner or normal number k of these trixels, six for each
-use Rattle.std.specs.Prelude.{ℕ, zero, suc, ◌+◌, ◌*◌, ◌/◌, ◌%◌, ◌≡◌, cond, List, [], ◌++◌, eqb, ℤ, pos, get_or}
+--   vectors_of t   corners and normals of a trixel, v0 v1 v2 p0 p1 p2, each as its numbers x y z
+--   table_from     those of so many trixels of depth 3; those of the 16 under S0, 128 to 143, are the table
+--   vector_at k    the corner or normal number k of these trixels, six for each
+use Rattle.std.specs.Prelude.{ℕ, zero, suc, ◌+◌, ◌/◌, ◌%◌, cond, List, [], ◌∷◌, ◌++◌, eqb, ℤ}
 use Rattle.vector.specs.declared.Vec3.{Vec3}
-use Rattle.vector.specs.Vectors.{vec, three}
+use Rattle.vector.specs.Vectors.{three}
 use Rattle.mesh.specs.declared.Trixel.{Trixel}
 use Rattle.mesh.specs.Identifiers.{trixel}
 
-abbrev pub numbers : Trixel → List ℤ
-numbers t = three t.v0 ++ three t.v1 ++ three t.v2 ++ three t.p0 ++ three t.p1 ++ three t.p2
+abbrev pub vectors_of : Trixel → List (List ℤ)
+vectors_of t = three t.v0 ∷ three t.v1 ∷ three t.v2 ∷ three t.p0 ∷ three t.p1 ∷ three t.p2 ∷ []
 
 -- of n trixels of depth 3, from the identifier i on
-unfoldable pub table_from : ℕ → ℕ → List ℤ
+unfoldable pub table_from : ℕ → ℕ → List (List ℤ)
 table_from zero i = []
-table_from (suc n) i = numbers (trixel 2 i) ++ table_from n (suc i)
-
--- the part of it below child number d of S0
-abbrev pub row_of : ℕ → List ℤ
-row_of d = table_from 4 (128 + 4 * d)
-
-pub record Row (xs : List ℤ) : Type 0 where
-  pub d : ℕ
-  pub is : xs ≡ row_of d
-
--- vector number k of a list of numbers
-abbrev pub vector_in : List ℤ → ℕ → Vec3
-vector_in xs k = vec (get_or xs (3 * k) (pos 0)) (get_or xs (3 * k + 1) (pos 0)) (get_or xs (3 * k + 2) (pos 0))
+table_from (suc n) i = vectors_of (trixel 2 i) ++ table_from n (suc i)
 
 -- corner or normal number a of a trixel: v0 v1 v2 p0 p1 p2
 abbrev pub part_of : ℕ → Trixel → Vec3

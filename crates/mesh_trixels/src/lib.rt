@@ -92,7 +92,7 @@ pub fn child_corners(c: Corners, k: u64) -> Corners
 }
 
 // The identifier of S0: the roots are 8 to 15.
-const FIRST_ROOT: u64 = 8;
+pub const FIRST_ROOT: u64 = 8;
 
 // The corners of the trixel with the identifier id, n levels below its root.
 fn corners_below(id: u64, n: u32) -> Corners
@@ -159,6 +159,9 @@ pub fn cut(t: Trixel) -> Cut
         c2: normal(w1, w0),
     }
 }
+
+// Kept: a function for each corner, as the rule's table of children has a row for each: one for all three would first turn the six vectors of the trixel and
+// the six of the cut, as many fields as these three have.
 
 // Child 0, at the corner v0.
 pub fn child0(t: Trixel, c: Cut) -> Trixel

@@ -91,21 +91,19 @@ fn of_double(d: f64) -> Result<i64, Refusal>
 
 // ---- a report
 
-// Three floats of an older mount, kept as they came.
+// Three floats of a mount, kept as they came.
 #[derive(Clone, Copy)]
-pub struct Single {
-    pub x: f32,
-    pub y: f32,
-    pub z: f32,
+pub struct Floats<F> {
+    pub x: F,
+    pub y: F,
+    pub z: F,
 }
 
-// Three floats of a newer mount, kept as they came.
-#[derive(Clone, Copy)]
-pub struct Double {
-    pub x: f64,
-    pub y: f64,
-    pub z: f64,
-}
+// Those of an older mount.
+pub type Single = Floats<f32>;
+
+// Those of a newer mount.
+pub type Double = Floats<f64>;
 
 #[derive(Clone, Copy)]
 pub enum Report {

@@ -8,7 +8,7 @@ use crate::{Fault, Output};
 use answer::Refusal;
 use covering::Counts;
 use limits::MAX_BUDGET;
-use region::Header;
+use region_records::Settings;
 use std::fmt;
 use std::fmt::Write;
 
@@ -19,9 +19,9 @@ pub const RANGES_LENGTH: usize = 4 * MAX_BUDGET as usize;
 pub fn lines(out: &mut Output, file: &[u8], separator: char) -> Result<(), Fault> {
     let mut lists = [0u64; RANGES_LENGTH];
     let counts = htm::cover(file, &mut lists)?;
-    let header = header_of(file)?;
-    let inner = inner_start(header.budget);
-    first_line(out, header.depth, counts)?;
+    let settings = settings_of(file)?;
+    let inner = inner_start(settings.budget);
+    first_line(out, settings.depth, counts)?;
     named(out, separator, 'o', pairs(&lists, 0, counts.outer))?;
     named(out, separator, 'i', pairs(&lists, inner, counts.inner))?;
     out.write_str("\n")?;
@@ -29,9 +29,9 @@ pub fn lines(out: &mut Output, file: &[u8], separator: char) -> Result<(), Fault
 }
 
 // Depth and budget of a file that is accepted: they stand in its header, and no other record is read for them.
-fn header_of(file: &[u8]) -> Result<Header, Refusal>
+fn settings_of(file: &[u8]) -> Result<Settings, Refusal>
     ensures { (x : File) → Accepted file.now x
-        → answer_of result ≡ gives (record { count = 0; depth = x.depth; budget = x.budget }) }
+        → answer_of result ≡ gives (record { depth = x.depth; budget = x.budget }) }
 {
     region_records::header_in(file)
 }
@@ -49,7 +49,8 @@ fn inner_start(budget: u32) -> usize {
     RANGES_LENGTH.min(2 * limits::budget_of(budget))
 }
 
-// The pairs of `count` ranges, from element `from` on.
+// The pairs of `count` ranges, from element `from` on, as far as the list has them.
+// Kept: `pairs` of frames_walk asks that the list has so many; here that would need a law over `cover_answer`, to save one comparison.
 fn pairs(lists: &[u64], from: usize, count: u64) -> &[[u64; 2]] {
     let (pairs, _) = lists.get(from..).unwrap_or(&[]).as_chunks::<2>();
     &pairs[..crate::least(count, pairs.len())]

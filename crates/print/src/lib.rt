@@ -1,9 +1,11 @@
 // What the programs print: bytes, numbers, names and refusals, collected until a buffer is full. After a write that failed nothing more is written.
 #![tactic(auto)]
 
-ghost use Rattle.std.specs.Prelude.{◌≡◌, ◌≤◌, Some};
+ghost use Rattle.std.specs.Prelude.{◌≡◌, ◌≤◌, true, false, [], Some};
 ghost use Rattle.std.specs.Option.{ForSome};
-ghost use Rattle.print.specs.Lost.{lost};
+ghost use Rattle.std.specs.Result.{is_ok};
+ghost use Rattle.print.specs.declared.Fault.{Fault};
+ghost use Rattle.print.specs.Lost.{lost, is_lost};
 ghost use Rattle.print.specs.Texts.{refused_text, point_text};
 
 use answer::Refusal;
@@ -19,11 +21,13 @@ pub mod regions;
 const SIZE: usize = 65536;
 
 // How many bytes a name has at most: a letter and 31 digits.
+// Kept: the like of mesh_names, on which this crate does not stand; in a shorter buffer `name` of htm would be refused.
 const NAME_BYTES: usize = 32;
 
 pub type Buffer = [u8; SIZE];
 
 // Why a line has no answer but `usage` or a refusal, or none at all: it is malformed, it is refused, or standard output takes no more.
+// Kept: the error of a Result, with three causes, each of which prints something else; an Option<Refusal> would not tell the other two apart.
 #[derive(Clone, Copy)]
 pub enum Fault {
     Malformed,
@@ -32,18 +36,23 @@ pub enum Fault {
 }
 
 impl From<Refusal> for Fault {
+    ghost from_gives = { λ n fault. fault ≡ Fault.Refused n };
+
     fn from(n: Refusal) -> Fault {
         Fault::Refused(n)
     }
 }
 
 impl From<fmt::Error> for Fault {
+    ghost from_gives = { λ _ fault. fault ≡ Fault.Lost };
+
     fn from(_e: fmt::Error) -> Fault {
         Fault::Lost
     }
 }
 
 // What is collected for standard output: so many bytes at the buffer's beginning, or none after a write that failed.
+// Kept: a buffer and its end, and no Vec, as the programs take no heap.
 #[derive(Drop)]
 pub struct Output {
     streams: Streams,
@@ -54,7 +63,9 @@ pub struct Output {
 
 impl Output {
     // With nothing collected.
-    pub fn new(streams: Streams) -> Output {
+    pub fn new(streams: Streams) -> Output
+        ensures { result.end ≡ Some 0 }
+    {
         Output {
             streams,
             buffer: io::large_buffer(),
@@ -78,6 +89,7 @@ impl Output {
     pub fn bytes(&mut self, part: &[u8]) -> fmt::Result
         ensures { self.old.end ≡ lost → self.new.end ≡ lost }
     {
+        // Kept: a `for`, as nothing is known of what the closure of a `try_for_each` changed, and the clause is of that.
         for b in part {
             self.byte(*b)?;
         }
@@ -101,7 +113,9 @@ impl Output {
     }
 
     // The numbers, each behind a blank.
-    pub fn list<T: fmt::Display>(&mut self, numbers: &[T]) -> fmt::Result {
+    pub fn list<T: fmt::Display>(&mut self, numbers: &[T]) -> fmt::Result
+        ensures { numbers.now ≡ [] → (is_ok result ≡ true) × (self.new.end ≡ self.old.end) }
+    {
         for n in numbers {
             write!(self, " {n}")?;
         }
@@ -109,7 +123,10 @@ impl Output {
     }
 
     // The end of an answer: what is printed where it was not given.
-    pub fn ended(&mut self, answer: Result<(), Fault>) -> fmt::Result {
+    pub fn ended(&mut self, answer: Result<(), Fault>) -> fmt::Result
+        ensures given { is_ok answer ≡ true → (is_ok result ≡ true) × (self.new.end ≡ self.old.end) }
+        ensures lost { is_lost answer ≡ true → (is_ok result ≡ false) × (self.new.end ≡ self.old.end) }
+    {
         match answer {
             Ok(()) => Ok(()),
             Err(Fault::Malformed) => self.write_str("usage\n"),
@@ -124,11 +141,11 @@ impl Output {
     {
         let end = self.end.ok_or(fmt::Error)?;
         self.end = None;
-        if self.streams.write(&self.buffer[..end]) {
-            self.end = Some(0);
-            return Ok(());
-        }
-        Err(fmt::Error)
+        self.streams
+            .write(&self.buffer[..end])
+            .map_err(|_| fmt::Error)?;
+        self.end = Some(0);
+        Ok(())
     }
 }
 

@@ -22,48 +22,58 @@ const SINGLE_SIGN: u32 = 1 << 31;
 const SINGLES: u64 = 1 << 32;
 
 // double X Y Z DEPTH
-pub fn double(mut words: Words<'_>, out: &mut Output) -> Result<(), Fault> {
-    let ([x, y, z], depth) = report(&mut words, 16)?;
-    let report = Double {
-        x: double_of(x),
-        y: double_of(y),
-        z: double_of(z),
-    };
-    out.located(htm::locate_report(Report::Double(report), depth)?)?;
-    Ok(())
+pub fn double(words: Words<'_>, out: &mut Output) -> Result<(), Fault> {
+    report(
+        words,
+        out,
+        16,
+        |x, y, z| Report::Double(Double {
+            x: double_of(x),
+            y: double_of(y),
+            z: double_of(z),
+        }),
+    )
 }
 
 // single X Y Z DEPTH
-pub fn single(mut words: Words<'_>, out: &mut Output) -> Result<(), Fault> {
-    let ([x, y, z], depth) = report(&mut words, 8)?;
-    let report = Single {
-        x: single_of(x),
-        y: single_of(y),
-        z: single_of(z),
-    };
-    out.located(htm::locate_report(Report::Single(report), depth)?)?;
+pub fn single(words: Words<'_>, out: &mut Output) -> Result<(), Fault> {
+    report(
+        words,
+        out,
+        8,
+        |x, y, z| Report::Single(Single {
+            x: single_of(x),
+            y: single_of(y),
+            z: single_of(z),
+        }),
+    )
+}
+
+// The bits of three floats of `digits` digits each, and a depth, to the line's end. `made` makes a report of the bits.
+fn report<F: FnOnce(u64, u64, u64) -> Report + Drop>(
+    mut words: Words<'_>,
+    out: &mut Output,
+    digits: usize,
+    made: F,
+) -> Result<(), Fault>
+    requires { F.IsAlwaysCallable made }
+{
+    let x = words.bits(digits)?;
+    let y = words.bits(digits)?;
+    let z = words.bits(digits)?;
+    let depth = words.natural()?;
+    words.end()?;
+    out.located(htm::locate_report(made(x, y, z), depth)?)?;
     Ok(())
 }
 
-// The bits of three floats of `digits` digits each, and a depth, to the line's end.
-fn report(words: &mut Words<'_>, digits: usize) -> Result<([u64; 3], u32), Fault> {
-    let bits = [
-        words.bits(digits)?,
-        words.bits(digits)?,
-        words.bits(digits)?,
-    ];
-    let depth = words.natural()?;
-    words.end()?;
-    Ok((bits, depth))
-}
-
 // The f64 of 64 bits. All patterns of a NaN are one NaN.
-// Kept: one function for each type of float, and one command, as a trait with the bits, the infinity and the sign would say the same in two impls.
+// Kept: one function for each type of float: a trait of both would have the infinity, the sign, `from_bits` and the format as members, given twice as here.
 fn double_of(bits: u64) -> f64
     ensures { result ≡ of_bits binary64 bits }
 {
     if DOUBLE_INFINITY < bits % DOUBLE_SIGN {
-        return 0.0 / 0.0;
+        return f64::NAN;
     }
     f64::from_bits(bits)
 }
@@ -74,7 +84,7 @@ fn single_of(bits: u64) -> f32
 {
     let pattern = (bits % SINGLES) as u32;
     if SINGLE_INFINITY < pattern % SINGLE_SIGN {
-        return 0.0 / 0.0;
+        return f32::NAN;
     }
     f32::from_bits(pattern)
 }

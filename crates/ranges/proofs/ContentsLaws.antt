@@ -12,7 +12,8 @@ use borrow.Author.Tests.{lt-ltb, le-ltb, eqb-true, eqb-false}
 use Rattle.algebra.specs.Lists.{some, numbers_from}
 use Rattle.algebra.proofs.Tests.{split, or_left}
 use Rattle.algebra.proofs.Counting.{count, count_parts, count_all, count_none, count_same}
-use Rattle.ranges.specs.Ranges.{Range, in_some, ranges_in}
+use Rattle.ranges.specs.declared.Range.{Range}
+use Rattle.ranges.specs.Ranges.{in_some, ranges_in}
 use Rattle.ranges.specs.Lists.{over, touch, joined, joined_from, smallest, place, earliest, gap, gaps, join_at, join_smallest, outer_of}
 use Rattle.ranges.specs.Contents.{identifiers, different, Contains, swallowed_from, swallowed_of}
 use Rattle.ranges.proofs.Earliest.{place_here, place_later, earliest_inside}

@@ -1,16 +1,14 @@
--- The smallest of some numbers and its place: it is there, a new number at the end changes it only where that is smaller, and a search from
--- the end finds it. Assumes nothing.
+-- The smallest of some numbers and its place: it is there, and a new number at the end changes it only where that is smaller. Assumes nothing.
 use Prim.Native.Nat.{ℕ, zero, suc, ◌+◌, ◌≤◌, ◌<◌, min}
-use mathlib.Core.Path.{◌≡◌, refl, sym, ap, ◌∙◌}
+use mathlib.Core.Path.{◌≡◌, refl, ap, ◌∙◌}
 use mathlib.Core.Bool.{true, false, cond, true≢false}
 use mathlib.Core.List.{List, [], ◌∷◌, ◌++◌, map}
 use native.Mathlib.Omega.{arith}
 use lib.Dec.{ltb, eqb}
-use lib.ListN.{length, get_or, drop}
-use lib.Seq.{drop_at, drop-cons}
+use lib.ListN.{length}
 use borrow.Author.Tests.{ltb-true, ltb-false, lt-ltb, le-ltb, eqb-true, eqb-false, eq-eqb, ne_eqb}
 use Rattle.algebra.proofs.Tests.{split, and_left, and_right}
-use Rattle.ranges.specs.Ranges.{Range}
+use Rattle.ranges.specs.declared.Range.{Range}
 use Rattle.ranges.specs.Lists.{smallest, place, earliest, without}
 use Rattle.ranges.proofs.Pushing.{below}
 
@@ -168,39 +166,3 @@ module _ (f g : Range → ℕ) (more : (a : Range) → g a ≡ f a + 1) where
       split (ltb (f r) (f a))
       (λ t. rw (t, lt-ltb (g r) (g a) (omega (arith, ltb-true (f r) (f a) t))) (below_more r xs))
       (λ t. rw (t, le-ltb (g r) (g a) (omega (arith, ltb-false (f r) (f a) t))))
-
--- ---- a search from the end
-
--- of the numbers from place i on, the smallest is `least`, and the first such is at `best`
-pub record Least (l : List ℕ) (i best least : ℕ) : Type 0 where
-  pub at : best ≡ i + earliest (drop i l)
-  pub is : least ≡ smallest (drop i l)
-
-pub least_start : (l : List ℕ) (g k : ℕ) → k ≡ length l → Least (l ++ g ∷ []) k k g
-unfolding smallest earliest
-least_start l g k e =
-    let d : drop k (l ++ g ∷ []) ≡ g ∷ [] = drop_at l (g ∷ []) k (sym e) in
-    record { at = rw d (omega (arith, place_here g g [] refl)); is = rw d }
-
-module _ (l : List ℕ) (i j h best least : ℕ) (one : j ≡ suc i) (inside : j < length l) (is : h ≡ get_or l i 0) (past : Least l j best least) where
-  next : (y : ℕ) × (m : List ℕ) × (drop j l ≡ y ∷ m)
-  next = (get_or l j 0, drop (suc j) l, drop-cons l j 0 inside)
-
-  now : drop i l ≡ h ∷ next.0 ∷ next.1
-  now = drop-cons l i 0 (omega arith) ∙ (rw (sym is, sym one) (ap (λ m. h ∷ m) next.2))
-
-  smaller : smallest (drop i l) ≡ min h least
-  smaller = ap smallest now ∙ smallest_cons h next.0 next.1 ∙ ap (λ m. min h m) (sym (past.is ∙ ap smallest next.2))
-
-  pub least_take : h ≤ least → Least l i i h
-  least_take t =
-      let e : earliest (drop i l) ≡ 0 = rw now (earliest_here h next.0 next.1 (rw (past.is ∙ ap smallest next.2) at t)) in
-      record { at = omega arith; is = omega (arith, smaller) }
-
-  pub least_keep : least < h → Least l i best least
-  least_keep t =
-      let e : earliest (drop i l) ≡ suc (earliest (drop j l)) = rw (now, next.2) (earliest_later h next.0 next.1 (rw (past.is ∙ ap smallest next.2) at t)) in
-      record { at = omega (arith, past.at); is = omega (arith, smaller) }
-
-pub least_end : (l : List ℕ) (best least : ℕ) → Least l 0 best least → best ≡ earliest l
-least_end l best least p = omega (arith, p.at)

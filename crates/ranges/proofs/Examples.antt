@@ -5,7 +5,7 @@ use Prim.Native.Nat.{ℕ}
 use mathlib.Core.Path.{◌≡◌, refl}
 use mathlib.Core.List.{List, [], ◌∷◌}
 use Rattle.algebra.specs.Lists.{some, tally, numbers_from}
-use Rattle.ranges.specs.Ranges.{Range}
+use Rattle.ranges.specs.declared.Range.{Range}
 use Rattle.ranges.specs.Lists.{joined, joined_from, smallest, place, earliest, while_more, gap, gaps, join_at, join_smallest, outer_of, size, without, drop_shortest, inner_of}
 use Rattle.ranges.specs.Contents.{identifiers, different, swallowed_from, swallowed_of}
 

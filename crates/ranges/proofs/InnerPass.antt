@@ -7,7 +7,7 @@ use mathlib.Core.List.{List, [], ◌∷◌, ◌++◌, map, map-append, foldl, ap
 use native.Mathlib.Omega.{arith}
 use lib.ListN.{length, length-map}
 use Rattle.algebra.proofs.Tests.{split}
-use Rattle.ranges.specs.Ranges.{Range}
+use Rattle.ranges.specs.declared.Range.{Range}
 use Rattle.ranges.specs.Lists.{over, touch, joined, joined_from, earliest, size, without, drop_shortest, inner_of, while_more}
 use Rattle.ranges.proofs.Loop.{length_snoc, Reduced, Shrinks, reduced_new}
 use Rattle.ranges.proofs.Pushing.{below, extend, inner_full, inner_close, Inner, empty, growing, inner_push, inner_end, inner_pass}

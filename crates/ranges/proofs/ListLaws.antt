@@ -10,7 +10,8 @@ use lib.ListN.{length}
 use borrow.Author.Tests.{leb-true, le-leb, lt-leb, ltb-true, ltb-false}
 use Rattle.algebra.specs.Lists.{some, tally}
 use Rattle.algebra.proofs.Tests.{split, and_left, and_right, and_both, and_no_left, and_no_right, or_cases, or_left, or_right}
-use Rattle.ranges.specs.Ranges.{Range, is_in, in_some, times_in, Ascends, Spaced, Proper}
+use Rattle.ranges.specs.declared.Range.{Range}
+use Rattle.ranges.specs.Ranges.{is_in, in_some, times_in, Ascends, Spaced, Proper}
 use Rattle.ranges.proofs.Sound.{SpacedBy, Separate, In, Has, later}
 
 -- ---- a range's test

@@ -10,7 +10,7 @@ use lib.Dec.{ltb}
 use lib.ListN.{length, length-append}
 use borrow.Author.Tests.{ltb-true, ltb-false, lt-ltb, le-ltb}
 use Rattle.algebra.proofs.Tests.{split}
-use Rattle.ranges.specs.Ranges.{Range}
+use Rattle.ranges.specs.declared.Range.{Range}
 use Rattle.ranges.specs.Lists.{while_more}
 
 pub length_snoc {ℓ} : {A : Type ℓ} (xs : List A) (r : A) → length (xs ++ r ∷ []) ≡ suc (length xs)

@@ -4,7 +4,7 @@ use Rattle.ranges.proofs.InnerPass.{inner_pass_law}
 use Prim.Native.Nat.{ℕ, ◌≤◌}
 use mathlib.Core.Path.{◌≡◌}
 use mathlib.Core.List.{List}
-use Rattle.ranges.specs.Ranges.{Range}
+use Rattle.ranges.specs.declared.Range.{Range}
 use Rattle.ranges.specs.Lists.{outer_of, inner_of}
 use Rattle.ranges.proofs.Pushing.{outer_pass, inner_pass}
 

@@ -16,7 +16,8 @@ use Rattle.algebra.proofs.Tests.{split, or_cases, or_left, or_right, or_none}
 use Rattle.algebra.proofs.Counting.{tally_pass, tally_fail, tally_length, tally_some, tally_step, tally_more, count, count_parts, count_all}
 use Rattle.algebra.proofs.Cheapest.{costs_taken, costs_left}
 use Rattle.algebra.proofs.Costs.{Costs}
-use Rattle.ranges.specs.Ranges.{Range, is_in, in_some}
+use Rattle.ranges.specs.declared.Range.{Range}
+use Rattle.ranges.specs.Ranges.{is_in, in_some}
 use Rattle.ranges.specs.Lists.{gap, gaps}
 use Rattle.ranges.specs.Contents.{identifiers}
 use Rattle.ranges.proofs.ListLaws.{is_in_law, in_low, in_high, Between, between_le}

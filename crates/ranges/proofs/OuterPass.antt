@@ -8,7 +8,7 @@ use native.Mathlib.Omega.{arith}
 use lib.Dec.{eqb}
 use lib.ListN.{length}
 use Rattle.algebra.proofs.Tests.{split}
-use Rattle.ranges.specs.Ranges.{Range}
+use Rattle.ranges.specs.declared.Range.{Range}
 use Rattle.ranges.specs.Lists.{over, touch, joined, joined_from, earliest, gaps, gap, join_at, join_smallest, outer_of, without, while_more}
 use Rattle.ranges.proofs.Loop.{length_snoc, Reduced, Shrinks, reduced_few, reduced_keeps, reduced_along, reduced_new, length_reduced}
 use Rattle.ranges.proofs.Pushing.{below, last_high, extend, new_gap, outer_full, outer_new, outer_push, outer_pass}

@@ -8,7 +8,7 @@ use mathlib.Core.Bool.{Bool, true, cond, ◌&&◌}
 use mathlib.Core.List.{List, [], ◌∷◌, ◌++◌, map, foldl}
 use lib.Dec.{eqb, ltb}
 use lib.ListN.{length}
-use Rattle.ranges.specs.Ranges.{Range}
+use Rattle.ranges.specs.declared.Range.{Range}
 use Rattle.ranges.specs.Lists.{over, touch, gaps, join_smallest, size, drop_shortest}
 
 -- g is below every one

@@ -9,7 +9,7 @@ use lib.Dec.{leb}
 use lib.ListN.{length}
 use borrow.Author.Tests.{leb-true, leb-false, eqb-true, eqb-false}
 use Rattle.algebra.proofs.Tests.{split}
-use Rattle.ranges.specs.Ranges.{Range}
+use Rattle.ranges.specs.declared.Range.{Range}
 use Rattle.ranges.specs.Lists.{over, touch, joined, joined_from, earliest, gaps, join_at, join_smallest, outer_of, size, without, drop_shortest, inner_of}
 use Rattle.ranges.proofs.Loop.{reduced_keeps, length_reduced}
 use Rattle.ranges.proofs.OuterPass.{join_smallest_shrinks}

@@ -14,7 +14,8 @@ use Rattle.algebra.specs.Lists.{some, numbers_from}
 use Rattle.algebra.proofs.Tests.{split, or_left}
 use Rattle.algebra.proofs.Cheapest.{none_below_less, cheapest_first}
 use Rattle.algebra.proofs.Costs.{Costs, NoneBelow}
-use Rattle.ranges.specs.Ranges.{Range, in_some}
+use Rattle.ranges.specs.declared.Range.{Range}
+use Rattle.ranges.specs.Ranges.{in_some}
 use Rattle.ranges.specs.Lists.{joined, smallest, earliest, without, gaps, join_smallest, while_more, outer_of}
 use Rattle.ranges.specs.Contents.{different, Feasible, swallowed_from, swallowed_of}
 use Rattle.ranges.proofs.Loop.{reduced_ind}

@@ -8,7 +8,8 @@
 --   swallowed_of b rs   the gaps that the outer list of rs is joined over, summed, step by step as `outer_of` joins; touching ranges have none
 use Rattle.std.specs.Prelude.{ℕ, zero, suc, ◌+◌, ◌≤◌, ◌≡◌, true, cond, List, [], ◌∷◌, ltb, length}
 use Rattle.algebra.specs.Lists.{tally}
-use Rattle.ranges.specs.Ranges.{Range, in_some}
+use Rattle.ranges.specs.declared.Range.{Range}
+use Rattle.ranges.specs.Ranges.{in_some}
 use Rattle.ranges.specs.Lists.{joined, smallest, gaps, join_smallest, size}
 
 unfoldable pub identifiers : List Range → ℕ

@@ -7,7 +7,7 @@
 --   size a          how many identifiers a range has
 --   inner_of b rs    the inner list: while there are more than b, drop the shortest, the earliest among equals
 use Rattle.std.specs.Prelude.{ℕ, zero, suc, ◌+◌, ◌-◌, min, Bool, cond, List, [], ◌∷◌, map, eqb, ltb, length}
-use Rattle.ranges.specs.Ranges.{Range}
+use Rattle.ranges.specs.declared.Range.{Range}
 
 -- ---- touching ranges join
 

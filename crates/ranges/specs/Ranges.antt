@@ -1,5 +1,5 @@
 -- Ranges of identifiers, and properties of a list of them. Document 01, 'The two lists'.
---   Range            low and high
+--   Range            low and high, of src/
 --   is_in i r         the identifier i is in the range r: neither below low nor above high
 --   in_some i rs      the identifier i is in a range of the list rs
 --   times_in i rs     in how many ranges of the list rs the identifier i is
@@ -11,10 +11,7 @@
 --   ranges_in n l     the first n ranges of the list l
 use Rattle.std.specs.Prelude.{ℕ, ◌+◌, ◌≤◌, ◌<◌, zero, suc, Bool, ◌&&◌, List, [], ◌∷◌, leb, length, get_or, drop}
 use Rattle.algebra.specs.Lists.{tally, some}
-
-pub record Range : Type 0 where
-  pub low : ℕ
-  pub high : ℕ
+use Rattle.ranges.specs.declared.Range.{Range}
 
 abbrev pub is_in : ℕ → Range → Bool
 is_in i r = leb r.low i && leb i r.high

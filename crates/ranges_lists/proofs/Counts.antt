@@ -7,7 +7,7 @@ use native.Mathlib.Omega.{arith}
 use lib.Dec.{ltb, eqb}
 use lib.ListN.{length}
 use Rattle.algebra.proofs.Tests.{split}
-use Rattle.ranges.specs.Ranges.{Range}
+use Rattle.ranges.specs.declared.Range.{Range}
 use Rattle.ranges.specs.Lists.{touch}
 use Rattle.ranges.proofs.Pushing.{last_high, outer_new, outer_push, inner_close, Inner, empty, growing, inner_push, inner_end}
 use Rattle.ranges_stored.specs.Stored.{closed}

@@ -5,7 +5,8 @@ use mathlib.Core.Path.{◌≡◌, refl, ap, ap₂, ◌∙◌, subst}
 use mathlib.Core.List.{List, []}
 use lib.ListN.{length}
 use Rattle.ranges_stored.specs.declared.Pending.{Pending}
-use Rattle.ranges.specs.Ranges.{Range, pairs, ranges_in}
+use Rattle.ranges.specs.declared.Range.{Range}
+use Rattle.ranges.specs.Ranges.{pairs, ranges_in}
 use Rattle.ranges.proofs.Pushing.{outer_push, Inner, empty, inner_push, inner_end}
 use Rattle.ranges_stored.specs.Stored.{written, Writes, nothing_yet, closed, state_of, Stores}
 use Rattle.ranges_stored.proofs.StoredLaws.{in_written, written_over}

@@ -11,15 +11,17 @@ use lib.ListN.{length, get_or, length-map}
 use borrow.Author.Tests.{ltb-true, ltb-false, eqb-true, eqb-false}
 use Rattle.algebra.proofs.Tests.{split}
 use Rattle.ranges_stored.specs.declared.MinHint.{MinHint}
-use Rattle.ranges.specs.Ranges.{Range, ranges_in}
+use Rattle.ranges.specs.declared.Range.{Range}
+use Rattle.ranges.specs.Ranges.{ranges_in}
 use Rattle.ranges.specs.Lists.{smallest, place, earliest, gaps, join_at, size, without}
 use Rattle.ranges.proofs.Pushing.{below, extend, new_gap, outer_full, inner_full}
+use Rattle.std.specs.Prelude.{Option, Some, None, MatchOption, ◌≢◌}
 use Rattle.ranges_stored.specs.Stored.{difference, differences, differences_in, Writes, hint_of, no_hint, Hinted, FirstAt, PointsAt}
 use Rattle.ranges.proofs.Earliest.{below_cons, cons_below, place_here, place_later, earliest_inside, earliest_snoc, earliest_more, below_more}
 use Rattle.ranges.proofs.OuterPass.{length_gaps, length_join_at, gaps_snoc, gaps_extend, gaps_join_at, last_high_join_at, full_join}
 use Rattle.ranges.proofs.InnerPass.{map_without, full_stays, full_drops}
 use Rattle.ranges_stored.proofs.StoredLaws.{in_written}
-use Rattle.ranges_stored.proofs.SearchLaws.{difference_at, length_differences}
+use Rattle.ranges_stored.proofs.SearchLaws.{difference_at, length_differences, Best}
 
 -- ---- the smallest of some numbers, by their places
 
@@ -90,21 +92,7 @@ module _ (x : ℕ) (l : List ℕ) where
       (λ t. absurd (place_first m (x ∷ l) i h k (eqb-true (get_or (x ∷ l) i 0) m t)))
       (λ t. let n = eqb-false (get_or (x ∷ l) i 0) m t in omega (arith, smallest_le x l i k))
 
--- the earliest of the smallest is one
-earliest_points : (l : List ℕ) (i v : ℕ) → 0 < length l → i ≡ earliest l → v ≡ get_or l i 0 → PointsAt (hint_of i v) l
-earliest_points [] i v h p q = absurd (omega arith)
-earliest_points (x ∷ l) i v h p q =
-    let s : v ≡ smallest (x ∷ l) = q ∙ ap (λ j. get_or (x ∷ l) j 0) p ∙ e_is x l in
-    record {
-      hinted = record {
-        at_least = λ j k. omega (arith, smallest_le x l j k);
-        before = λ j b k. omega (arith, e_first x l j (omega arith) k);
-      };
-      inside = omega (arith, e_inside x l);
-      is = sym q;
-    }
-
--- and there is no other
+-- there is one place only: the earliest of the smallest
 points_earliest : (h : MinHint) (l : List ℕ) → PointsAt h l → h.from ≡ earliest l
 points_earliest h [] p = absurd (omega (arith, p.inside))
 points_earliest h (x ∷ l) p =
@@ -225,44 +213,34 @@ module _ (start less n : ℕ) (l : List ℕ) (fits : start + 2 * n ≤ length l)
   abbrev pub read : ℕ → ℕ
   read i = get_or l (start + 2 * i + 1) 0 - get_or l (start + 2 * i) 0 - less
 
-  -- the search for the floor, one difference further
-  module _ (floor i here : ℕ) (p : Hinted (hint_of i floor) gs) (k : i < n) (is : here ≡ read i) where
-    pub first_here : here ≡ floor → FirstAt floor i gs
-    first_here t = record { hinted = p; is = λ _. sym (difference_at start less n l i k fits) ∙ sym is ∙ t }
+  -- the search for the floor, from number `from` on: those before m are above it, if none of those searched is the floor
+  above : (floor from m : ℕ) → Hinted (hint_of from floor) gs → m ≤ n → ((k : ℕ) → from ≤ k → k < m → read k ≢ floor) → (j : ℕ) → j < m → j < length gs → floor < get_or gs j 0
+  above floor from m p h f j b c =
+      split (ltb j from)
+      (λ u. p.before j (ltb-true j from u) c)
+      (λ u. apart (λ q. f j (ltb-false j from u) b (difference_at start less n l j (omega arith) fits ∙ q)) (p.at_least j c))
+    where
+      apart : {a b : ℕ} → b ≢ a → a ≤ b → a < b
+      apart n h = omega arith
 
-    pub first_later : (here ≡ floor → ⊥) → Hinted (hint_of (i + 1) floor) gs
-    first_later t = record {
-      at_least = p.at_least;
-      before = λ j b c. split (ltb j i)
-          (λ u. p.before j (ltb-true j i u) c)
-          (λ u.
-          let s : j ≡ i = omega (arith, ltb-false j i u) in
-          let r : here ≡ get_or gs j 0 = is ∙ difference_at start less n l i k fits ∙ ap (λ x. get_or gs x 0) (sym s) in
-          let m : floor ≤ get_or gs j 0 = p.at_least j c in
-          apart (λ q. t (r ∙ q)) m);
-    }
-      where
-        apart : {a b : ℕ} → (b ≡ a → ⊥) → a ≤ b → a < b
-        apart n h = omega arith
-
-  pub first_none : (floor i : ℕ) → Hinted (hint_of i floor) gs → n ≤ i → FirstAt floor n gs
-  first_none floor i p h = record {
-    hinted = record { at_least = p.at_least; before = λ j b c. p.before j (omega arith) c };
-    is = λ c. absurd (omega (arith, many));
+  pub first_found : (floor from : ℕ) (r : Option ℕ) → Hinted (hint_of from floor) gs
+      → MatchOption r ((k : ℕ) → from ≤ k → k < n → read k ≢ floor) (λ i. (from ≤ i) × (i < n) × (read i ≡ floor) × ((k : ℕ) → from ≤ k → k < i → read k ≢ floor)) → FirstAt floor r gs
+  first_found floor from None p f = record { at_least = p.at_least; before = λ j b c. above floor from n p (omega arith) f j (omega (arith, many)) c }
+  first_found floor from (Some i) p (low, high, is, f) = record {
+    hinted = record { at_least = p.at_least; before = above floor from i p (omega arith) f };
+    inside = omega (arith, many);
+    is = sym (difference_at start less n l i high fits) ∙ is;
   }
 
-  pub first_points : (floor i : ℕ) → FirstAt floor i gs → i < n → PointsAt (hint_of i floor) gs
-  first_points floor i f h = let k : i < length gs = omega (arith, many) in record { hinted = f.hinted; inside = k; is = f.is k }
-
-  -- the search through all of them
-  module _ (first i : ℕ) (some : 1 ≤ n) (is : first ≡ read 0) (least : i ≡ earliest (gs ++ first ∷ [])) where
-    all : i ≡ earliest gs
-    all =
-        let e : first ≡ get_or gs 0 0 = is ∙ difference_at start less n l 0 some fits in
-        least ∙ earliest_keeps gs first 0 (omega (arith, many)) (omega (arith, e))
-
-    pub all_inside : i < n
-    all_inside = omega (arith, all, earliest_inside gs (omega (arith, many)), many)
-
-    pub all_points : (floor : ℕ) → floor ≡ read i → PointsAt (hint_of i floor) gs
-    all_points floor e = earliest_points gs i floor (omega (arith, many)) all (e ∙ difference_at start less n l i all_inside fits)
+  -- the search for the smallest
+  pub best_points : (i floor : ℕ) → Best read n i → floor ≡ read i → PointsAt (hint_of i floor) gs
+  best_points i floor b e =
+      let at : (k : ℕ) → k < n → read k ≡ get_or gs k 0 = λ k h. difference_at start less n l k h fits in
+      record {
+        hinted = record {
+          at_least = λ k h. omega (arith, many, b.at_least k (omega (arith, many)), at k (omega (arith, many)), e);
+          before = λ k h c. omega (arith, b.before k h, at k (omega (arith, many)), e);
+        };
+        inside = omega (arith, many, b.inside);
+        is = sym (at i b.inside) ∙ sym e;
+      }

@@ -4,7 +4,7 @@ use mathlib.Core.Path.{◌≡◌, ap, ◌∙◌, refl}
 use mathlib.Core.List.{List, [], ◌∷◌, ◌++◌}
 use native.Mathlib.Omega.{arith}
 use lib.ListN.{length, take, drop}
-use Rattle.algebra.proofs.Moves.{shifted_down}
+use Rattle.algebra.specs.Moves.{shifted_down}
 use Rattle.ranges.specs.Lists.{join_at, without}
 use Rattle.ranges.specs.Ranges.{ranges_in}
 use Rattle.ranges_stored.specs.Stored.{written}

@@ -8,7 +8,8 @@ use native.Mathlib.Omega.{arith}
 use lib.ListN.{length, get_or, drop, set}
 use lib.Seq.{drop-nil}
 use Rattle.answer.specs.Lent.{put}
-use Rattle.ranges.specs.Ranges.{Range, pairs, range, ranges_in}
+use Rattle.ranges.specs.declared.Range.{Range}
+use Rattle.ranges.specs.Ranges.{pairs, range, ranges_in}
 use Rattle.ranges.proofs.Pushing.{last_high, extend}
 use Rattle.ranges_stored.specs.Stored.{written}
 use Rattle.ranges.proofs.OuterPass.{last_high_snoc}

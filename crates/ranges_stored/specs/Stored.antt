@@ -8,19 +8,22 @@
 -- Where the smallest gap of the outer list is, or the shortest range of the inner list, as far as it is known: a `MinHint`.
 --   hint_of           a hint, by its two numbers; no_hint is true of every list
 --   Hinted h gs      of the differences gs, every one is at least the floor of h, and those before number `from` are above it
---   FirstAt ..       number i is the first one that is the floor, or there is none and i is behind the last
 --   PointsAt h gs    the one of number `from` is the floor, and so the smallest, the earliest among equals
+--   FirstAt ..       a search for the floor found the first that is the floor, or none, where all are above it
 -- The inner list's last range may still grow, so it stands beside the lent list, with the count of those in it and what is known of their sizes
 -- less one: a `Pending`.
---   nothing_yet       where there is no range yet
+-- How many ranges a list has beside it, and what is known of them: a `StoredRanges`.
+--   none_stored       where there is no range yet; nothing_yet: of the inner list
 --   closed s         the closed ranges of the inner list s: all but the last, which may still grow
 --   state_of p l      the inner list that p and the lent list l stand for
 --   Stores ..        p and `after` stand for s, and `after` is `before` with the closed ranges of s, as many as p counts, at its front
-use Rattle.std.specs.Prelude.{ℕ, ◌-◌, ◌≤◌, ◌<◌, ◌≡◌, Some, None, List, [], map, length, get_or, drop}
+use Rattle.std.specs.Prelude.{ℕ, ◌-◌, ◌≤◌, ◌<◌, ◌≡◌, Option, Some, None, MatchOption, List, [], map, length, get_or, drop}
 use Rattle.ranges_stored.specs.declared.MinHint.{MinHint}
+use Rattle.ranges_stored.specs.declared.StoredRanges.{StoredRanges}
 use Rattle.ranges_stored.specs.declared.Pending.{Pending}
 use Rattle.answer.specs.Lent.{put}
-use Rattle.ranges.specs.Ranges.{Range, pairs, range, ranges_in}
+use Rattle.ranges.specs.declared.Range.{Range}
+use Rattle.ranges.specs.Ranges.{pairs, ranges_in}
 use Rattle.ranges.proofs.Pushing.{Inner, empty, growing}
 
 abbrev pub difference : ℕ → Range → ℕ
@@ -49,25 +52,27 @@ pub record Hinted (h : MinHint) (gs : List ℕ) : Type 0 where
   pub at_least : (i : ℕ) → i < length gs → h.floor ≤ get_or gs i 0
   pub before : (i : ℕ) → i < h.from → i < length gs → h.floor < get_or gs i 0
 
-pub record FirstAt (floor i : ℕ) (gs : List ℕ) : Type 0 where
-  pub hinted : Hinted (hint_of i floor) gs
-  pub is : i < length gs → get_or gs i 0 ≡ floor
-
 pub record PointsAt (h : MinHint) (gs : List ℕ) : Type 0 where
   pub hinted : Hinted h gs
   pub inside : h.from < length gs
   pub is : get_or gs h.from 0 ≡ h.floor
 
+abbrev pub FirstAt : ℕ → Option ℕ → List ℕ → Type 0
+FirstAt floor found gs = MatchOption found (Hinted (hint_of (length gs) floor) gs) (λ i. PointsAt (hint_of i floor) gs)
+
+abbrev pub none_stored : StoredRanges
+none_stored = record { n = 0; hint = no_hint }
+
 abbrev pub nothing_yet : Pending
-nothing_yet = record { n = 0; last = None; hint = no_hint }
+nothing_yet = record { stored = none_stored; last = None }
 
 abbrev pub closed : Inner → List Range
 closed empty = []
 closed (growing xs r) = xs
 
 unfoldable pub state_of : Pending → List ℕ → Inner
-state_of p l = elim p.last [ Some r ↦ growing (ranges_in p.n l) (range r.low r.high) | None ↦ empty ]
+state_of p l = elim p.last [ Some r ↦ growing (ranges_in p.stored.n l) r | None ↦ empty ]
 
 pub record Stores (s : Inner) (before after : List ℕ) (p : Pending) : Type 0 where
   pub state : state_of p after ≡ s
-  pub stored : Writes (closed s) before after p.n
+  pub stored : Writes (closed s) before after p.stored.n

@@ -14,15 +14,13 @@ use limits::HALFSPACES;
 use region::Style;
 
 // Copies a file to the beginning of `out`.
-// Kept: byte after byte by hand, as the library's `copy_from_slice` between two lent slices needs memmove, and include/htm.h promises memcpy and memset alone.
+// Kept: byte after byte, as the library's `copy_from_slice` between two lent slices needs memmove, and include/htm.h promises memcpy and memset alone.
 fn copy(file: &[u8], out: &mut [u8])
     requires { length file.now ≤ length out.old }
     ensures { out.new ≡ put 0 file.now out.old }
 {
-    let mut i = 0;
-    while i < file.len() {
-        out[i] = file[i];
-        i += 1;
+    for (i, byte) in file.iter().enumerate() {
+        out[i] = *byte;
     }
 }
 

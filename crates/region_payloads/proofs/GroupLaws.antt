@@ -2,7 +2,7 @@
 -- Before the first of them a convex has begun, and all are within the limit. Assumes nothing.
 use Prim.Native.Nat.{ℕ, suc, ◌+◌, ◌-◌, ◌*◌, ◌≤◌, ◌<◌}
 use native.Mathlib.Omega.{arith}
-use mathlib.Core.Path.{◌≡◌, refl, sym, ap, ◌∙◌}
+use mathlib.Core.Path.{◌≡◌, sym, ap, ◌∙◌}
 use mathlib.Core.Bool.{Bool}
 use mathlib.Core.List.{List, ◌∷◌}
 use lib.Dec.{leb}
@@ -42,14 +42,12 @@ halfspace_first s =
 
 pub record Passing (p : List ℕ) (n : ℕ) (rs₀ : List ℤ) (k₀ : RegionSize) (rs : List ℤ) (k : RegionSize) (i : ℕ) : Type 0 where
   pub within : i ≤ n
-  pub same_length : length rs ≡ length rs₀
   pub reached : (x : File) (before : List ℤ) → StandsFor before x.region k₀ rs₀
       → (y : File) × StandsFor before y.region k rs × (halfspaces_in x (halfspaces_of n p) ≡ halfspaces_in y (halfspaces_of (n - i) (drop (16 * i) p)))
 
 pub passing_none : (p : List ℕ) (n : ℕ) (rs : List ℤ) (k : RegionSize) → Passing p n rs k rs k 0
 passing_none p n rs k = record {
   within = omega arith;
-  same_length = refl;
   reached = λ x before st. let e : n ≡ n - 0 = omega arith in (x, st, ap (λ m. halfspaces_in x (halfspaces_of m p)) e);
 }
 
@@ -81,10 +79,9 @@ module _ (p : List ℕ) (n : ℕ) (rs₀ : List ℤ) (k₀ : RegionSize) (rs : L
     goes_on x y a w q = w ∙ ap (halfspaces_in y) next ∙ first_taken y h left a q
 
     module _ (c : Answer RegionSize) (rs' : List ℤ) (t : SizeAfterBy (λ y. halfspace_in y h) k rs c rs') where
-      pub passing_more : (m : RegionSize) → c ≡ gives m → length rs' ≡ length rs → Passing p n rs₀ k₀ rs' m (i + 1)
-      passing_more m q same = record {
+      pub passing_more : (m : RegionSize) → c ≡ gives m → Passing p n rs₀ k₀ rs' m (i + 1)
+      passing_more m q = record {
         within = omega arith;
-        same_length = same ∙ d.same_length;
         reached = λ x before st.
             let w = d.reached x before st in
             let v = counted_gave m q (t w.0 before w.1) in

@@ -22,8 +22,8 @@ use Rattle.region.proofs.RegionLaws.{convex_rows_law}
 use Rattle.region_rows.specs.declared.counts.RegionSize.{RegionSize}
 use Rattle.region_rows.specs.RegionSizes.{region_size, add_convex, add_halfspace}
 use Rattle.region_rows.proofs.CountLaws.{convex_counts, halfspace_counts}
-use Rattle.region_payloads.specs.declared.Step.{Step}
-use Rattle.region_payloads.specs.Payloads.{step_given, step_of, region_size_after, StandsFor, SizeAfter, RecordAfter, SizeAfterBy, RecordAfterBy}
+use Rattle.std.specs.declared.ops.ControlFlow.TheVariants.{Break}
+use Rattle.region_payloads.specs.Payloads.{Step, step_given, step_of, region_size_after, StandsFor, SizeAfter, RecordAfter, SizeAfterBy, RecordAfterBy}
 use Rattle.region_payloads.proofs.RowLaws.{row_more}
 
 -- ---- an answer that is taken
@@ -159,8 +159,8 @@ module _ (k : RegionSize) (next : ℕ) (x : File) (left : List ℕ) (following :
   pub end_refused : (ltb 0 k.convexes && (ltb 0 k.last && eqb following 0)) ≡ false → refused Order ≡ step_of true next (end_in x left)
   end_refused h = ap (λ t. step_of true next (check Order t (gives x))) (sym (ends false h))
 
-  pub end_done : (ltb 0 k.convexes && (ltb 0 k.last && eqb following 0)) ≡ true → gives (Step.Done k.all) ≡ step_of true next (end_in x left)
-  end_done h = ap (λ k. gives (Step.Done k.all)) e ∙ ap (λ t. step_of true next (check Order t (gives x))) (sym (ends true h))
+  pub end_done : (ltb 0 k.convexes && (ltb 0 k.last && eqb following 0)) ≡ true → gives (Break k.all) ≡ step_of true next (end_in x left)
+  end_done h = ap (λ k. gives (Break k.all)) e ∙ ap (λ t. step_of true next (check Order t (gives x))) (sym (ends true h))
 
 end_kept : (x y : File) (left : List ℕ) → end_in x left ≡ gives y → rows y.region ≡ rows x.region
 end_kept x y left e = ap (λ z. rows z.region) (sym (same_value x y (check_gives Order (begun x.region && (last_filled x.region && eqb (length left) 0)) (gives x) y e)))

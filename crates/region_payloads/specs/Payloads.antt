@@ -1,5 +1,6 @@
 -- What the parts of the reader give, in the terms of region/specs/Reader (document 01, 'Regions'; document 02, F-7): the contracts of the functions below the
 -- reader.
+--   Step                    what comes after a record: the next one's state, or after the end the count of the rows
 --   state_of at g           the reader's state: its position, and the size of the region g read so far
 --   step_given next a       the state at the next record with the size that a gives, or its refusal
 --   step_of end next a      what comes after a record with the answer a, where the next record begins at `next`; `end`: it is the end record
@@ -10,6 +11,8 @@
 --   SizeAfterBy f          SizeAfter by the answer of f, for every file whose region size and array stand for; RecordAfterBy f: RecordAfter likewise
 --   group_of payload        the halfspaces of a payload of kind 5, 16 bytes each
 use Rattle.std.specs.Prelude.{ℕ, ◌/◌, ◌≡◌, Bool, true, false, List, length, ℤ}
+use Rattle.std.specs.declared.ops.ControlFlow.{ControlFlow}
+use Rattle.std.specs.declared.ops.ControlFlow.TheVariants.{Continue, Break}
 use Rattle.answer.specs.Answer.{Answer, gives, with_value}
 use Rattle.answer.specs.Lent.{put}
 use Rattle.region.specs.Regions.{Convex, Region}
@@ -19,18 +22,20 @@ use Rattle.region.specs.Reader.{File, halfspaces_of}
 use Rattle.region_rows.specs.declared.counts.RegionSize.{RegionSize}
 use Rattle.region_rows.specs.RegionSizes.{region_size}
 use Rattle.region_payloads.specs.declared.State.{State}
-use Rattle.region_payloads.specs.declared.Step.{Step}
+
+abbrev pub Step : Type 0
+Step = ControlFlow ℕ State
 
 abbrev pub state_of : ℕ → Region → State
 state_of at g = record { at = at; counts = region_size g }
 
 abbrev pub step_given : ℕ → Answer RegionSize → Answer Step
-step_given next a = with_value (λ k. Step.More (record { at = next; counts = k })) a
+step_given next a = with_value (λ k. Continue (record { at = next; counts = k })) a
 
 -- the count of the rows, or the state at the next record
 abbrev pub step_at : Bool → ℕ → Region → Step
-step_at true next g = Step.Done (total g)
-step_at false next g = Step.More (state_of next g)
+step_at true next g = Break (total g)
+step_at false next g = Continue (state_of next g)
 
 abbrev pub step_of : Bool → ℕ → Answer File → Answer Step
 step_of end next a = with_value (λ y. step_at end next y.region) a

@@ -16,6 +16,7 @@ use answer::Refusal;
 use limits::HALFSPACES;
 use region::Halfspace;
 use region_rows::counts::RegionSize;
+use std::ops::ControlFlow;
 
 // The position of the next record, and the size of the region so far.
 #[derive(Clone, Copy)]
@@ -24,12 +25,8 @@ pub struct State {
     pub counts: RegionSize,
 }
 
-// What comes after a record: the next one, or after the end nothing, and then this is the count of the rows.
-#[derive(Clone, Copy)]
-pub enum Step {
-    More(State),
-    Done(u32),
-}
+// What comes after a record: the reader goes on with the next one, or breaks off after the end, and then this is the count of the rows.
+pub type Step = ControlFlow<u32, State>;
 
 // 4: no convex has begun, or the last one has a halfspace.
 fn may_begin(k: RegionSize) -> bool
@@ -61,7 +58,7 @@ pub fn convex_payload(payload: &[u8], s: State, next: usize) -> Result<Step, Ref
     ensures { (x : File) → s.counts ≡ region_size x.region → answer_of result ≡ step_of false next (convex_in x) }
 {
     let counts = convex_in(s.counts)?;
-    Ok(Step::More(State { at: next, counts }))
+    Ok(ControlFlow::Continue(State { at: next, counts }))
 }
 
 // The row of a halfspace in the last convex, written after the rows so far.
@@ -78,8 +75,11 @@ fn write_row(k: RegionSize, h: Halfspace, rows: &mut [i32])
 }
 
 // A halfspace, in a convex. Its row is written.
-fn halfspace_in(h: Halfspace, k: RegionSize, rows: &mut [i32]) -> Result<RegionSize, Refusal>
-    requires { length rows.old ≡ 2560 }
+fn halfspace_in(
+    h: Halfspace,
+    k: RegionSize,
+    rows: &mut [i32; 5 * HALFSPACES],
+) -> Result<RegionSize, Refusal>
     ensures { SizeAfterBy (λ x. halfspace_in x h) k rows.old (answer_of result) rows.new }
 {
     if k.convexes == 0 {
@@ -95,20 +95,23 @@ pub fn halfspace_payload(
     payload: &[u8],
     s: State,
     next: usize,
-    rows: &mut [i32],
+    rows: &mut [i32; 5 * HALFSPACES],
 ) -> Result<Step, Refusal>
-    requires { (16 ≤ length payload.now) × (length rows.old ≡ 2560) }
+    requires { 16 ≤ length payload.now }
     ensures { RecordAfterBy (λ x. halfspace_in x (halfspace_of payload.now)) s.counts next rows.old (answer_of result)
         rows.new }
 {
     let h = region_records::halfspace_of(payload);
     let counts = halfspace_in(h, s.counts, rows)?;
-    Ok(Step::More(State { at: next, counts }))
+    Ok(ControlFlow::Continue(State { at: next, counts }))
 }
 
 // The halfspaces of a payload of kind 5, one after the other, each as one of kind 3.
-fn halfspaces_in(payload: &[u8], k: RegionSize, rows: &mut [i32]) -> Result<RegionSize, Refusal>
-    requires { length rows.old ≡ 2560 }
+fn halfspaces_in(
+    payload: &[u8],
+    k: RegionSize,
+    rows: &mut [i32; 5 * HALFSPACES],
+) -> Result<RegionSize, Refusal>
     ensures { SizeAfterBy (λ x. halfspaces_in x (group_of payload.now)) k rows.old (answer_of result)
         rows.new }
 {
@@ -125,9 +128,8 @@ pub fn group_payload(
     payload: &[u8],
     s: State,
     next: usize,
-    rows: &mut [i32],
+    rows: &mut [i32; 5 * HALFSPACES],
 ) -> Result<Step, Refusal>
-    requires { length rows.old ≡ 2560 }
     ensures { RecordAfterBy (λ x. group_in x (group_of payload.now)) s.counts next rows.old (answer_of result)
         rows.new }
 {
@@ -137,7 +139,7 @@ pub fn group_payload(
         return Err(Refusal::Crowd);
     }
     let counts = halfspaces_in(payload, begun, rows)?;
-    Ok(Step::More(State { at: next, counts }))
+    Ok(ControlFlow::Continue(State { at: next, counts }))
 }
 
 // 4: a convex has begun, the last one has a halfspace, and no byte follows.
@@ -157,5 +159,5 @@ pub fn end_payload(payload: &[u8], s: State, following: usize) -> Result<Step, R
     if !may_end(k, following) {
         return Err(Refusal::Order);
     }
-    Ok(Step::Done(k.all as u32))
+    Ok(ControlFlow::Break(k.all as u32))
 }

@@ -7,11 +7,10 @@ use mathlib.Core.Bool.{Bool, true, false, ◌&&◌, ◌||◌}
 use mathlib.Core.List.{List, [], ◌∷◌, ◌++◌, append_assoc}
 use lib.ListN.{length, get_or, drop}
 use lib.Seq.{get_or-drop, drop-drop}
-use lib.IntN.{ℤ, pos, negsuc}
+use lib.IntN.{ℤ, pos}
 use borrow.Author.Tests.{eq-eqb, ne_eqb}
 use Rattle.algebra.specs.Lists.{every, some}
 use Rattle.vector.specs.declared.Vec3.{Vec3}
-use Rattle.vector.specs.Numbers.{eq_z}
 use Rattle.region.specs.declared.Halfspace.{Halfspace}
 use Rattle.region.specs.Regions.{Convex, Region, holds_halfspace, holds_convex, holds}
 use Rattle.region.specs.Building.{total}
@@ -95,10 +94,6 @@ module _ (p : Vec3) where
       ∙ convexes_scan 0 cs (holds_convex c p) false tail f.1
 
 -- ---- the next row
-
-eq_z_yes : (a : ℤ) → eq_z a a ≡ true
-eq_z_yes (pos n) = eq-eqb n n refl
-eq_z_yes (negsuc n) = eq-eqb n n refl
 
 -- ---- the scan row by row
 

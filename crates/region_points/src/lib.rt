@@ -49,8 +49,8 @@ fn next(s: Scan, number: i64, here: bool) -> Scan
     }
 }
 
-// Whether the region of the first `count` rows holds p.
-fn rows_hold(rows: &[i32], count: usize, p: Vec3) -> bool
+// Whether the region of the first `count` rows holds p. For the rows of a region this is the region's own answer (`rows_hold_law` proofs/PointLaws).
+pub fn rows_hold(rows: &[i32], count: usize, p: Vec3) -> bool
     requires count_in_bounds { 5 * count ≤ length rows.now }
     requires small { Small p }
     ensures { result ≡ rows_hold p count rows.now }
@@ -72,15 +72,6 @@ fn rows_hold(rows: &[i32], count: usize, p: Vec3) -> bool
     s.any || s.all
 }
 
-// Whether the region of the first `count` rows of an array holds p: `rows_hold`, which for the rows of a region is its own answer (proofs/PointLaws).
-pub fn array_holds(rows: &[i32; 5 * HALFSPACES], count: usize, p: Vec3) -> bool
-    requires count_bound { 5 * count ≤ 2560 }
-    requires small { Small p }
-    ensures { result ≡ rows_hold p count rows.now }
-{
-    rows_hold(rows, count, p)
-}
-
 // Whether the region of a file holds p, or the refusal: the file's checks, then 8.
 pub fn point_test(file: &[u8], p: Vec3) -> Result<bool, Refusal>
     ensures { answer_of result ≡ point_test file.now p }
@@ -90,5 +81,5 @@ pub fn point_test(file: &[u8], p: Vec3) -> Result<bool, Refusal>
     if !vector_products::is_vector(p) {
         return Err(Refusal::Vector);
     }
-    Ok(array_holds(&rows, h.count as usize, p))
+    Ok(rows_hold(&rows, h.count as usize, p))
 }

@@ -26,6 +26,8 @@ use Rattle.region.proofs.ReaderLaws.{Begins, header_read, header_says}
 use Rattle.region.proofs.StyleLaws.{in_style_law}
 use Rattle.region.proofs.RowsBack.{accepted_within_limits}
 use Rattle.region_reader.specs.Reading.{headed_file, records_after, RowsGiven}
+use Rattle.region_records.specs.declared.Settings.{Settings}
+use Rattle.region_records.specs.Headers.{settings_of}
 use Rattle.region_records.proofs.FrameLaws.{header_length, header_whole}
 
 -- ---- the file
@@ -49,14 +51,14 @@ module _ (f : List ℕ) where
   long_said before rs h = refused_said Long before rs (read_is false (lt-leb (length f) 10508 h))
 
   module _ (h : length f ≤ 10508) where
-    pub header_refused : (n : ℕ) (before rs : List ℤ) → refused n ≡ with_value header_of (header f) → Said f (refused n) before rs
+    pub header_refused : (n : ℕ) (before rs : List ℤ) → refused n ≡ with_value settings_of (header f) → Said f (refused n) before rs
     header_refused n before rs e =
         refused_said n before rs
-        (read_is true (le-leb (length f) 10508 h) ∙ ap (λ a. then a records) (value_refused header_of (header f) n (sym e)))
+        (read_is true (le-leb (length f) 10508 h) ∙ ap (λ a. then a records) (value_refused settings_of (header f) n (sym e)))
 
-    module _ (d : Header) (e : gives d ≡ with_value header_of (header f)) where
-      first : (x : File) × (header f ≡ gives x) × (header_of x ≡ d)
-      first = value_gives header_of (header f) d (sym e)
+    module _ (d : Settings) (e : gives d ≡ with_value settings_of (header f)) where
+      first : (x : File) × (header f ≡ gives x) × (settings_of x ≡ d)
+      first = value_gives settings_of (header f) d (sym e)
 
       pub header_begins : Begins f Record.Header
       header_begins = (header_read f first.0 first.1).0

@@ -9,10 +9,10 @@ use mathlib.Core.List.{List, []}
 use lib.Dec.{eqb}
 use lib.ListN.{length, drop, length-drop}
 use lib.IntN.{ℤ}
+use Rattle.std.specs.declared.ops.ControlFlow.TheVariants.{Continue, Break}
 use Rattle.answer.specs.Answer.{Answer, refused, gives, then, with_value}
 use Rattle.answer.specs.Lent.{put}
 use Rattle.answer.proofs.AnswerLaws.{refused_gives, same_value}
-use Rattle.region.specs.declared.Header.{Header}
 use Rattle.region.specs.declared.Style.{Style}
 use Rattle.region.specs.Building.{total}
 use Rattle.region.specs.Rows.{rows_from, rows}
@@ -20,11 +20,11 @@ use Rattle.region.specs.Records.{Styles}
 use Rattle.region.specs.Reader.{File, length_of, kind_of, after, record_in, records_in}
 use Rattle.region.specs.Answers.{header_of}
 use Rattle.region.proofs.ReaderLaws.{record_keeps, record_whole, one_more}
+use Rattle.region_records.specs.declared.Settings.{Settings}
 use Rattle.region_rows.specs.declared.counts.RegionSize.{RegionSize}
 use Rattle.region_rows.specs.RegionSizes.{region_size}
 use Rattle.region_payloads.specs.declared.State.{State}
-use Rattle.region_payloads.specs.declared.Step.{Step}
-use Rattle.region_payloads.specs.Payloads.{state_of, step_of, StandsFor, RecordAfter}
+use Rattle.region_payloads.specs.Payloads.{Step, state_of, step_of, StandsFor, RecordAfter}
 use Rattle.region_reader.specs.Reading.{RecordStep, headed_file, records_after, RowsGiven}
 use Rattle.region_records.proofs.FrameLaws.{whole_says, after_at}
 
@@ -67,7 +67,7 @@ record More (end : Bool) (next : ℕ) (a : Answer File) (s : State) : Type 0 whe
   goes : end ≡ false
   state : s ≡ state_of next file.region
 
-step_more : (end : Bool) (next : ℕ) (a : Answer File) (s : State) → gives (Step.More s) ≡ step_of end next a → More end next a s
+step_more : (end : Bool) (next : ℕ) (a : Answer File) (s : State) → gives (Continue s) ≡ step_of end next a → More end next a s
 step_more end next (refused n) s e = let z : ◌≡◌ {A = ℕ} 0 1 = cc in absurd (omega arith)
 step_more true next (gives y) s e = let z : ◌≡◌ {A = ℕ} 0 1 = cc in absurd (omega arith)
 step_more false next (gives y) s e = record { file = y; gave = refl; goes = refl; state = cc }
@@ -78,7 +78,7 @@ record Done (end : Bool) (a : Answer File) (n : ℕ) : Type 0 where
   ends : end ≡ true
   count : n ≡ total file.region
 
-step_done : (end : Bool) (next : ℕ) (a : Answer File) (n : ℕ) → gives (Step.Done n) ≡ step_of end next a → Done end a n
+step_done : (end : Bool) (next : ℕ) (a : Answer File) (n : ℕ) → gives (Break n) ≡ step_of end next a → Done end a n
 step_done end next (refused k) n e = let z : ◌≡◌ {A = ℕ} 0 1 = cc in absurd (omega arith)
 step_done true next (gives y) n e = record { file = y; gave = refl; ends = refl; count = cc }
 step_done false next (gives y) n e = let z : ◌≡◌ {A = ℕ} 0 1 = cc in absurd (omega arith)
@@ -88,19 +88,18 @@ step_refused end next (refused k) n e = cc
 step_refused true next (gives y) n e = let z : ◌≡◌ {A = ℕ} 0 1 = cc in absurd (omega arith)
 step_refused false next (gives y) n e = let z : ◌≡◌ {A = ℕ} 0 1 = cc in absurd (omega arith)
 
--- ---- the records after the header h
+-- ---- the records after the header, which has the settings h
 
 -- `file` is what has been read up to the state's position
-pub record Reading (t : Style) (f : List ℕ) (h : Header) (before rs : List ℤ) (s : State) : Type 0 where
+pub record Reading (t : Style) (f : List ℕ) (h : Settings) (before rs : List ℤ) (s : State) : Type 0 where
   pub file : File
   pub depth : file.depth ≡ h.depth
   pub budget : file.budget ≡ h.budget
   pub within : s.at ≤ length f
-  pub same_length : length rs ≡ length before
   pub stands : StandsFor before file.region s.counts rs
   pub same : records_in (Styles.only t) (length (drop s.at f)) file (drop s.at f) ≡ records_after t h f
 
-pub reading_none : (t : Style) (f : List ℕ) (h : Header) (before : List ℤ) → 8 ≤ length f → (k : RegionSize) → k ≡ region_size []
+pub reading_none : (t : Style) (f : List ℕ) (h : Settings) (before : List ℤ) → 8 ≤ length f → (k : RegionSize) → k ≡ region_size []
     → Reading t f h before before (record { at = 8; counts = k })
 unfolding rows rows_from
 reading_none t f h before l k e = record {
@@ -108,12 +107,11 @@ reading_none t f h before l k e = record {
   depth = refl;
   budget = refl;
   within = l;
-  same_length = refl;
   stands = record { counts = e; rows = refl };
   same = enough t (headed_file h) (drop 8 f) (length (drop 8 f)) (length f) (omega arith) (omega (arith, length-drop 8 f));
 }
 
-module _ (t : Style) (f : List ℕ) (h : Header) (before rs : List ℤ) (s : State) (d : Reading t f h before rs s) (o : Answer Step) (rs' : List ℤ)
+module _ (t : Style) (f : List ℕ) (h : Settings) (before rs : List ℤ) (s : State) (d : Reading t f h before rs s) (o : Answer Step) (rs' : List ℤ)
     (r : RecordStep t f s rs o rs') where
   abbrev rest : List ℕ
   rest = drop s.at f
@@ -130,7 +128,7 @@ module _ (t : Style) (f : List ℕ) (h : Header) (before rs : List ℤ) (s : Sta
       record_keeps (λ z. (z.depth ≡ h.depth) × (z.budget ≡ h.budget)) (λ z c k. k) (λ z g p q k. k)
       (Styles.only t) d.file y rest e (d.depth, d.budget)
 
-  module _ (next : State) (e : o ≡ gives (Step.More next)) where
+  module _ (next : State) (e : o ≡ gives (Continue next)) where
     found : More (eqb (kind_of (drop s.at f)) 4) (s.at + length_of (drop s.at f)) (record_in (Styles.only t) d.file (drop s.at f)) next
     found = step_more _ _ _ next (sym e ∙ taken.step)
 
@@ -142,8 +140,8 @@ module _ (t : Style) (f : List ℕ) (h : Header) (before rs : List ℤ) (s : Sta
         let w = whole_says rest (record_whole (Styles.only t) d.file found.file rest found.gave) in
         (omega (arith, w, place), omega (arith, w, place, length-drop s.at f, d.within))
 
-    pub reading_more : length rs' ≡ length rs → Reading t f h before rs' next
-    reading_more l =
+    pub reading_more : Reading t f h before rs' next
+    reading_more =
         let y = found.file in
         let left = after rest in
         let p : left ≡ drop next.at f = after_at f s.at ∙ ap (λ n. drop n f) (sym place) in
@@ -152,7 +150,6 @@ module _ (t : Style) (f : List ℕ) (h : Header) (before rs : List ℤ) (s : Sta
           depth = (kept y found.gave).0;
           budget = (kept y found.gave).1;
           within = reading_further.1;
-          same_length = l ∙ d.same_length;
           stands = record { counts = ap (λ u. u.counts) found.state; rows = taken.rows y found.gave };
           same =
               ap (λ u. records_in (Styles.only t) (length u) y u) (sym p)
@@ -161,7 +158,7 @@ module _ (t : Style) (f : List ℕ) (h : Header) (before rs : List ℤ) (s : Sta
               ∙ opened;
         }
 
-  pub reading_done : (n : ℕ) → o ≡ gives (Step.Done n)
+  pub reading_done : (n : ℕ) → o ≡ gives (Break n)
       → (gives (record { count = n; depth = h.depth; budget = h.budget }) ≡ with_value header_of (records_after t h f))
       × RowsGiven (records_after t h f) before rs'
   reading_done n e =

@@ -21,6 +21,8 @@ use answer::Refusal;
 use limits::{HALFSPACES, MAX_FILE_BYTES};
 use region::{Header, Record, Style};
 use region_payloads::{State, Step};
+use region_records::{Frame, Settings};
+use std::ops::ControlFlow;
 
 // 14: the record may stand in a file of this style.
 fn fits(style: Style, r: Record) -> bool
@@ -38,19 +40,25 @@ pub fn style_of(file: &[u8]) -> Style
     requires { Begins file.now Record.Header }
     ensures { result ≡ style_of file.now }
 {
-    let Ok(frame) = region_records::frame_at(file, 8) else {
-        return Style::Plain;
-    };
-    match frame.record {
-        Record::Group(_) => Style::Grouped,
+    match region_records::frame_at(file, 8) {
+        Ok(
+            Frame {
+                record: Record::Group(_),
+                ..
+            },
+        ) => Style::Grouped,
         _ => Style::Plain,
     }
 }
 
 // The record at the state's position, checked for 2, 3 and 14: its payload is handed on, as that part of the file, to the payload reader of its kind.
-fn record_in(file: &[u8], style: Style, s: State, rows: &mut [i32]) -> Result<Step, Refusal>
-    requires at_in_bounds { s.at ≤ length file.now }
-    requires rows_len { length rows.old ≡ 2560 }
+fn record_in(
+    file: &[u8],
+    style: Style,
+    s: State,
+    rows: &mut [i32; 5 * HALFSPACES],
+) -> Result<Step, Refusal>
+    requires { s.at ≤ length file.now }
     ensures { RecordStep style file.now s rows.old (answer_of result) rows.new }
 {
     let at = s.at;
@@ -69,12 +77,16 @@ fn record_in(file: &[u8], style: Style, s: State, rows: &mut [i32]) -> Result<St
     }
 }
 
-// The records after the header h of a file of this style, to the end; their rows are written from the beginning of `rows` on.
-fn records_in(file: &[u8], style: Style, h: Header, rows: &mut [i32]) -> Result<Header, Refusal>
-    requires in_bounds { 8 ≤ length file.now }
-    requires rows_len { length rows.old ≡ 2560 }
-    ensures result_value { answer_of result ≡ with_value header_of (records_after style h file.now) }
-    ensures rows_given { RowsGiven (records_after style h file.now) rows.old rows.new }
+// The records after the header of a file of this style, which has these settings, to the end; their rows are written from the beginning of `rows` on.
+fn records_in(
+    file: &[u8],
+    style: Style,
+    settings: Settings,
+    rows: &mut [i32; 5 * HALFSPACES],
+) -> Result<Header, Refusal>
+    requires { 8 ≤ length file.now }
+    ensures result_value { answer_of result ≡ with_value header_of (records_after style settings file.now) }
+    ensures rows_given { RowsGiven (records_after style settings file.now) rows.old rows.new }
 {
     let mut s = State {
         at: 8,
@@ -83,11 +95,15 @@ fn records_in(file: &[u8], style: Style, h: Header, rows: &mut [i32]) -> Result<
     // Kept: `while let` would be no plainer, as the step that ends the loop holds the count that is returned.
     loop {
         match record_in(file, style, s, rows)? {
-            Step::More(next) => {
+            ControlFlow::Continue(next) => {
                 s = next;
             }
-            Step::Done(count) => {
-                return Ok(Header { count, ..h });
+            ControlFlow::Break(count) => {
+                return Ok(Header {
+                    count,
+                    depth: settings.depth,
+                    budget: settings.budget,
+                });
             }
         }
     }
@@ -103,8 +119,8 @@ pub fn decode(file: &[u8], rows: &mut [i32; 5 * HALFSPACES]) -> Result<Header, R
     if MAX_FILE_BYTES < file.len() {
         return Err(Refusal::Long);
     }
-    let h = region_records::header_in(file)?;
-    records_in(file, style_of(file), h, rows)
+    let settings = region_records::header_in(file)?;
+    records_in(file, style_of(file), settings, rows)
 }
 
 // How many convexes the region of n decoded rows has: one more than the number of its last row.

@@ -1,6 +1,6 @@
 -- A record's length and kind, where they stand in the file: the checks 2 and 3, and what a record gives once they have passed.
 -- Reading byte k of what is left is reading byte `at + k` of the file. Assumes nothing.
-use Prim.Native.Nat.{ℕ, ◌+◌, ◌*◌, ◌-◌, ◌≤◌, ◌<◌}
+use Prim.Native.Nat.{ℕ, ◌+◌, ◌*◌, ◌-◌, ◌≤◌}
 use native.Mathlib.Nat.{add-zero}
 use native.Mathlib.Omega.{arith}
 use mathlib.Core.Path.{◌≡◌, refl, sym, ap, ◌∙◌}
@@ -18,7 +18,6 @@ use Rattle.answer.specs.Calls.{answer_of}
 use Rattle.answer.specs.Answer.{Answer, refused, gives, check, then, Torn, Order, Mixed}
 use Rattle.answer.proofs.AnswerLaws.{value_gives, value_refused}
 use Rattle.region.specs.declared.Record.{Record}
-use Rattle.region.specs.Building.{most_in_convex}
 use Rattle.region.specs.Bytes.{word}
 use Rattle.region.specs.Records.{kind, is, first_of, record_of, Styles, fits}
 use Rattle.region.specs.Reader.{File, length_of, kind_of, payload, after, whole, record_at, header_in, header, part_in, record_in}
@@ -73,10 +72,6 @@ module _ (f : List ℕ) (at : ℕ) where
   whole_least w = omega (arith, (whole_says (drop at f) w).low, length_at f at)
 
 -- ---- 3
-
--- the length of what may be a record fits two bytes
-few_bytes : (n : ℕ) → (leb 1 n && leb n most_in_convex) ≡ true → 4 + 16 * n < 65536
-few_bytes n e = omega (arith, leb-true n most_in_convex (and_right (leb 1 n) (leb n most_in_convex) e))
 
 -- the first of some records that passes is the rule's first of them, and where there is none the refusal is 3
 module _ (n len : ℕ) where

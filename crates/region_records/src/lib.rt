@@ -9,11 +9,11 @@ ghost use Rattle.region.specs.Bytes as bytes;
 ghost use Rattle.region.specs.Records.{kind, size, allowed, is, record_of};
 ghost use Rattle.region.specs.Reader.{whole, header, halfspace_of};
 ghost use Rattle.region.specs.Reader as rule;
-ghost use Rattle.region.specs.Answers.{header_of};
 ghost use Rattle.region_records.specs.Frames.{frame_of};
+ghost use Rattle.region_records.specs.Headers.{settings_in, settings_of};
 
 use answer::Refusal;
-use region::{Halfspace, Header, Record};
+use region::{Halfspace, Record};
 use vector::Vec3;
 
 pub mod bytes;
@@ -100,6 +100,7 @@ fn is_record(kind: u32, len: u32, r: Record) -> bool
 }
 
 // What a record of this kind and length is, or the refusal 3.
+// Kept: the first that has this kind and length, so that no number of a kind and no length stands twice; a match on them would repeat those above.
 fn record_of(kind: u32, len: u32) -> Result<Record, Refusal>
     requires { 4 ≤ len }
     ensures { answer_of result ≡ record_of kind len }
@@ -134,29 +135,39 @@ pub fn frame_at(file: &[u8], at: usize) -> Result<Frame, Refusal>
     })
 }
 
+// Depth and budget of a region file.
+#[derive(Clone, Copy)]
+pub struct Settings {
+    pub depth: u32,
+    pub budget: u32,
+}
+
+impl Settings {
+    // The two, or the first refusal: 5, 6.
+    pub fn checked(depth: u32, budget: u32) -> Result<Settings, Refusal>
+        ensures { answer_of result ≡ settings_in depth budget }
+    {
+        if !limits::is_depth(depth) {
+            return Err(Refusal::Depth);
+        }
+        if !limits::is_budget(budget) {
+            return Err(Refusal::Budget);
+        }
+        Ok(Settings { depth, budget })
+    }
+}
+
 // The payload of kind 1: depth and budget.
-fn header_payload(s: &[u8]) -> Result<Header, Refusal>
+fn header_payload(s: &[u8]) -> Result<Settings, Refusal>
     requires { 4 ≤ length s.now }
-    ensures { answer_of result ≡ with_value header_of (rule.header_of s.now) }
+    ensures { answer_of result ≡ with_value settings_of (rule.header_of s.now) }
 {
-    let depth = word(s, 0);
-    let budget = word(s, 2);
-    if !limits::is_depth(depth) {
-        return Err(Refusal::Depth);
-    }
-    if !limits::is_budget(budget) {
-        return Err(Refusal::Budget);
-    }
-    Ok(Header {
-        count: 0,
-        depth,
-        budget,
-    })
+    Settings::checked(word(s, 0), word(s, 2))
 }
 
 // The first record: the header, or the refusal 2 to 6.
-pub fn header_in(file: &[u8]) -> Result<Header, Refusal>
-    ensures { answer_of result ≡ with_value header_of (header file.now) }
+pub fn header_in(file: &[u8]) -> Result<Settings, Refusal>
+    ensures { answer_of result ≡ with_value settings_of (header file.now) }
 {
     let at = 0;
     let Frame { len, record } = frame_at(file, at)?;

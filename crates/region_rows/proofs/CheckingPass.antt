@@ -48,9 +48,6 @@ module _ {rs : List ℤ} {k : RegionSize} {i : ℕ} (v : Checking rs k i) where
       ap gives (sym v.counts) ∙ sym (ap (with_value region_size) (v.same ∙ ap (λ n. rows_in n v.region (drop i rs)) z))
 
   module _ (l : i < length rs) where
-    pub whole_row : i + 5 ≤ length rs
-    whole_row = omega (arith, v.place)
-
     split_row : rows_in (length rs / 5) [] rs ≡ then (row_in v.region (get_or rs i (pos 0)) (halfspace_at (drop i rs))) (λ r. rows_in (v.left - 1) r (drop (i + 5) rs))
     split_row =
         let z : v.left ≡ suc (v.left - 1) = omega (arith, v.place) in

@@ -14,6 +14,7 @@ use answer::Refusal;
 use region::Halfspace;
 
 // Whether a row's number c is k.
+// Kept: `==` of two types, as a row's number has a sign and a count has none: the conversion stands here once for four comparisons, one of the writer's.
 pub fn is_number(c: i64, k: u16) -> bool
     ensures { result ≡ eq_z c (pos k) }
 {
@@ -67,10 +68,7 @@ fn count_rows(rows: &[i32]) -> Result<RegionSize, Refusal>
 pub fn checked(rows: &[i32]) -> Result<RegionSize, Refusal>
     ensures { answer_of result ≡ with_value region_size (region_of rows.now) }
 {
-    if rows.len() == 0 {
-        return Err(Refusal::Order);
-    }
-    if rows.len() % 5 != 0 {
+    if rows.is_empty() || rows.len() % 5 != 0 {
         return Err(Refusal::Order);
     }
     count_rows(rows)

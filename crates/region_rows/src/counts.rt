@@ -24,6 +24,7 @@ pub struct RegionSize {
 }
 
 // The size of the region without convexes.
+// Kept: a function and no Default: an impl of it that says of what region this is the size would be longer, and one by a derive would not say it.
 pub fn none() -> RegionSize
     ensures { result ≡ region_size [] }
 {
@@ -56,10 +57,11 @@ fn below_limits(k: RegionSize) -> bool
 }
 
 // 9: an offset from −K to K.
+// Kept: the like of `within` in vector_products, which is private there: this is the rule's word, and the edit offset_of_K_refused is of it alone.
 fn is_offset(d: i64) -> bool
     ensures { result ≡ is_offset d }
 {
-    -K <= d && d <= K
+    (-K..=K).contains(&d)
 }
 
 // The size with another halfspace in the last convex, or the first refusal: 7, 8, 9.

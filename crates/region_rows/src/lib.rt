@@ -13,6 +13,8 @@ pub mod checks;
 pub mod counts;
 
 // Number k of some rows.
+// Kept: a row is five numbers where it lies, as C lends it and as the reader writes it, and no struct: what goes over rows takes the number and the halfspace
+// of each apart at once, so a struct of the two would be made only for that.
 pub fn number_at(rows: &[i32], k: usize) -> i64
     requires { k < length rows.now }
     ensures { (result ≡ get_or rows.now k (pos 0)) × Upto (2 ^ 31) result }

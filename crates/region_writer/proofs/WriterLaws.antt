@@ -2,15 +2,17 @@
 use Prim.Native.Nat.{ℕ, ◌+◌, ◌*◌, ◌≤◌, ◌<◌}
 use native.Mathlib.Omega.{arith}
 use mathlib.Core.Path.{◌≡◌, refl, sym, ap, ◌∙◌}
-use mathlib.Core.Bool.{true, false}
+use mathlib.Core.Bool.{Bool, true, false}
 use mathlib.Core.List.{List, ◌++◌}
 use lib.ListN.{length, length-append}
 use lib.IntN.{ℤ}
-use Rattle.answer.specs.Answer.{refused, gives, with_value, Depth, Budget, Space}
+use borrow.Author.Tests.{leb-true}
+use Rattle.answer.specs.Answer.{Answer, refused, gives, check, then, with_value, Depth, Budget, Space}
 use Rattle.answer.specs.Lent.{put}
-use Rattle.answer.proofs.AnswerLaws.{value_gives, value_refused}
+use Rattle.answer.proofs.AnswerLaws.{check_passed, check_gives, same_value, value_gives, value_refused}
 use Rattle.answer.proofs.PutLaws.{put_put}
 use Rattle.vector.specs.Numbers.{is_depth}
+use Rattle.vector.proofs.DepthLaws.{depth_range}
 use Rattle.region.specs.declared.Style.{Style}
 use Rattle.region.specs.Regions.{Region}
 use Rattle.region.specs.Budgets.{is_budget}
@@ -19,6 +21,8 @@ use Rattle.region.specs.Rows.{region_of}
 use Rattle.region.specs.Writer.{header_bytes, end_bytes, region_bytes, file_in, write_in}
 use Rattle.region.proofs.FileAnswers.{Answered, no_file, no_space, file_written}
 use Rattle.region.proofs.WriteBack.{region_back}
+use Rattle.region_records.specs.declared.Settings.{Settings}
+use Rattle.region_records.specs.Headers.{settings_in}
 use Rattle.region_rows.specs.declared.counts.RegionSize.{RegionSize}
 use Rattle.region_rows.specs.RegionSizes.{region_size}
 use Rattle.region_writer.specs.Writing.{width, FileFits}
@@ -26,19 +30,40 @@ use Rattle.region_writer.proofs.GrowthLaws.{region_length, whole_length}
 
 -- ---- the answer
 
+by_checks : {A : Type 0} (p q : Bool) (t : Settings) (a : Answer A) → check Depth p (check Budget q a) ≡ then (check Depth p (check Budget q (gives t))) (λ u. a)
+by_checks false q t a = refl
+by_checks true false t a = refl
+by_checks true true t a = refl
+
+-- what passed
+pub record SettingsPassed (d b : ℕ) (t : Settings) : Type 0 where
+  pub depth : d ≤ 12
+  pub budget : b ≤ 2048
+  pub same : t ≡ record { depth = d; budget = b }
+
+pub settings_passed : (d b : ℕ) (t : Settings) → gives t ≡ settings_in d b → SettingsPassed d b t
+settings_passed d b t e =
+    let u : Settings = record { depth = d; budget = b } in
+    let last = check Budget (is_budget b) (gives u) in
+    let f = check_gives Depth (is_depth d) last t (sym e) in
+    record {
+      depth = (depth_range d (check_passed Depth (is_depth d) last t (sym e))).1;
+      budget = leb-true b 2048 (check_passed Budget (is_budget b) (gives u) t f);
+      same = sym (same_value u t (check_gives Budget (is_budget b) (gives u) t f));
+    }
+
 module _ (s : Style) (d b : ℕ) (rs : List ℤ) (before : List ℕ) where
-  pub no_depth : is_depth d ≡ false → Answered (write_in s d b rs) before (refused Depth) before
+  by_settings : write_in s d b rs ≡ then (settings_in d b) (λ t. with_value (file_in s d b) (region_of rs))
   unfolding write_in
-  no_depth e = no_file (write_in s d b rs) before Depth (simp e)
+  by_settings = by_checks (is_depth d) (is_budget b) (record { depth = d; budget = b }) (with_value (file_in s d b) (region_of rs))
 
-  pub no_budget : is_depth d ≡ true → is_budget b ≡ false → Answered (write_in s d b rs) before (refused Budget) before
-  unfolding write_in
-  no_budget e f = no_file (write_in s d b rs) before Budget (simp (e, f))
+  pub no_settings : (n : ℕ) → refused n ≡ settings_in d b → Answered (write_in s d b rs) before (refused n) before
+  no_settings n e =
+      no_file (write_in s d b rs) before n (by_settings ∙ ap (λ r. then r (λ (t : Settings). with_value (file_in s d b) (region_of rs))) (sym e))
 
-  module _ (depth : is_depth d ≡ true) (budget : is_budget b ≡ true) where
+  module _ (t : Settings) (q : gives t ≡ settings_in d b) where
     written : write_in s d b rs ≡ with_value (file_in s d b) (region_of rs)
-    unfolding write_in
-    written = simp (depth, budget)
+    written = by_settings ∙ ap (λ r. then r (λ (t : Settings). with_value (file_in s d b) (region_of rs))) (sym q)
 
     pub no_rows : (n : ℕ) → refused n ≡ with_value region_size (region_of rs) → Answered (write_in s d b rs) before (refused n) before
     no_rows n e =

@@ -171,11 +171,6 @@ start s rs before q =
     }
 
 module _ {s : Style} {rs : List ℤ} {before xs : List ℕ} {p : WriteCursor} {i : ℕ} (v : Writing s rs before xs p i) where
-  pub as_long : length xs ≡ length before
-  as_long =
-      ap length v.stands.bytes
-      ∙ put_length 8 (region_bytes s v.region) before (omega (arith, rows_longer s v.left v.region v.whole (drop i rs) v.leads, v.room))
-
   pub done : length rs ≤ i → RowsStand s rs before xs p.at
   unfolding rows_in
   done l g f =
@@ -185,9 +180,6 @@ module _ {s : Style} {rs : List ℤ} {before xs : List ℕ} {p : WriteCursor} {i
       (v.stands.at ∙ ap (λ g. 8 + length (region_bytes s g)) e, v.stands.bytes ∙ ap (λ g. put 8 (region_bytes s g) before) e)
 
   module _ (l : i < length rs) where
-    pub whole_row : i + 5 ≤ length rs
-    whole_row = omega (arith, v.place)
-
     abbrev c : ℤ
     c = get_or rs i (pos 0)
 

@@ -18,9 +18,11 @@ ghost use Rattle.region_writer.specs.Writing.{with_convex_at, with_halfspace_at,
 
 use answer::Refusal;
 use region::{Halfspace, Record, Style};
+use region_records::Settings;
 use region_rows::counts::RegionSize;
 
 // Where the next record goes, how many convexes are written, and how many halfspaces of the last one.
+// Kept: not the reader's `State`, since what was checked is written without a count of all halfspaces and without a limit that could refuse.
 #[derive(Clone, Copy)]
 pub struct WriteCursor {
     pub at: usize,
@@ -123,15 +125,16 @@ fn put_rows(style: Style, rows: &[i32], out: &mut [u8]) -> usize
 }
 
 // The file of rows that were checked, at the beginning of `out`.
-fn put_file(style: Style, depth: u32, budget: u32, rows: &[i32], out: &mut [u8])
-    requires depth_bound { (depth ≤ 12) × (budget ≤ 2048) }
+// Kept: that depth and budget are in range is a clause, as this alone asks it of `Settings`.
+fn put_file(style: Style, settings: Settings, rows: &[i32], out: &mut [u8])
+    requires depth_bound { (settings.depth ≤ 12) × (settings.budget ≤ 2048) }
     requires file_fits { FileFits style rows.now (length out.old) }
     ensures { (g : Region) → region_of rows.now ≡ gives g
-        → out.new ≡ put 0 (file_in style depth budget g) out.old }
+        → out.new ≡ put 0 (file_in style settings.depth settings.budget g) out.old }
 {
     region_records::bytes::put_kind(out, 0, Record::Header);
-    region_records::bytes::put_word(out, 4, depth);
-    region_records::bytes::put_word(out, 6, budget);
+    region_records::bytes::put_word(out, 4, settings.depth);
+    region_records::bytes::put_word(out, 6, settings.budget);
     let at = put_rows(style, rows, out);
     region_records::bytes::put_kind(out, at, Record::End);
 }
@@ -156,17 +159,12 @@ pub fn write(
     ensures result_value { answer_of result ≡ file_answer (write_in style depth budget rows.now) out.old }
     ensures out_after { out.new ≡ file_after (write_in style depth budget rows.now) out.old }
 {
-    if !limits::is_depth(depth) {
-        return Err(Refusal::Depth);
-    }
-    if !limits::is_budget(budget) {
-        return Err(Refusal::Budget);
-    }
+    let settings = Settings::checked(depth, budget)?;
     let counts = region_rows::checks::checked(rows)?;
     let len = file_length(style, counts);
     if out.len() < len {
         return Err(Refusal::Space);
     }
-    put_file(style, depth, budget, rows, out);
+    put_file(style, settings, rows, out);
     Ok(len as u64)
 }

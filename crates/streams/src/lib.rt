@@ -11,7 +11,7 @@ use std::env::{Env, FillError};
 use std::io;
 use std::io::{ErrorKind, Print, Read, Stderr, Stdin, Stdout, Write};
 
-// A loop must end, and no run is interrupted so often.
+// No run is interrupted so often.
 const CALLS: u64 = u64::MAX;
 
 // How many bytes an argument has at most, to be read.
@@ -23,7 +23,8 @@ const REASON_BYTES: usize = 128;
 // What std puts between the system's text of an error and its number.
 const BEFORE_NUMBER: &str = " (os error ";
 
-// The streams of a program, which `main` takes from its runtime. They have no bytes.
+// The streams of a program, which `main` takes from its runtime. They have no bytes. A read or a write that fails says so on standard error, and gives the
+// error to its caller, who needs to say nothing more.
 #[derive(Clone, Copy)]
 pub struct Streams {
     pub input: Stdin,
@@ -32,6 +33,8 @@ pub struct Streams {
 }
 
 impl Streams {
+    // The streams of the program that has this runtime. It has no clause: the library says nothing of what `stdin`, `stdout` and `stderr` give, and their
+    // handles have no bytes. Each has a type of its own, so that none can stand in another's place.
     pub fn of(rt: &HostRuntime) -> Streams {
         Streams {
             input: rt.stdin(),
@@ -40,22 +43,19 @@ impl Streams {
         }
     }
 
-    // One read, to the beginning of `to`: how many bytes were read, 0 at the input's end; none where it has failed.
-    pub fn read(self, to: &mut [u8]) -> Option<usize>
+    // One read, to the beginning of `to`: how many bytes were read, 0 at the input's end.
+    pub fn read(self, to: &mut [u8]) -> io::Result<usize>
         ensures { BytesIn to.new result }
     {
         let mut input = self.input;
-        match read_from(&mut input, to) {
-            Ok(n) => Some(n),
-            Err(e) => {
-                self.say("standard input is not read to its end", &e);
-                None
-            },
-        }
+        read_from(&mut input, to).inspect_err(|e| self.say(
+            "standard input is not read to its end",
+            e,
+        ))
     }
 
     // Reads to the end of the input, or until `to` is full.
-    pub fn read_all(self, to: &mut [u8]) -> Option<usize>
+    pub fn read_all(self, to: &mut [u8]) -> io::Result<usize>
         ensures { BytesIn to.new result }
     {
         let mut done = 0;
@@ -67,19 +67,16 @@ impl Streams {
             }
             done += n;
         }
-        Some(done)
+        Ok(done)
     }
 
-    // Writes all of `bytes`, and answers whether that was done.
-    pub fn write(self, bytes: &[u8]) -> bool {
+    // Writes all of `bytes`.
+    pub fn write(self, bytes: &[u8]) -> io::Result<()> {
         let mut output = self.output;
-        match Write::write_all(&mut output, bytes) {
-            Ok(()) => true,
-            Err(e) => {
-                self.say("standard output is cut short", &e);
-                false
-            },
-        }
+        Write::write_all(&mut output, bytes).inspect_err(|e| self.say(
+            "standard output is cut short",
+            e,
+        ))
     }
 
     // Says on standard error what has failed, and the system's text of why.
@@ -97,6 +94,7 @@ fn read_from<R: Read>(input: &mut R, to: &mut [u8]) -> io::Result<usize>
     ensures bound { ReadsAtMost result to.new }
     ensures bytes { ReadConsumes (R.remaining input.old) (R.remaining input.new) result to.new }
 {
+    // Kept: a count, as a loop with no end needs the handle Wait, and this repository allows no handle.
     for _ in 0..CALLS {
         match input.read(to) {
             Ok(n) => return Ok(n),
@@ -137,13 +135,14 @@ pub fn argument_count(rt: &impl Env) -> usize {
 
 // Whether a program that takes no argument was given none. Else its usage is written: on standard output where it is asked for, on standard error
 // otherwise.
+// Kept: each program has the whole text of its usage, as of two writes that fail each would be said.
 pub fn has_no_argument(rt: &impl Env, streams: Streams, usage: &[u8]) -> bool {
     if argument_count(rt) < 2 {
         return true;
     }
     let mut word = [0u8; WORD_BYTES];
     if matches!(argument(rt, 1, &mut word), Some(b"--help")) {
-        streams.write(usage);
+        let _ = streams.write(usage);
     } else {
         let mut errors = streams.errors;
         let _ = Write::write_all(&mut errors, usage);

@@ -21,7 +21,8 @@ use Rattle.region.specs.Building.{last_convex, total, with_halfspace, add}
 use Rattle.region.specs.Regions.{Region}
 use Rattle.region.specs.Reader.{header, record_in, records_in, read}
 use Rattle.region.specs.Writer.{file_in, convexes_bytes, halfspaces_bytes}
-use Rattle.ranges.specs.Ranges.{Range, range}
+use Rattle.ranges.specs.declared.Range.{Range}
+use Rattle.ranges.specs.Ranges.{range}
 use Rattle.ranges.specs.Contents.{identifiers}
 use Rattle.covering.specs.Cover.{Cover}
 use Rattle.index.specs.Entries.{entry}

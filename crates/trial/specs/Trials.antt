@@ -14,7 +14,7 @@ use Rattle.algebra.specs.Lists.{tally}
 use Rattle.vector.specs.Numbers.{is_depth}
 use Rattle.region.specs.Regions.{Region, holds}
 use Rattle.region.specs.Budgets.{is_budget}
-use Rattle.ranges.specs.Ranges.{Range}
+use Rattle.ranges.specs.declared.Range.{Range}
 use Rattle.ranges.specs.Contents.{identifiers}
 use Rattle.covering.specs.Cover.{Cover, cover_of}
 use Rattle.frames.specs.Walk.{entries_of, WalkStep, walk, is_unchecked, is_held, is_discarded}

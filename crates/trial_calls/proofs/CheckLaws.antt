@@ -2,7 +2,6 @@
 -- and the three lists are long enough. Assumes nothing.
 use Prim.Native.Nat.{ℕ, ◌*◌, ◌≤◌}
 use mathlib.Core.Path.{◌≡◌, ◌∙◌}
-use mathlib.Core.Bool.{Bool}
 use lib.Dec.{leb}
 use borrow.Author.Tests.{leb-true}
 use Rattle.std.specs.Prelude.{Ok, Err}
@@ -30,11 +29,6 @@ module _ (k : ℕ) (s t : Setting) (m n : ℕ) where
 
     pub both_checked : SettingRefusal t (Ok tt) → (a : Answer File) → check_setting s (check_setting t a) ≡ a
     both_checked q a = p _ ∙ q a
-
-  pub by_lengths : ((a : Answer File) → check_setting s (check_setting t a) ≡ a) → {x y z : Bool}
-      → leb (4 * budget_of s.budget) m ≡ x → leb (4 * budget_of t.budget) n ≡ y → leb IndexLength k ≡ z
-      → (a : Answer File) → check_setting s (check_setting t (check_lengths k s t m n a)) ≡ check Space x (check Space y (check Space z a))
-  by_lengths g p q r a = g _ ∙ (λ i. check Space (p i) (check Space (q i) (check Space (r i) a)))
 
 -- ---- what they say where none fails
 

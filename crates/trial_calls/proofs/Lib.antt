@@ -1,4 +1,3 @@
 pub mod CheckLaws
 pub mod ScoreLaws
 pub mod AnswerLaws
-pub mod PartLaws

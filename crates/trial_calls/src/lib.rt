@@ -2,7 +2,7 @@
 // buffers. The file is decoded once, and each setting is searched as frames are (frames_calls). The rules are those of trial/specs.
 #![tactic(auto)]
 
-ghost use Rattle.std.specs.Prelude.{◌≡◌, true, List, ℕ, ◌+◌, ◌*◌, ◌^◌, ◌≤◌, leb, length};
+ghost use Rattle.std.specs.Prelude.{◌≡◌, true, List, ℕ, ◌+◌, ◌*◌, ◌^◌, ◌≤◌, length};
 ghost use Rattle.region.specs.Budgets.{budget_of};
 ghost use Rattle.index.specs.Exposures.{is_owner};
 ghost use Rattle.covering_walk.specs.Walk.{SomeRows};
@@ -15,7 +15,7 @@ ghost use Rattle.trial_calls.specs.Tries.{SettingRefusal, Checks, score_of, tria
 use answer::Refusal;
 use frames_calls::SearchResult;
 use frames_walk::lists::{OwnedEntries, RegionRows};
-use index::{INDEX_LENGTH, OWNER_CAPACITY, OWNERS};
+use index::OWNER_CAPACITY;
 use limits::{HALFSPACES, MAX_DEPTH};
 use region::Header;
 use trial::{Choice, Setting, SettingResult, Trial};
@@ -28,6 +28,8 @@ pub struct ScoredSetting {
 }
 
 // Whether a setting is one; refusals 5, 6.
+// Kept: the like of `Settings::checked` in region_records, which gives the two that it has checked: this gives no value, as `Checks` chains it, and any two
+// numbers are a Setting.
 pub fn check_setting(s: Setting) -> Result<(), Refusal>
     ensures { SettingRefusal s result }
 {
@@ -40,29 +42,21 @@ pub fn check_setting(s: Setting) -> Result<(), Refusal>
     Ok(())
 }
 
-// Whether n elements are room for both lists of a setting.
-fn has_room(s: Setting, n: usize) -> bool
-    ensures { result ≡ leb (4 * budget_of s.budget) n }
-{
-    4 * limits::budget_of(s.budget) <= n
-}
-
-// The checks behind the file's, with the lists given by their lengths; refusals 5, 6, 5, 6, 10.
-fn checks(index: usize, s: Setting, t: Setting, first: usize, second: usize) -> Result<(), Refusal>
-    ensures { Checks index s t first second result }
+// The checks behind the file's; refusals 5, 6, 5, 6, 10.
+fn checks(
+    index: &[i64],
+    s: Setting,
+    t: Setting,
+    first: &[u64],
+    second: &[u64],
+) -> Result<(), Refusal>
+    ensures { Checks (length index.now) s t (length first.now) (length second.now) result }
 {
     check_setting(s)?;
     check_setting(t)?;
-    if !has_room(s, first) {
-        return Err(Refusal::Space);
-    }
-    if !has_room(t, second) {
-        return Err(Refusal::Space);
-    }
-    if index < INDEX_LENGTH {
-        return Err(Refusal::Space);
-    }
-    Ok(())
+    frames_calls::check_room(s.budget, first)?;
+    frames_calls::check_room(t.budget, second)?;
+    index::check_length(index)
 }
 
 // The result and the share of the sky of a search at a depth.
@@ -139,7 +133,7 @@ fn trial_in(
     ensures { (f : List ℕ) → Decoded f h rows.now
         → TrialCall owner index.now f s t first.old second.old result first.new second.new }
 {
-    checks(index.len(), s, t, first.len(), second.len())?;
+    checks(index, s, t, first, second)?;
     let entries = OwnedEntries { index, owner };
     let region = RegionRows {
         rows,
@@ -163,9 +157,7 @@ pub fn trial(
     ensures { TrialCall owner index.now file.now s t first.old second.old
         result first.new second.new }
 {
-    if OWNERS <= owner {
-        return Err(Refusal::Owner);
-    }
+    index::check_owner(owner)?;
     let mut rows = [0i32; 5 * HALFSPACES];
     let h = region_reader::decode(file, &mut rows)?;
     trial_in(index, owner, h, &rows, s, t, first, second)

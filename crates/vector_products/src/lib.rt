@@ -127,10 +127,7 @@ pub fn store(xs: &mut [i64], k: usize, v: Vec3)
     requires { k + 3 ≤ length xs.old }
     ensures { xs.new ≡ put k (three v) xs.old }
 {
-    let x = v.x;
-    let y = v.y;
-    let z = v.z;
-    xs[k] = x;
-    xs[k + 1] = y;
-    xs[k + 2] = z;
+    xs[k] = v.x;
+    xs[k + 1] = v.y;
+    xs[k + 2] = v.z;
 }

@@ -47,15 +47,9 @@ pub fn largest(c: Vec3) -> u64
     requires { AtMost (2 ^ 41) c }
     ensures { result ≡ rule.largest c }
 {
-    size(c.x).max(size(c.y)).max(size(c.z))
-}
-
-// The absolute value of a.
-pub fn size(a: i64) -> u64
-    requires { Upto (2 ^ 63 - 1) a }
-    ensures { result ≡ nat_abs a }
-{
-    a.unsigned_abs()
+    c.x.unsigned_abs()
+        .max(c.y.unsigned_abs())
+        .max(c.z.unsigned_abs())
 }
 
 // K times s, divided by n: each component truncated toward zero, and all zero if n is 0.

@@ -68,6 +68,7 @@ pub fn times(a: Wide, n: u64) -> Wide
 }
 
 // Whether a is less than b.
+// Kept: the derived `<` is of words, and this says so of values: the edits equal_is_less and leading_words_only are of it.
 pub fn less(a: Wide, b: Wide) -> bool
     ensures { result ≡ ltb (value_of a) (value_of b) }
 {

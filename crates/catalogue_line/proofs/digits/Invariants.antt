@@ -5,4 +5,4 @@ use Rattle.catalogue_line.proofs.ReadingLaws.{Reading}
 use Rattle.catalogue_line.proofs.digits.Given as goal
 
 abbrev pub invariant-loop : goal.invariant-loop
-invariant-loop l = Reading l.whole l.at l.line l.number l.power l.next (7 - l.counter)
+invariant-loop l = Reading l.whole l.bytes l.number l.power l.rest (7 - l.counter)

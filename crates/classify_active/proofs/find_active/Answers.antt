@@ -1,17 +1,20 @@
 -- `classify_active::find_active` keeps what was found where that is few. Assumes nothing.
-use Rattle.std.proofs.Common.{◌≡◌, ◌∙◌, sym, subst₂, false, true, Result, Ok, Err}
+use Rattle.std.proofs.Common.{◌≡◌, ◌∙◌, sym, subst₂, false, Result, Ok, Err}
 use Rattle.std.specs.Result.{IfOk, is_err}
 use mathlib.Core.Bool.{false≢true}
-use Rattle.classify_active.specs.declared.NotFew.{NotFew}
+use Rattle.classify_active.specs.declared.NotStored.{NotStored}
 use Rattle.classify_active.specs.Active.{ActivePrepared}
 use Rattle.classify_active.proofs.find_active.Goals as goal
 
 -- what holds where there is no error
-kept : {P : Type 0} (o : Result (Unit {0}) NotFew) → IfOk o (λ _. P) → is_err o ≡ false → P
+kept : {P : Type 0} (o : Result (Unit {0}) NotStored) → IfOk o (λ _. P) → is_err o ≡ false → P
 kept (Ok x) f e = f
 kept (Err x) f e = absurd (false≢true (sym e))
 
 pub returns-else-is_err : goal.returns-else-is_err
-returns-else-is_err c h =
-    let f = kept c.active_in_region-found.result c.active_in_region-found.ensures (sym c.is_err.ensures.value ∙ c.if-is_err.false) in
-    subst₂ (λ xs es. ActivePrepared xs es c.active_in_region-found.new.active c.anchor_of-r.result) c.halfspaces.ensures c.ends.ensures f
+returns-else-is_err c = record {
+  anchor = c.anchor_of-r.ensures;
+  active = λ h.
+      let f = kept c.active_in_region-found.result c.active_in_region-found.ensures (sym c.is_err.ensures.value ∙ c.if-is_err.false) in
+      subst₂ (λ xs es. ActivePrepared xs es c.active_in_region-found.new.active c.anchor_of-r.result) c.halfspaces.ensures c.ends.ensures f;
+}

@@ -1,32 +1,15 @@
 -- `classify_cap::cap_ahead` is the cap of b and E: b·b is at most 3·2⁶¹ in size, and E² at most 2⁴⁰. Assumes nothing.
-use native.Mathlib.Omega.{arith}
 use Prim.Native.Nat.{◌^◌}
 use mathlib.Core.Path.{sym, ap, subst, ◌∙◌}
 use Rattle.std.specs.Prelude.{Some}
 use lib.Dec.{lit≤}
 use lib.IntN.{pos, ◌-ℤ◌}
 use Rattle.algebra.proofs.Sizes.{Upto}
-use Rattle.algebra.proofs.Sized.{held, nat, is_mul, is_sub, fits_mul, fits_sub, upto_mono}
-use Rattle.vector.proofs.SizeLaws.{at_most_mono}
+use Rattle.algebra.proofs.Sized.{held, nat, is_mul, is_sub, upto_mono}
 use Rattle.classify.specs.Shape.{square}
 use Rattle.classify_cap.specs.Middle.{clearance_of}
 use Rattle.classify_cap.proofs.ClearanceLaws.{clearance_upto}
 use Rattle.classify_cap.proofs.cap_ahead.Goals as goal
-
-pub overflow_cast-e : goal.overflow_cast-e
-overflow_cast-e c = record { sfits = omega arith }
-
-pub dot-requires : goal.dot-requires
-dot-requires c = record {
-  small = c.requires;
-  at_most = at_most_mono (lit≤ tt) c.requires;
-}
-
-pub overflow_mul-rest : goal.overflow_mul-rest
-overflow_mul-rest c = let n = nat c.greatest_reach-n.ensures.upper_bound tt in fits_mul n n tt
-
-pub overflow_sub-rest : goal.overflow_sub-rest
-overflow_sub-rest c = let n = nat c.greatest_reach-n.ensures.upper_bound tt in fits_sub (held c.dot.ensures.upto tt) (is_mul n n tt) tt
 
 pub clearance_of-requires : goal.clearance_of-requires
 clearance_of-requires c =

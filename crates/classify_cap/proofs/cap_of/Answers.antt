@@ -1,6 +1,6 @@
 -- `classify_cap::cap_of` is the cap of the trixel: with E where each product b·r is positive. Assumes nothing.
 use Rattle.classify_rays.proofs.RayLaws.{own_rays}
-use Rattle.classify_cap.proofs.CapLaws.{behind_bounds, ahead_bounds}
+use Rattle.classify_cap.proofs.CapLaws.{ahead_bounds}
 use Rattle.classify_cap.proofs.cap_of.Goals as goal
 
 pub products_of-requires : goal.products_of-requires
@@ -8,6 +8,3 @@ products_of-requires c = record { small = c.requires.b_value.1; own_rays = own_r
 
 pub returns-in-Some : goal.returns-in-Some
 returns-in-Some c = ahead_bounds c.requires.rays_of c.requires.b_value.0 c.in-Some.p c.in-Some.ensures c.cap_ahead.ensures
-
-pub returns-in-None : goal.returns-in-None
-returns-in-None c = behind_bounds c.requires.rays_of c.requires.b_value.0 c.in-None.ensures c.cap_behind.ensures

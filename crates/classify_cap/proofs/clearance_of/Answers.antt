@@ -10,7 +10,7 @@ use lib.Signed.{le_z}
 use mir.Syntax.{w64}
 use mir.Val.{to_z, of_z}
 use Rattle.algebra.proofs.Sizes.{Upto}
-use Rattle.algebra.proofs.Sized.{held, nat, fits_tested}
+use Rattle.algebra.proofs.Sized.{held, nat}
 use Rattle.classify_cap.specs.Middle.{root_above, clearance_of}
 use Rattle.classify_cap.proofs.ClearanceLaws.{root_most}
 use Rattle.classify_cap.proofs.clearance_of.Goals as goal
@@ -28,9 +28,6 @@ small s e = subst (λ n. n ≤ 2 ^ 21) (sym e) (root_most _)
 pub returns-then-rest-le0 : goal.returns-then-rest-le0
 unfolding clearance_of
 returns-then-rest-le0 c = rw (tested c.requires c.if-rest-le0.true) refl
-
-pub overflow_cast-rest : goal.overflow_cast-rest
-overflow_cast-rest c = fits_tested (held c.requires tt) c.if-rest-le0.false tt
 
 pub returns-then-reach-r : goal.returns-then-reach-r
 unfolding clearance_of

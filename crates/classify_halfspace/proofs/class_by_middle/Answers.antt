@@ -6,18 +6,6 @@ use Rattle.classify_prepared.proofs.PreparedLaws.{sound_offset}
 use Rattle.classify_halfspace.proofs.ClassLaws.{apart_far, apart_near}
 use Rattle.classify_halfspace.proofs.class_by_middle.Goals as goal
 
-pub far_from-apart-requires : goal.far_from-apart-requires
-far_from-apart-requires c = record {
-  small_trixel = (c.requires.small_trixel, c.requires.rays_of);
-  sound_halfspace = c.requires.sound_halfspace;
-}
-
-pub class_by_edges-requires : goal.class_by_edges-requires
-class_by_edges-requires c = record {
-  small_trixel = c.requires.small_trixel;
-  sound_halfspace = c.requires.sound_halfspace;
-}
-
 pub returns-then-apart : goal.returns-then-apart
 returns-then-apart c =
     c.class_apart.ensures ∙ ap class_apart (held (sound_offset c.requires.sound_halfspace) tt).eq

@@ -6,7 +6,7 @@ use lib.IntN.{ℤ, pos, nat_abs, ◌-ℤ◌}
 use mir.Syntax.{w64}
 use mir.Val.{to_z, of_z}
 use Rattle.algebra.proofs.Sizes.{Upto}
-use Rattle.algebra.proofs.Sized.{held, upto_held, upto_mono, is_mul, is_sub, fits_mul, fits_sub}
+use Rattle.algebra.proofs.Sized.{held, is_mul, is_sub, fits_mul, fits_sub}
 use Rattle.vector.specs.Numbers.{Kℕ}
 use Rattle.vector.specs.Vectors.{dot}
 use Rattle.vector.proofs.SizeLaws.{at_most_mono, between_upto}
@@ -25,14 +25,11 @@ size_most h k = subst (λ n. n ≤ Kℕ) (sym (size_is h k)) h.le
 pub turned-f-requires : goal.turned-f-requires
 turned-f-requires c = vector_small c.args.n c.requires.n_value
 
-pub size-e-requires : goal.size-e-requires
-size-e-requires c = upto_held (upto_mono (lit≤ tt) (between_upto c.args.d c.requires.d_value)) tt
-
 pub low_of-low-requires : goal.low_of-low-requires
-low_of-low-requires c = size_most (between_upto c.args.d c.requires.d_value) c.size-e.ensures
+low_of-low-requires c = size_most (between_upto c.args.d c.requires.d_value) c.unsigned_abs-e.ensures.value
 
 pub high_of-requires : goal.high_of-requires
-high_of-requires c = size_most (between_upto c.args.d c.requires.d_value) c.size-e.ensures
+high_of-requires c = size_most (between_upto c.args.d c.requires.d_value) c.unsigned_abs-e.ensures.value
 
 pub dot-requires : goal.dot-requires
 dot-requires c = let h = c.turned-f.ensures.1 in record {
@@ -49,7 +46,7 @@ overflow_sub-result c = let h = c.low_of-low.ensures.1 in fits_sub (held c.dot.e
 pub returns : goal.returns
 returns c =
     let h = between_upto c.args.d c.requires.d_value in
-    let e = size_is h c.size-e.ensures in
+    let e = size_is h c.unsigned_abs-e.ensures.value in
     let d = (held h tt).eq in
     let f = c.turned-f.ensures.0 ∙ ap (λ d. f_of (halfspace_from c.args.n d)) d in
     let D = c.low_of-low.ensures.0 ∙ ap (λ n. DOf (pos n)) e in

@@ -3,19 +3,16 @@ use Prim.Native.Nat.{◌*◌, ◌/◌, ◌^◌, ◌≤◌}
 use native.Mathlib.Nat.{mul-le-mul, lt_of_le_of_lt}
 use native.Mathlib.Omega.{arith}
 use mathlib.Core.Path.{◌≡◌, sym, ap, subst, ◌∙◌}
-use lib.Dec.{lit<, lit≤}
+use lib.Dec.{lit<}
 use lib.IntN.{nat_abs}
-use Rattle.algebra.proofs.Sized.{held, upto_held, upto_mono}
+use Rattle.algebra.proofs.Sized.{held}
 use Rattle.classify_prepared.proofs.upper_square.Goals as goal
 
-upper_is : (c : goal.After-size-n) → c.size-n.result / 1024 ≡ nat_abs c.args.a / 1024
-upper_is c = ap (λ n. n / 1024) (c.size-n.ensures ∙ ap nat_abs (held c.requires tt).eq)
+upper_is : (c : goal.After-unsigned_abs-n) → c.unsigned_abs-n.result / 1024 ≡ nat_abs c.args.a / 1024
+upper_is c = ap (λ n. n / 1024) (c.unsigned_abs-n.ensures.value ∙ ap nat_abs (held c.requires tt).eq)
 
-upper_most : (c : goal.After-size-n) → c.size-n.result / 1024 ≤ 2 ^ 31
+upper_most : (c : goal.After-unsigned_abs-n) → c.unsigned_abs-n.result / 1024 ≤ 2 ^ 31
 upper_most c = subst (λ n. n ≤ 2 ^ 31) (sym (upper_is c)) (omega (arith, c.requires.le))
-
-pub size-n-requires : goal.size-n-requires
-size-n-requires c = upto_held (upto_mono (lit≤ tt) c.requires) tt
 
 pub overflow_mul-result : goal.overflow_mul-result
 overflow_mul-result c = record { fits = lt_of_le_of_lt (mul-le-mul (upper_most c) (upper_most c)) (lit< tt) }

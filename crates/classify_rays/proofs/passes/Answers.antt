@@ -31,7 +31,7 @@ returns c =
     let r = c.args.y.r in
     let p = c.dot-x.ensures in
     let n = ap nat_abs ((held p.upto tt).eq ∙ p.value) in
-    let g = c.size.ensures ∙ ap nat_abs (held c.requires.upto tt).eq in
+    let g = c.unsigned_abs.ensures.value ∙ ap nat_abs (held c.requires.upto tt).eq in
     c.reaches.ensures
     ∙ (λ i. leb (g i * g i * square_of c.args.y) (n i * n i))
     ∙ squares_by_size c.args.g (dot r r) (dot c.args.f r) (dot_self_nonnegative r)

@@ -1,11 +1,9 @@
 use Rattle.std.proofs.Common.{rules, arith, ◌∙◌, sym, subst, get_or, take, drop, ◌-◌}
-use denote.Enum.Bare.{same_true}
-use Rattle.classify.specs.contracts.Class.{the_type}
 use Rattle.classify.specs.declared.Class.{Class}
 use Rattle.classify_prepared.specs.PreparedLists.{ClassedConvex}
-use Rattle.classify_region.proofs.ScanLaws.{halfspace_sound, halfspace_taken, exhausted, convex_left_out, opened_within, opened_ready, closed, ended, full_in}
+use Rattle.classify_region.proofs.ScanLaws.{outside_is, full_is, halfspace_sound, halfspace_taken, exhausted, convex_left_out, opened_within, opened_ready, closed, ended, full_in}
 use Rattle.classify_region.proofs.classify_convexes.Goals as goal
-use Rattle.classify_region.proofs.classify_convexes.Goals.{Left-halfspaces, else-halfspaces-test, then-halfspaces-test+then-eq}
+use Rattle.classify_region.proofs.classify_convexes.Goals.{Left-halfspaces, else-halfspaces-test, then-halfspaces-test+then-is_outside}
 
 -- where the scan of a convex has ended, at its own end or at a halfspace that leaves the trixel outside
 module _ (c : Left-halfspaces) where
@@ -15,9 +13,9 @@ module _ (c : Left-halfspaces) where
   scanned : Scanned c.halfspaces-test.class
   scanned = elim c.halfspaces-test.branch [
     | else-halfspaces-test w ↦ subst Scanned (sym w.class-is) (exhausted _ _ c.halfspaces.invariant w.halfspaces-test.false)
-    | then-halfspaces-test+then-eq w ↦ subst Scanned (sym w.class-is)
+    | then-halfspaces-test+then-is_outside w ↦ subst Scanned (sym w.class-is)
         (convex_left_out _ _ (halfspace_taken _ _ c.halfspaces.invariant _ w.halfspaces-test.true w.classify_one.ensures w.min-class.ensures)
-        (same_true the_type (search rules) _ _ (sym w.eq.ensures ∙ w.if-eq.true)))
+        (outside_is _ (sym w.is_outside.ensures ∙ w.if-is_outside.true)))
   ]
 
 pub offset_bounds-halfspaces-start : goal.offset_bounds-halfspaces-start
@@ -46,7 +44,7 @@ convexes-preserved c = closed _ _ _ c.convexes.invariant c.convexes-test.true (s
 pub returns-after-convexes : goal.returns-after-convexes
 returns-after-convexes c = ended _ _ _ c.convexes.invariant c.convexes-test.false
 
-pub returns-then-eq-2 : goal.returns-then-eq-2
-returns-then-eq-2 c =
-    full_in _ _ _ (closed _ _ _ c.convexes.invariant c.convexes-test.true (scanned (goal.at.returns-then-eq-2 c).Left-halfspaces) c.max-settled.ensures)
-    (same_true the_type (search rules) _ _ (sym c.eq-in-convexes.ensures ∙ c.if-eq-2.true))
+pub returns-then-is_full : goal.returns-then-is_full
+returns-then-is_full c =
+    full_in _ _ _ (closed _ _ _ c.convexes.invariant c.convexes-test.true (scanned (goal.at.returns-then-is_full c).Left-halfspaces) c.max-settled.ensures)
+    (full_is _ (sym c.is_full.ensures ∙ c.if-is_full.true))

@@ -1,7 +1,5 @@
-use Rattle.std.proofs.Common.{rules, ◌∙◌, sym}
-use denote.Enum.Bare.{same_true}
-use Rattle.classify.specs.contracts.Class.{the_type}
-use Rattle.classify_region.proofs.ScanLaws.{halfspace_sound, halfspace_taken, exhausted, convex_left_out}
+use Rattle.std.proofs.Common.{◌∙◌, sym}
+use Rattle.classify_region.proofs.ScanLaws.{outside_is, halfspace_sound, halfspace_taken, exhausted, convex_left_out}
 use Rattle.classify_region.proofs.classify_few.Goals as goal
 
 pub classify_by_rays-requires-clause-sound_halfspace :
@@ -14,7 +12,7 @@ loop-q-preserved c = halfspace_taken _ _ c.loop-q.invariant _ c.loop-q-test.true
 pub returns : goal.returns
 returns c = exhausted _ _ c.loop-q.invariant c.loop-q-test.false
 
-pub returns-then-eq : goal.returns-then-eq
-returns-then-eq c =
+pub returns-then-is_outside : goal.returns-then-is_outside
+returns-then-is_outside c =
     convex_left_out _ _ (halfspace_taken _ _ c.loop-q.invariant _ c.loop-q-test.true c.classify_by_rays.ensures c.min-class.ensures)
-    (same_true the_type (search rules) _ _ (sym c.eq.ensures ∙ c.if-eq.true))
+    (outside_is _ (sym c.is_outside.ensures ∙ c.if-is_outside.true))

@@ -1,6 +1,5 @@
 -- Each return has the test that its branch made. What overflows is above `most`.
-use Rattle.std.proofs.Common.{◌≡◌, ◌+◌, ◌*◌, ◌-◌, ◌≤◌, ◌∙◌, subst, Some, [], ◌∷◌, arith}
-use Rattle.command_words.specs.Numbers.{natural_from}
+use Rattle.std.proofs.Common.{◌≡◌, ◌+◌, ◌*◌, ◌-◌, ◌∙◌, arith}
 use Rattle.command_words.proofs.NumberLaws.{no_digit, past, fits}
 use Rattle.command_words.proofs.with_digit.Goals as goal
 
@@ -16,11 +15,7 @@ returns-in_err-sum c =
     c.from_residual-in_err-sum.ensures
     ∙ past _ _ _ c.if-not-is_ascii_digit.ensures.cases (omega (arith, c.in_ok-checked_mul.ensures.1, c.in_err-sum.ensures))
 
-pub returns-then-most-sum : goal.returns-then-most-sum
-returns-then-most-sum c = past _ _ _ c.if-not-is_ascii_digit.ensures.cases (omega (arith, c.in_ok-checked_mul.ensures.1, c.in_ok-sum.ensures.1))
-
 pub returns : goal.returns
 returns c =
-    let sum : c.args.n * 10 + (c.args.byte - 48) ≡ c.in_ok-sum.sum = omega (arith, c.in_ok-checked_mul.ensures.1, c.in_ok-sum.ensures.1) in
-    let most : c.args.n * 10 + (c.args.byte - 48) ≤ c.args.most = omega arith in
-    subst (λ m. Some m ≡ natural_from c.args.most c.args.n (c.args.byte ∷ [])) sum (fits _ _ _ c.if-not-is_ascii_digit.ensures.cases most)
+    let sum : c.in_ok-sum.sum ≡ c.args.n * 10 + (c.args.byte - 48) = omega (arith, c.in_ok-checked_mul.ensures.1, c.in_ok-sum.ensures.1) in
+    c.then_some.ensures ∙ fits _ _ _ c.if-not-is_ascii_digit.ensures.cases sum

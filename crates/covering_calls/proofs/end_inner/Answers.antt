@@ -15,7 +15,7 @@ inner_end-requires c =
     let r = c.requires in
     let e = tail_lent (2 * s.budget) out (omega (arith, r.list)) in record {
       le_budget = (r.budget, r.inner, omega (arith, r.list, ap length e, length-drop (2 * s.budget) out));
-      hinted = subst (λ l. Hinted s.inner.hint (differences_in 0 0 s.inner.n l)) (sym e) r.inner_hinted;
+      hinted = subst (λ l. Hinted s.inner.stored.hint (differences_in 0 0 s.inner.stored.n l)) (sym e) r.inner_hinted;
     }
 
 pub returns : goal.returns

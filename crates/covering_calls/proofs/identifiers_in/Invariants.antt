@@ -4,5 +4,5 @@ use Rattle.ranges.specs.Ranges.{ranges_in}
 use Rattle.ranges.specs.Contents.{identifiers}
 use Rattle.covering_calls.proofs.identifiers_in.Given as goal
 
-abbrev pub invariant-loop-i : goal.invariant-loop-i
-invariant-loop-i l = l.sum ≡ identifiers (ranges_in l.i l.list)
+abbrev pub invariant-loop-low : goal.invariant-loop-low
+invariant-loop-low l = l.sum ≡ identifiers (ranges_in l.low-index l.list)

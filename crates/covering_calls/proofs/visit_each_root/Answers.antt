@@ -1,4 +1,6 @@
-use Prim.Native.Nat.{◌-◌}
+use Prim.Native.Nat.{◌-◌, ◌^◌, ◌≤◌}
+use native.Mathlib.Nat.{pow-le-pow_right}
+use lib.Dec.{lit<}
 use native.Mathlib.Omega.{arith}
 use mathlib.Core.Path.{refl}
 use Rattle.covering_walk.proofs.VisitLaws.{rooting_start, root_needs, rooting_more, rooted}
@@ -7,11 +9,13 @@ use Rattle.covering_calls.proofs.visit_each_root.Goals as goal
 pub overflow_sub-left : goal.overflow_sub-left
 overflow_sub-left c = omega (arith, c.requires.root_needs.low)
 
-pub power-span-requires : goal.power-span-requires
-power-span-requires c = omega (arith, c.requires.root_needs.high)
+-- at most 4¹¹
+pub pow-span-requires : goal.pow-span-requires
+pow-span-requires c =
+    let m : 4 ^ (c.args.depth - 1) ≤ 4 ^ 11 = pow-le-pow_right {n = 4} (lit< tt) {i = c.args.depth - 1} {j = 11} (omega (arith, c.requires.root_needs.high)) in omega arith
 
 pub loop-k-init : goal.loop-k-init
-loop-k-init c = rooting_start c.requires.root_needs c.requires.active_lists_in refl c.power-span.ensures
+loop-k-init c = rooting_start c.requires.root_needs c.requires.active_lists_in refl c.pow-span.ensures
 
 pub root-trixel-requires : goal.root-trixel-requires
 root-trixel-requires c = omega arith

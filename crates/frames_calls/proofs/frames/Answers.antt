@@ -1,34 +1,29 @@
 -- `frames_calls::frames` checks the owner and decodes the file. Assumes nothing.
-use mathlib.Core.Path.{◌≡◌, sym, ap, ◌∙◌}
-use mathlib.Core.Bool.{true}
-use native.Mathlib.Omega.{arith}
-use borrow.Author.Tests.{lt-ltb, le-ltb}
+use mathlib.Core.Path.{sym, ap, ◌∙◌}
 use Rattle.std.proofs.lemmas.Result.{err_from_is_err_and}
-use Rattle.index.specs.Exposures.{is_owner}
 use Rattle.answer.specs.Calls.{answer_of}
 use Rattle.covering_calls.specs.Decoded.{Decoded}
 use Rattle.covering_calls.proofs.DecodedLaws.{decoded}
 use Rattle.frames_calls.proofs.AnswerLaws.{no_owner, file_refused}
 use Rattle.frames_calls.proofs.frames.Goals as goal
-use Rattle.frames_calls.proofs.frames.Goals.{Else-owner-ge-OWNERS, In_ok-h}
-
-own : (c : Else-owner-ge-OWNERS) → is_owner c.args.owner ≡ true
-own c = lt-ltb c.args.owner 2 (omega (arith, c.if-owner-ge-OWNERS.false))
+use Rattle.frames_calls.proofs.frames.Goals.{In_ok-h}
 
 -- the file is decoded
 file : (c : In_ok-h) → Decoded c.args.file.now c.in_ok-h.h c.decode.new.rows
 file c =
     decoded c.args.file.now c.in_ok-h.h _ _ (sym (ap answer_of c.in_ok-h.was) ∙ c.decode.ensures.result_value) c.decode.ensures.rows_after
 
-pub returns-then-owner-ge-OWNERS : goal.returns-then-owner-ge-OWNERS
-returns-then-owner-ge-OWNERS c =
+pub returns-in_err-check_owner : goal.returns-in_err-check_owner
+returns-in_err-check_owner c =
     let a = c.args in
-    no_owner a.owner a.index.now a.file.now a.ranges.now a.numbers.now (le-ltb a.owner 2 (omega (arith, c.if-owner-ge-OWNERS.true)))
+    let p = err_from_is_err_and c.from_residual.result c.from_residual.ensures.1 in
+    let s = c.in_err-check_owner.ensures in
+    rw (p.1, p.2, s.0) (no_owner a.owner a.index.now a.file.now a.ranges.now a.numbers.now s.1)
 
 pub frames_in-requires : goal.frames_in-requires
 frames_in-requires c = record {
   file_is = (_, file (goal.at.frames_in-requires c).In_ok-h);
-  owner_value = own (goal.at.frames_in-requires c).Else-owner-ge-OWNERS;
+  owner_value = c.in_ok-check_owner.ensures;
 }
 
 pub returns : goal.returns
@@ -37,7 +32,7 @@ returns c = c.frames_in.ensures _ (file (goal.at.returns c).In_ok-h)
 pub returns-in_err-h : goal.returns-in_err-h
 returns-in_err-h c =
     let a = c.args in
-    let p = err_from_is_err_and c.from_residual.result c.from_residual.ensures.1 in
+    let p = err_from_is_err_and c.from_residual-in_err-h.result c.from_residual-in_err-h.ensures.1 in
     rw (p.1, p.2)
-    (file_refused a.owner a.index.now a.file.now a.ranges.now a.numbers.now (own (goal.at.returns-in_err-h c).Else-owner-ge-OWNERS) _
+    (file_refused a.owner a.index.now a.file.now a.ranges.now a.numbers.now c.in_ok-check_owner.ensures _
     (sym (ap answer_of c.in_err-h.was) ∙ c.decode.ensures.result_value))

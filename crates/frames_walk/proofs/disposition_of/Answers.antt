@@ -9,5 +9,5 @@ returns-then-inner c = rw c.if-inner.true
 pub returns-then-not-outer : goal.returns-then-not-outer
 returns-then-not-outer c = rw (c.if-inner.false, c.if-not-outer.true)
 
-pub array_holds-requires-clause-small : goal.array_holds-requires-clause-small
-array_holds-requires-clause-small c = vector_small c.args.p (sym c.is_vector.ensures ∙ c.if-is_vector.true)
+pub rows_hold-requires-clause-small : goal.rows_hold-requires-clause-small
+rows_hold-requires-clause-small c = vector_small c.args.p (sym c.is_vector.ensures ∙ c.if-is_vector.true)

@@ -3,8 +3,8 @@ use Rattle.frames_walk.specs.Steps.{Fits}
 use Rattle.frames_walk.proofs.WalkLaws.{Past}
 use Rattle.frames_walk.proofs.walk.Given as goal
 
-abbrev pub invariant-loop-i : goal.invariant-loop-i
-invariant-loop-i l = record {
+abbrev pub invariant-loop-e : goal.invariant-loop-e
+invariant-loop-e l = record {
   fits : Fits l.at;
-  past : Past l.fn.entries l.fn.lists l.fn.region l.initial.numbers l.i l.at l.numbers;
+  past : Past l.fn.entries l.fn.lists l.fn.region l.initial.numbers l.e-index l.at l.numbers;
 }

@@ -2,7 +2,6 @@
 use Prim.Native.Nat.{◌≤◌, ◌^◌}
 use native.Mathlib.Omega.{arith}
 use mathlib.Core.Path.{◌≡◌, sym, ap, ◌∙◌}
-use borrow.Author.Tests.{lt-ltb, le-ltb}
 use lib.IntN.{pos}
 use Rattle.algebra.proofs.Sized.{nat, stored_same}
 use Rattle.answer.specs.Answer.{gives}
@@ -25,21 +24,23 @@ small c =
     let p = c.args.p in
     omega (arith, identifier_small p 12 (omega arith), (lookup_is p 12 _ (given c)).2)
 
-pub returns-then-owner-ge-OWNERS : goal.returns-then-owner-ge-OWNERS
-returns-then-owner-ge-OWNERS c = let v = c.args in let both = by_add _ _ _ _ (no_owner (is_owner v.owner) _ v.index.now (le-ltb v.owner 2 (omega arith))) in record {
-  result_value = both.0;
-  index_after = both.1;
-}
+pub returns-in_err-check_owner : goal.returns-in_err-check_owner
+returns-in_err-check_owner c =
+    let v = c.args in
+    let p = err_from_is_err_and c.from_residual.result c.from_residual.ensures.1 in
+    let s = c.in_err-check_owner.ensures in
+    let both = by_add _ _ _ _ (no_owner (is_owner v.owner) _ v.index.now s.1) in
+    rw (p.1, p.2, s.0) (record { result_value = both.0; index_after = both.1 })
 
 pub returns-in_err-id : goal.returns-in_err-id
 returns-in_err-id c =
     let v = c.args in
-    let p = err_from_is_err_and c.from_residual.result c.from_residual.ensures.1 in
-    let both = by_add _ _ _ _ (not_added (exposed v.owner v.number v.p) v.index.now c.in_err-id.field-0.0 (lt-ltb v.owner 2 (omega arith)) c.in_err-id.ensures) in
+    let p = err_from_is_err_and c.from_residual-in_err-id.result c.from_residual-in_err-id.ensures.1 in
+    let both = by_add _ _ _ _ (not_added (exposed v.owner v.number v.p) v.index.now c.in_err-id.field-0.0 c.in_ok-check_owner.ensures c.in_err-id.ensures) in
     rw (p.1, p.2) (record { result_value = both.0; index_after = both.1 })
 
-pub overflow_cast-id : goal.overflow_cast-id
-overflow_cast-id c = record { sfits = omega (arith, small (goal.at.overflow_cast-id c).In_ok-id) }
+pub overflow_cast-e : goal.overflow_cast-e
+overflow_cast-e c = record { sfits = omega (arith, small (goal.at.overflow_cast-e c).In_ok-id) }
 
 pub returns : goal.returns
 returns c =
@@ -50,7 +51,7 @@ returns c =
     let number = stored_same c.from.result (omega arith) ∙ c.from.ensures in
     let owner = stored_same c.from-2.result (omega arith) ∙ c.from-2.ensures in
     let both = by_add _ _ _ _
-    (added (exposed v.owner v.number v.p) _ v.index.now c.insert.new.index c.insert.result (lt-ltb v.owner 2 (omega arith)) l.0
+    (added (exposed v.owner v.number v.p) _ v.index.now c.insert.new.index c.insert.result c.in_ok-check_owner.ensures l.0
     (λ j. entry (id j) (number j) (owner j) v.p) c.insert.ensures) in record {
       result_value = both.0;
       index_after = both.1;

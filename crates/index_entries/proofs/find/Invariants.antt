@@ -11,7 +11,7 @@ use lib.ListN.{drop}
 use lib.IntN.{ℤ}
 use Rattle.algebra.specs.Lists.{tally}
 use Rattle.index.specs.declared.Entry.{Entry}
-use Rattle.index.specs.Exposures.{Key, key}
+use Rattle.index.specs.declared.Key.{Key}
 use Rattle.index.specs.Entries.{is_owned, is_keyed, Width, entry_at, entries_from}
 use Rattle.index_entries.specs.Steps.{leading}
 use Rattle.index_entries.proofs.SearchLaws.{search_ends, counted_more}
@@ -73,7 +73,7 @@ module _ (l : List ℤ) (k : Key) where
   all_owned n i w e h = h.same ∙ ap (λ j. tally (is_owned k.owner) (entries_from j (drop 1 l))) (sym e)
 
 abbrev pub invariant-loop-i : goal.invariant-loop-i
-invariant-loop-i l = (l.i ≤ l.n) × Others l.index (key l.owner l.number) l.i × Owned l.index (key l.owner l.number) l.i l.owned
+invariant-loop-i l = (l.i ≤ l.n) × Others l.index l.key l.i × Owned l.index l.key l.i l.owned
 
 abbrev pub decreases-loop-i : goal.decreases-loop-i
 decreases-loop-i l = l.n - l.i

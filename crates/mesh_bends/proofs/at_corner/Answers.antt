@@ -1,15 +1,14 @@
 -- `mesh_bends::at_corner` gives the bends of the child at the first corner. Assumes nothing.
 use mathlib.Core.Path.{ap, ◌∙◌}
-use mathlib.Core.Bool.{Bool, not, cond}
-use lib.Dec.{eqb}
+use mathlib.Core.Bool.{cond}
 use Rattle.algebra.proofs.Sized.{held, is_add, stored_same}
 use Rattle.mesh_bends.specs.Bends.{bends, first_cut, first_half, later_cut, later_half}
 use Rattle.mesh_bends.proofs.CutLaws.{edge_by_edge}
 use Rattle.mesh_bends.proofs.at_corner.Goals as goal
 
 pub returns : goal.returns
-returns g c =
-    let first : Bool = not (eqb g.row.FIRST 0) in
+returns c =
+    let first = c.args.first in
     let w = c.requires in
     let a0 = (held w.a0 tt).eq in
     let sum = (is_add (is_add (held w.a0 tt) (held w.a1 tt) tt) (held w.a2 tt) tt).eq in

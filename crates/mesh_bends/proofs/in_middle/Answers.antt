@@ -1,15 +1,14 @@
 -- `mesh_bends::in_middle` gives the bends of the child in the middle. Assumes nothing.
 use mathlib.Core.Path.{◌∙◌}
-use mathlib.Core.Bool.{Bool, not, cond}
-use lib.Dec.{eqb}
+use mathlib.Core.Bool.{cond}
 use Rattle.algebra.proofs.Sized.{held, is_add, stored_same}
 use Rattle.mesh_bends.specs.Bends.{bends, first_cut, later_cut}
 use Rattle.mesh_bends.proofs.CutLaws.{edge_by_edge}
 use Rattle.mesh_bends.proofs.in_middle.Goals as goal
 
 pub returns : goal.returns
-returns g c =
-    let first : Bool = not (eqb g.row.FIRST 0) in
+returns c =
+    let first = c.args.first in
     let w = c.requires in
     let a0 = (held w.a0 tt).eq in
     let a1 = (held w.a1 tt).eq in

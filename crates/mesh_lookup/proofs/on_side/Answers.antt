@@ -1,55 +1,43 @@
--- `mesh_lookup::on_side` is the sign of Scale(c)·p with c = a × b: by c·p where that is beyond three times the largest component, else by the
--- exact test. Assumes nothing.
-use Prim.Native.Nat.{◌+◌, ◌*◌, ◌^◌, ◌≤◌}
-use mathlib.Core.Path.{◌≡◌, sym, ap, subst, subst₂, ◌∙◌}
-use lib.IntN.{pos, neg_ℤ, ◌*ℤ◌, ◌-ℤ◌, +ℤ_idl}
-use lib.Signed.{◌<ℤ◌}
-use mir.Syntax.{w64}
-use mir.Val.{to_z, of_z}
-use Rattle.algebra.proofs.Sized.{Is, held, nat, lit, is_mul, is_sub, same_lt}
+-- `mesh_lookup::on_side` is the sign of the normal's product with p: the sign of (a × b)·p where its size is beyond three times the largest component of
+-- a × b, else that of the product itself. Assumes nothing.
+use Prim.Native.Nat.{ℕ, zero, suc, ◌*◌, ◌<◌}
+use native.Mathlib.Omega.{arith}
+use mathlib.Core.Bool.{true}
+use mathlib.Core.Path.{◌≡◌, refl, sym, ap, subst, ◌∙◌}
+use borrow.Author.Tests.{lt-ltb}
+use lib.IntN.{ℤ, pos, negsuc, neg_ℤ, nat_abs}
+use lib.Signed.{lt_z, ◌<ℤ◌}
+use Rattle.algebra.proofs.Sized.{held}
 use Rattle.algebra.proofs.Inequalities.{<ℤ→≤ℤ}
 use Rattle.algebra.proofs.Tests.{lt_yes, yes_le, not_le}
-use Rattle.vector.specs.Vectors.{dot, cross, scale}
-use Rattle.vector.proofs.SizeLaws.{largest_bound}
-use Rattle.jump.proofs.SideLaws.{scale_above, scale_below}
+use Rattle.vector.specs.declared.Vec3.{Vec3}
+use Rattle.vector.specs.Vectors.{dot, scale, largest}
+use Rattle.vector.proofs.Sizes.{Small}
 use Rattle.vector.proofs.VectorLaws.{dot_comm}
+use Rattle.jump.proofs.SideLaws.{scale_above, scale_below}
 use Rattle.mesh.specs.Lookup.{not_negative}
 use Rattle.mesh_lookup.proofs.on_side.Goals as goal
-use Rattle.mesh_lookup.proofs.on_side.Goals.{After-cross-c, After-dot-s, After-largest}
 
--- the largest component, and three times it
-one : (c : After-largest) → Is c.largest.result (pos c.largest.result) (2 ^ 41)
-one c = nat (subst (λ m. m ≤ 2 ^ 41) (sym c.largest.ensures) (largest_bound c.cross-c.ensures.at_most)) tt
+below : (m n : ℕ) → m < suc n → lt_z (negsuc n) (neg_ℤ (pos m)) ≡ true
+below zero n l = refl
+below (suc m) n l = lt-ltb m n (omega arith)
 
-three : (c : After-largest) → Is (of_z w64 (pos 3 *ℤ to_z w64 c.largest.result)) (pos (3 * c.largest.result)) (3 * 2 ^ 41)
-three c = is_mul (lit 3 tt) (one c) tt
+-- c·p has the sign of the scaled product, where its size is beyond the bound
+same_sign : (c p : Vec3) (s : ℤ) → Small p → s ≡ dot c p → 3 * largest c < nat_abs s → lt_z (pos 0) s ≡ not_negative (dot (scale c) p)
+same_sign c p (pos n) h e l =
+    let beyond = subst (λ s. pos (3 * largest c) <ℤ s) e (lt_yes (lt-ltb (3 * largest c) n l)) in
+    lt-ltb 0 n (omega arith) ∙ sym (yes_le (<ℤ→≤ℤ (scale_above c p h beyond)))
+same_sign c p (negsuc n) h e l =
+    let beyond = subst (λ s. s <ℤ neg_ℤ (pos (3 * largest c))) e (lt_yes (below (3 * largest c) n l)) in
+    sym (not_le (scale_below c p h beyond))
 
-minus_three : (c : After-largest) → Is (of_z w64 (pos 0 -ℤ to_z w64 (of_z w64 (pos 3 *ℤ to_z w64 c.largest.result)))) (pos 0 -ℤ pos (3 * c.largest.result)) (0 + 3 * 2 ^ 41)
-minus_three c = is_sub (lit 0 tt) (three c) tt
-
--- c·p
-product : (c : After-dot-s) → c.dot-s.result ≡ dot c.cross-c.result c.args.p
-product c = c.dot-s.ensures.value ∙ dot_comm c.args.p c.cross-c.result
-
--- the side by c is the side by a × b
-side : (c : After-cross-c) → not_negative (dot (scale c.cross-c.result) c.args.p) ≡ not_negative (dot (scale (cross c.args.a c.args.b)) c.args.p)
-side c = ap (λ v. not_negative (dot (scale v) c.args.p)) c.cross-c.ensures.value
-
-pub returns-then-m-s : goal.returns-then-m-s
-returns-then-m-s c =
-    let g = c.before in
-    let x = g.before.before in
-    let beyond : pos (3 * g.largest.result) <ℤ g.dot-s.result = lt_yes (sym (same_lt (three g) (held g.dot-s.ensures.upto tt)) ∙ c.if-m-s.true) in
-    sym (yes_le (<ℤ→≤ℤ (scale_above x.cross-c.result x.args.p x.requires.small_2
-    (subst₂ (λ m s. pos (3 * m) <ℤ s) g.largest.ensures (product g.before) beyond))))
-    ∙ side x
-
-pub returns-then-s-m : goal.returns-then-s-m
-returns-then-s-m c =
-    let g = c.before.before.before in
-    let x = g.before.before in
-    let below : g.dot-s.result <ℤ (pos 0 -ℤ pos (3 * g.largest.result)) = lt_yes (sym (same_lt (held g.dot-s.ensures.upto tt) (minus_three g)) ∙ c.if-s-m.true) in
-    let turned : g.dot-s.result <ℤ neg_ℤ (pos (3 * g.largest.result)) = subst (λ m. g.dot-s.result <ℤ m) (+ℤ_idl (neg_ℤ (pos (3 * g.largest.result)))) below in
-    sym (not_le (scale_below x.cross-c.result x.args.p x.requires.small_2
-    (subst₂ (λ m s. s <ℤ neg_ℤ (pos (3 * m))) g.largest.ensures (product g.before) turned)))
-    ∙ side x
+pub returns-then-largest-unsigned_abs : goal.returns-then-largest-unsigned_abs
+returns-then-largest-unsigned_abs c =
+    let v = c.cross-c.result in
+    let p = c.args.p in
+    let u = held c.dot-s.ensures.upto tt in
+    let size = c.unsigned_abs.ensures.value ∙ ap nat_abs u.eq in
+    let beyond : 3 * largest v < nat_abs c.dot-s.result = omega (arith, size, c.largest.ensures, c.if-largest-unsigned_abs.true) in
+    ap (lt_z (pos 0)) u.eq
+    ∙ same_sign v p c.dot-s.result c.requires.small_2 (c.dot-s.ensures.value ∙ dot_comm p v) beyond
+    ∙ ap (λ v. not_negative (dot (scale v) p)) c.cross-c.ensures.value

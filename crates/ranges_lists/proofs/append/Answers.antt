@@ -4,4 +4,4 @@ use Rattle.ranges_lists.proofs.OuterStored.{appended}
 use Rattle.ranges_lists.proofs.append.Goals as goal
 
 pub returns-clause-writes : goal.returns-clause-writes
-returns-clause-writes c = appended c.args.n c.args.list.now c.args.r.low c.args.r.high (omega arith)
+returns-clause-writes c = appended c.args.n c.args.list.now c.args.r (omega arith)

@@ -15,9 +15,10 @@ shape_of-list-then-n-eq1 c = simp length-set (omega arith)
 -- there are no gaps
 pub returns-then-n-eq1 : goal.returns-then-n-eq1
 returns-then-n-eq1 c =
-    let n = c.args.n in
-    let l = c.args.list.now in
-    let both = full_extends n l c.args.r.low c.args.r.high (c.args.r.low - get_or l 1 0 - 1) 1 (omega arith) (omega arith) refl c.args.hint c.requires.hinted
+    let a = c.args in
+    let n = a.stored.n in
+    let l = a.list.now in
+    let both = full_extends n l a.r (a.r.low - get_or l 1 0 - 1) 1 (omega arith) (omega arith) refl a.stored.hint c.requires.hinted
     (λ i k. absurd (omega (arith, ap length (gaps_stored n l (omega arith) (omega arith)), length_differences 1 1 (n - 1) l))) in record {
       list_after = both.0;
       hinted_2 = both.1;
@@ -26,7 +27,7 @@ returns-then-n-eq1 c =
 pub at_smallest-next-requires : goal.at_smallest-next-requires
 at_smallest-next-requires c = record {
   le_count = (omega arith, omega arith);
-  hinted = subst (Hinted c.args.hint) (gaps_stored c.args.n c.args.list.now (omega arith) (omega arith)) c.requires.hinted;
+  hinted = subst (Hinted c.args.stored.hint) (gaps_stored c.args.stored.n c.args.list.now (omega arith) (omega arith)) c.requires.hinted;
 }
 
 pub shape_of-list-then-gap-next : goal.shape_of-list-then-gap-next
@@ -35,23 +36,32 @@ shape_of-list-then-gap-next c = simp length-set (omega arith)
 -- the new gap is the smallest
 pub returns-then-gap-next : goal.returns-then-gap-next
 returns-then-gap-next c =
-    let p = subst (PointsAt c.at_smallest-next.result) (sym (gaps_stored c.args.n c.args.list.now (omega arith) (omega arith))) c.at_smallest-next.ensures in
-    let both = full_extends c.args.n c.args.list.now c.args.r.low c.args.r.high c.difference-gap.result (2 * c.args.n - 1) (omega arith) (omega arith)
-    c.difference-gap.ensures c.at_smallest-next.result p.hinted (λ i k. omega (arith, p.hinted.at_least i k)) in record {
+    let a = c.args in
+    let n = a.stored.n in
+    let p = subst (PointsAt c.at_smallest-next.result) (sym (gaps_stored n a.list.now (omega arith) (omega arith))) c.at_smallest-next.ensures in
+    let both = full_extends n a.list.now a.r _ (2 * n - 1) (omega arith) (omega arith) refl c.at_smallest-next.result p.hinted (λ i k. omega (arith, p.hinted.at_least i k)) in record {
       list_after = both.0;
       hinted_2 = both.1;
     }
 
-pub join_at-requires : goal.join_at-requires
-join_at-requires c =
-    (omega (arith, points_inside 1 1 (c.args.n - 1) c.args.list.now c.at_smallest-next.ensures), omega arith)
+pub overflow_mul-next : goal.overflow_mul-next
+overflow_mul-next c = omega (arith, points_inside 1 1 (c.args.stored.n - 1) c.args.list.now c.at_smallest-next.ensures)
+
+pub overflow_add-next : goal.overflow_add-next
+overflow_add-next c = omega (arith, points_inside 1 1 (c.args.stored.n - 1) c.args.list.now c.at_smallest-next.ensures)
+
+pub replace-requires : goal.replace-requires
+replace-requires c =
+    (omega (arith, points_inside 1 1 (c.args.stored.n - 1) c.args.list.now c.at_smallest-next.ensures), omega arith)
 
 -- another one is
 pub returns : goal.returns
 returns c =
-    let p = subst (PointsAt c.at_smallest-next.result) (sym (gaps_stored c.args.n c.args.list.now (omega arith) (omega arith))) c.at_smallest-next.ensures in
-    let both = full_joins c.args.n c.args.list.now c.args.r.low c.args.r.high c.difference-gap.result (2 * c.args.n - 1) (omega arith) (omega arith)
-    c.difference-gap.ensures c.at_smallest-next.result p (omega arith) _ c.join_at.ensures in record {
+    let a = c.args in
+    let n = a.stored.n in
+    let p = subst (PointsAt c.at_smallest-next.result) (sym (gaps_stored n a.list.now (omega arith) (omega arith))) c.at_smallest-next.ensures in
+    let both = full_joins n a.list.now a.r _ (2 * n - 1) (omega arith) (omega arith) refl c.at_smallest-next.result p
+    (omega (arith, points_inside 1 1 (n - 1) a.list.now c.at_smallest-next.ensures)) (omega arith) _ c.replace.ensures in record {
       list_after = both.0;
       hinted_2 = both.1;
     }

@@ -21,20 +21,22 @@ shape_of-list-then-touches c = simp length-set (omega arith)
 pub returns-then-touches : goal.returns-then-touches
 returns-then-touches c =
     let a = c.args in
+    let n = a.stored.n in
     let t = sym c.touches.ensures ∙ c.if-touches.true in
-    let w = push_extends a.budget a.n a.list.now a.r.low a.r.high (2 * a.n - 1) (omega arith) (omega arith) (omega arith) t in
-    let h = push_keeps a.budget a.n a.list.now a.r.low a.r.high (2 * a.n - 1) (omega arith) (omega arith) (omega arith) a.hint t c.requires.hinted in
+    let w = push_extends a.budget n a.list.now a.r (2 * n - 1) (omega arith) (omega arith) (omega arith) t in
+    let h = push_keeps a.budget n a.list.now a.r (2 * n - 1) (omega arith) (omega arith) (omega arith) a.stored.hint t c.requires.hinted in
     record {
       writes = w;
       n_le_n = (omega arith, omega arith);
-      hinted_2 = hinted_stored a.hint gaps _ _ _ _ w h;
+      hinted_2 = hinted_stored a.stored.hint gaps _ _ _ _ w h;
     }
 
 pub returns-then-n-budget : goal.returns-then-n-budget
 returns-then-n-budget c =
     let a = c.args in
+    let n = a.stored.n in
     record {
-      writes = push_appends a.budget a.n a.list.now a.r.low a.r.high (2 * a.n - 1) (omega arith) (omega arith) (omega arith)
+      writes = push_appends a.budget n a.list.now a.r (2 * n - 1) (omega arith) (omega arith) (omega arith)
           (sym c.touches.ensures ∙ c.if-touches.false) (omega arith) c.append-then-n-budget.ensures.writes;
       n_le_n = (omega (arith, c.append-then-n-budget.ensures.one_more), omega (arith, c.append-then-n-budget.ensures.one_more));
       hinted_2 = hinted_any c.append-then-n-budget.ensures.hint _;
@@ -49,10 +51,11 @@ outer_full-requires c = record {
 pub returns : goal.returns
 returns c =
     let a = c.args in
+    let n = a.stored.n in
     let next = c.outer_full in
     let t = sym c.touches.ensures ∙ c.if-touches.false in
-    let w = push_full a.budget a.n a.list.now a.r.low a.r.high (2 * a.n - 1) (omega arith) (omega arith) (omega arith) t _ (omega arith) next.ensures.list_after in
-    let h = push_hint a.budget a.n a.list.now a.r.low a.r.high (2 * a.n - 1) (omega arith) (omega arith) (omega arith) t next.result (omega arith) next.ensures.hinted_2 in
+    let w = push_full a.budget n a.list.now a.r (2 * n - 1) (omega arith) (omega arith) (omega arith) t _ (omega arith) next.ensures.list_after in
+    let h = push_hint a.budget n a.list.now a.r (2 * n - 1) (omega arith) (omega arith) (omega arith) t next.result (omega arith) next.ensures.hinted_2 in
     record {
       writes = w;
       n_le_n = (omega arith, omega arith);

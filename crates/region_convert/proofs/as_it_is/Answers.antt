@@ -10,12 +10,6 @@ returns-then-out-file c = let a = c.args in let both = no_space (gives a.file.no
   out_after = both.1;
 }
 
-pub copy-requires : goal.copy-requires
-copy-requires c = c.if-out-file.false
-
-pub shape_of-out : goal.shape_of-out
-shape_of-out c = c.copy.auto.out
-
 pub returns : goal.returns
 returns c =
     let a = c.args in

@@ -21,9 +21,6 @@ says c = sym (ap answer_of c.in_ok-h.was) ∙ c.decode.ensures.result_value
 pub style_of-requires : goal.style_of-requires
 style_of-requires c = headed _ _ (says (goal.at.style_of-requires c).In_ok-h)
 
-pub shape_of-out-then-eq : goal.shape_of-out-then-eq
-shape_of-out-then-eq c = c.as_it_is.auto.out
-
 pub returns-then-eq : goal.returns-then-eq
 returns-then-eq c =
     let a = c.args in
@@ -41,9 +38,6 @@ slice_bounds-rows-end c =
 pub slice_bounds-write-end : goal.slice_bounds-write-end
 slice_bounds-write-end c =
     sym (length-take-le _ _ (enough c.args.file.now c.in_ok-h.h (says (goal.at.slice_bounds-write-end c).In_ok-h) _ _ c.decode.ensures.rows_after (length-replicate 2560 (pos 0))))
-
-pub shape_of-out : goal.shape_of-out
-shape_of-out c = c.write.auto.out
 
 pub returns : goal.returns
 returns c =

@@ -35,15 +35,6 @@ returns-then-begun-n-gt-HALFSPACES c =
     counted_taken (refused Crowd) refl
     (group_crowd a.s.counts (group_of a.payload.now) a.rows.now _ c.convex_in.ensures _ (ap answer_of c.in_ok-begun.was) (omega arith))
 
-pub halfspaces_in-requires : goal.halfspaces_in-requires
-halfspaces_in-requires c = c.requires
-
-pub shape_of-rows : goal.shape_of-rows
-shape_of-rows c = c.halfspaces_in.auto.rows
-
-pub shape_of-rows-in_err-counts : goal.shape_of-rows-in_err-counts
-shape_of-rows-in_err-counts c = c.halfspaces_in.auto.rows
-
 pub returns : goal.returns
 returns c = counted_taken _ (ap (λ r. step_given c.args.next (answer_of r)) (sym c.in_ok-counts.was)) (all (goal.at.returns c).After-halfspaces_in)
 

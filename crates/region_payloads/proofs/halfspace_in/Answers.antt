@@ -30,9 +30,6 @@ write_row-requires c =
       convexes_nonzero = (begun (goal.at.write_row-requires c).Else-k-eq0, omega (arith, p.1));
     }
 
-pub shape_of-rows : goal.shape_of-rows
-shape_of-rows c = c.write_row.auto.rows
-
 pub returns : goal.returns
 returns c x before st =
     halfspace_more _ _ x before _ st (begun (goal.at.returns c).Else-k-eq0) _ (more (goal.at.returns c).In_ok-with) _ c.write_row.ensures

@@ -7,22 +7,10 @@ use Rattle.region_payloads.specs.Payloads.{step_given}
 use Rattle.region_payloads.proofs.StepLaws.{counted_as, counted_taken}
 use Rattle.region_payloads.proofs.halfspace_payload.Goals as goal
 
-pub halfspace_of-h-requires : goal.halfspace_of-h-requires
-halfspace_of-h-requires c = c.requires.0
-
-pub halfspace_in-requires : goal.halfspace_in-requires
-halfspace_in-requires c = c.requires.1
-
-pub shape_of-rows : goal.shape_of-rows
-shape_of-rows c = c.halfspace_in.auto.rows
-
 pub returns : goal.returns
 returns c =
     counted_taken _ (ap (λ r. step_given c.args.next (answer_of r)) (sym c.in_ok-counts.was))
     (λ x before st. counted_as (ap (halfspace_in x) c.halfspace_of-h.ensures) (c.halfspace_in.ensures x before st))
-
-pub shape_of-rows-in_err-counts : goal.shape_of-rows-in_err-counts
-shape_of-rows-in_err-counts c = c.halfspace_in.auto.rows
 
 pub returns-in_err-counts : goal.returns-in_err-counts
 returns-in_err-counts c =

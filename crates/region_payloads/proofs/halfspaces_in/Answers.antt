@@ -21,37 +21,26 @@ next c =
     ∙ part_at 16 (length p / 16) c.loop-part.part-index p [] (omega (arith, c.as_chunks.ensures.front_len, c.loop-part-test.true)))
 
 pub loop-part-init : goal.loop-part-init
-loop-part-init c = let a = c.args in (c.requires, passing_none a.payload.now (length a.payload.now / 16) a.rows.now a.k)
-
-pub halfspace_in-requires : goal.halfspace_in-requires
-halfspace_in-requires c = let l = c.loop-part in l.invariant.1.same_length ∙ l.invariant.0
+loop-part-init c = let a = c.args in passing_none a.payload.now (length a.payload.now / 16) a.rows.now a.k
 
 pub loop-part-preserved : goal.loop-part-preserved
 loop-part-preserved c =
-    let a = c.args in (
-      c.loop-part.invariant.0,
-      passing_more a.payload.now _ a.rows.now a.k c.loop-part.rows c.loop-part.size c.loop-part.part-index c.loop-part.invariant.1
-          c.halfspace_of.result (next (goal.at.loop-part-preserved c).After-halfspace_of) (omega (arith, c.as_chunks.ensures.front_len, c.loop-part-test.true)) _ _
-          c.halfspace_in.ensures _ (ap answer_of c.in_ok-size.was) c.halfspace_in.auto.rows,
-    )
-
-pub shape_of-rows-in_err-size : goal.shape_of-rows-in_err-size
-shape_of-rows-in_err-size c = c.halfspace_in.auto.rows ∙ c.loop-part.invariant.1.same_length
+    let a = c.args in
+    passing_more a.payload.now _ a.rows.now a.k c.loop-part.rows c.loop-part.size c.loop-part.part-index c.loop-part.invariant
+    c.halfspace_of.result (next (goal.at.loop-part-preserved c).After-halfspace_of) (omega (arith, c.as_chunks.ensures.front_len, c.loop-part-test.true)) _ _
+    c.halfspace_in.ensures _ (ap answer_of c.in_ok-size.was)
 
 pub returns-in_err-size : goal.returns-in_err-size
 returns-in_err-size c =
     let a = c.args in
     let p = err_from_is_err_and c.from_residual.result c.from_residual.ensures.1 in
     rw (p.1, p.2)
-    (passing_refused a.payload.now _ a.rows.now a.k c.loop-part.rows c.loop-part.size c.loop-part.part-index c.loop-part.invariant.1
+    (passing_refused a.payload.now _ a.rows.now a.k c.loop-part.rows c.loop-part.size c.loop-part.part-index c.loop-part.invariant
     c.halfspace_of.result (next (goal.at.returns-in_err-size c).After-halfspace_of) (omega (arith, c.as_chunks.ensures.front_len, c.loop-part-test.true)) _ _
     c.halfspace_in.ensures _ (ap answer_of c.in_err-size.was))
-
-pub shape_of-rows : goal.shape_of-rows
-shape_of-rows c = c.loop-part.invariant.1.same_length
 
 pub returns : goal.returns
 returns c =
     let a = c.args in
-    passing_end a.payload.now _ a.rows.now a.k c.loop-part.rows c.loop-part.size c.loop-part.part-index c.loop-part.invariant.1
+    passing_end a.payload.now _ a.rows.now a.k c.loop-part.rows c.loop-part.size c.loop-part.part-index c.loop-part.invariant
     (omega (arith, c.as_chunks.ensures.front_len, c.loop-part-test.false))

@@ -1,4 +1,5 @@
 -- `region_points::point_test` decodes the file, checks the vector, and scans the rows. Assumes nothing.
+use native.Mathlib.Omega.{arith}
 use mathlib.Core.Path.{◌≡◌, sym, ap, ◌∙◌}
 use mathlib.Core.List.{[]}
 use Rattle.std.proofs.lemmas.Result.{err_from_is_err_and}
@@ -16,18 +17,18 @@ use Rattle.region_points.proofs.point_test.Goals.{In_ok-h}
 says : (c : In_ok-h) → gives c.in_ok-h.h ≡ with_value header_of (reader.read c.args.file.now)
 says c = sym (ap answer_of c.in_ok-h.was) ∙ c.decode.ensures.result_value
 
-pub array_holds-requires : goal.array_holds-requires
-array_holds-requires c =
+pub rows_hold-requires : goal.rows_hold-requires
+rows_hold-requires c =
     let a = c.args in
     record {
-      count_bound = count_most a.file.now [] c.in_ok-h.h (says (goal.at.array_holds-requires c).In_ok-h);
+      count_in_bounds = omega (arith, count_most a.file.now [] c.in_ok-h.h (says (goal.at.rows_hold-requires c).In_ok-h), c.decode.array_long);
       small = vector_small a.p (sym c.is_vector.ensures ∙ c.if-not-is_vector.false);
     }
 
 pub returns : goal.returns
 returns c =
     let a = c.args in
-    held a.file.now a.p c.in_ok-h.h (says (goal.at.returns c).In_ok-h) (sym c.is_vector.ensures ∙ c.if-not-is_vector.false) _ _ c.decode.ensures.rows_after _ c.array_holds.ensures
+    held a.file.now a.p c.in_ok-h.h (says (goal.at.returns c).In_ok-h) (sym c.is_vector.ensures ∙ c.if-not-is_vector.false) _ _ c.decode.ensures.rows_after _ c.rows_hold.ensures
 
 pub returns-then-not-is_vector : goal.returns-then-not-is_vector
 returns-then-not-is_vector c =

@@ -40,10 +40,10 @@ framed c = frame_says _ _ _ (sym (ap answer_of c.in_ok-frame.was) ∙ c.frame_at
 
 -- the record ends within the file
 within : (c : In_ok-frame) → place c + len c ≤ length (file c)
-within c = end_within (file c) (place c) (len c) (found c) (framed c) c.requires.at_in_bounds
+within c = end_within (file c) (place c) (len c) (found c) (framed c) c.requires
 
 least : (c : In_ok-frame) → 4 ≤ len c
-least c = begins_least (file c) (place c) (len c) (found c) (framed c) c.requires.at_in_bounds
+least c = begins_least (file c) (place c) (len c) (found c) (framed c) c.requires
 
 next : (c : In_ok-frame) → place c + len c ≡ place c + length_of (rest c)
 next c = ap (λ n. place c + n) (framed c).len_is
@@ -69,7 +69,7 @@ taken : (k : In_ok-frame) → fits (styles k) (found k) ≡ true → (r : Record
 taken k f r e x = record_by (rest k) r (is k r e) (styles k) x (ap (fits (styles k)) (sym e) ∙ f)
 
 pub frame_at-requires : goal.frame_at-requires
-frame_at-requires c = c.requires.at_in_bounds
+frame_at-requires c = c.requires
 
 pub returns-then-not-fits : goal.returns-then-not-fits
 returns-then-not-fits c x before st =
@@ -99,16 +99,13 @@ halfspace_payload-requires c =
     let k = (goal.at.halfspace_payload-requires c).In_ok-frame in
     let l = has_size k Record.Halfspace c.in-Halfspace.is in
     let w = within k in
-    (simp (length-take, length-drop) (omega arith), c.requires.rows_len)
+    simp (length-take, length-drop) (omega arith)
 
 pub overflow_sub-file : goal.overflow_sub-file
 overflow_sub-file c = let k = (goal.at.overflow_sub-file c).In_ok-frame in within k
 
 pub end_payload-requires : goal.end_payload-requires
 end_payload-requires c = let k = (goal.at.end_payload-requires c).In_ok-frame in no_payload k (has_size k Record.End c.in-End.is)
-
-pub group_payload-requires : goal.group_payload-requires
-group_payload-requires c = c.requires.rows_len
 
 pub returns-in_err-frame : goal.returns-in_err-frame
 returns-in_err-frame c x before st =
@@ -129,9 +126,6 @@ returns-in-Convex c x before st =
     taken_as (sym (is_end_law (rest k) Record.Convex (is k Record.Convex e))) (next k) (sym (taken k (sym c.fits.ensures ∙ c.if-not-fits.false) Record.Convex e x))
     (convex_taken x st (c.convex_payload.ensures x st.counts))
 
-pub shape_of-rows-in-Halfspace : goal.shape_of-rows-in-Halfspace
-shape_of-rows-in-Halfspace c = c.halfspace_payload.auto.rows
-
 pub returns-in-Halfspace : goal.returns-in-Halfspace
 returns-in-Halfspace c x before st =
     let k = (goal.at.returns-in-Halfspace c).In_ok-frame in
@@ -147,10 +141,7 @@ returns-in-End c x before st =
     let left = after (rest k) in
     taken_as (sym (is_end_law (rest k) Record.End (is k Record.End e))) (next k) (sym (taken k (sym c.fits.ensures ∙ c.if-not-fits.false) Record.End e x))
     (end_taken x left st
-    (c.end_payload.ensures x (place k + len k) left st.counts (left_after (file k) (place k) (len k) (found k) (framed k) c.requires.at_in_bounds)))
-
-pub shape_of-rows-in-Group : goal.shape_of-rows-in-Group
-shape_of-rows-in-Group c = c.group_payload.auto.rows
+    (c.end_payload.ensures x (place k + len k) left st.counts (left_after (file k) (place k) (len k) (found k) (framed k) c.requires)))
 
 pub returns-in-Group : goal.returns-in-Group
 returns-in-Group c x before st =

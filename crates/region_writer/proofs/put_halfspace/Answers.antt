@@ -40,9 +40,6 @@ put_numbers-requires-in-Grouped c =
       upto = c.requires.upto;
     }
 
-pub shape_of-out-in-Plain : goal.shape_of-out-in-Plain
-shape_of-out-in-Plain c = c.put_numbers.auto.out ∙ c.put_kind.auto.out
-
 pub returns-in-Plain : goal.returns-in-Plain
 returns-in-Plain c =
     let a = c.args in record {
@@ -50,9 +47,6 @@ returns-in-Plain c =
       out_after = put_next a.p.at (begin Record.Halfspace) (numbers_bytes a.h) a.out.now c.put_kind.ensures c.put_numbers.ensures refl (omega arith)
           ∙ ap (λ s. with_halfspace_at s a.p a.h a.out.now) (sym c.in-Plain.is);
     }
-
-pub shape_of-out-in-Grouped : goal.shape_of-out-in-Grouped
-shape_of-out-in-Grouped c = c.put_numbers-in-Grouped.auto.out ∙ c.put_kind-in-Grouped.auto.out
 
 pub returns-in-Grouped : goal.returns-in-Grouped
 returns-in-Grouped c =

@@ -23,9 +23,6 @@ put_halfspace-requires c =
       upto = (halfspace_small f).1;
     }
 
-pub shape_of-out-then-is_number : goal.shape_of-out-then-is_number
-shape_of-out-then-is_number c = c.put_halfspace.auto.out ∙ c.put_convex-opened.auto.out
-
 pub returns-then-is_number : goal.returns-then-is_number
 returns-then-is_number c f =
     let b = begins_row f (number (goal.at.returns-then-is_number c).After-is_number true c.if-is_number.true) c.put_convex-opened.ensures.value c.put_convex-opened.ensures.out_after in
@@ -39,9 +36,6 @@ put_halfspace-requires-2 c =
       small = (halfspace_small f).0;
       upto = (halfspace_small f).1;
     }
-
-pub shape_of-out : goal.shape_of-out
-shape_of-out c = c.put_halfspace-2.auto.out
 
 pub returns : goal.returns
 returns c f =

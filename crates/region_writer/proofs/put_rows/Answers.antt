@@ -9,7 +9,7 @@ use mir.Val.{to_z, of_z}
 use Rattle.algebra.proofs.Sized.{held}
 use Rattle.region.specs.Rows.{halfspace_at}
 use Rattle.region_rows.proofs.RowParts.{row_number, row_halfspace}
-use Rattle.region_writer.proofs.WritingPass.{Writing, start, as_long, done, row_fits, more}
+use Rattle.region_writer.proofs.WritingPass.{Writing, start, done, row_fits, more}
 use Rattle.region_writer.proofs.put_rows.Goals as goal
 use Rattle.region_writer.proofs.put_rows.Goals.{After-halfspace_at}
 
@@ -44,9 +44,6 @@ loop-row-preserved c =
     let next : 5 * c.loop-row.row-index + 5 ≡ 5 * (c.loop-row.row-index + 1) = omega arith in
     subst (Writing c.args.style c.args.rows.now c.args.out.now _ _) next
     (more c.loop-row.invariant (omega (arith, below v)) (rw (halfspace v, number v) at c.put_row-p.ensures))
-
-pub shape_of-out : goal.shape_of-out
-shape_of-out c = as_long c.loop-row.invariant
 
 pub returns : goal.returns
 returns c = done c.loop-row.invariant (omega (arith, c.as_chunks.ensures.front_len, (c.loop-row.invariant).place))

@@ -1,10 +1,8 @@
 -- `trial_calls::score_of` counts the identifiers of the outer list at depth 12. Assumes nothing.
-use Prim.Native.Nat.{◌+◌, ◌-◌, ◌*◌}
+use Prim.Native.Nat.{◌+◌, ◌-◌}
 use native.Mathlib.Omega.{arith}
 use native.Mathlib.Nat.{pow-le-pow_right}
 use lib.Dec.{lit<}
-use mathlib.Core.Path.{ap}
-use Rattle.trial_calls.specs.Tries.{score_of}
 use Rattle.trial_calls.proofs.ScoreLaws.{sky_fits}
 use Rattle.trial_calls.proofs.score_of.Goals as goal
 
@@ -16,9 +14,3 @@ overflow_mul-result c =
     let a = c.args in
     let m = a.made.counts in
     omega (arith, sky_fits a.depth (m.full + m.partial + m.swallowed) c.pow-span.result c.requires.2 c.pow-span.ensures c.requires.0)
-
-pub returns : goal.returns
-returns c =
-    let a = c.args in
-    let m = a.made.counts in
-    ap (λ p. record { result = (score_of a.depth a.made).result; sky = (m.full + m.partial + m.swallowed) * p }) c.pow-span.ensures

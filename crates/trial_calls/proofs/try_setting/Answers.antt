@@ -1,19 +1,8 @@
 -- `trial_calls::try_setting` searches with the budget of the setting, and counts what was found. Assumes nothing.
-use Prim.Native.Nat.{◌≤◌}
-use native.Mathlib.Omega.{arith}
 use mathlib.Core.Path.{sym, subst}
-use borrow.Author.Rules.{rules}
-use Rattle.region.proofs.BudgetLaws.{budget_one}
 use Rattle.trial_calls.specs.Tries.{Tries}
 use Rattle.trial_calls.proofs.ScoreLaws.{spanned_few, scored}
 use Rattle.trial_calls.proofs.try_setting.Goals as goal
-
-pub search-made-requires : goal.search-made-requires
-search-made-requires c = record {
-  le_depth = c.requires.le_depth;
-  le_budget = (subst (λ n. 1 ≤ n) (sym c.budget_of-budget.ensures.0) (budget_one c.args.s.budget), omega (arith, c.budget_of-budget.ensures.0));
-  in_bounds = search rules;
-}
 
 pub score_of-requires : goal.score_of-requires
 score_of-requires c =

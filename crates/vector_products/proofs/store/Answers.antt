@@ -9,10 +9,7 @@ use Rattle.vector_products.proofs.store.Goals as goal
 
 pub returns : goal.returns
 returns c =
-    let s = c in
-    let v = s.args in
+    let v = c.args in
     let k = v.k in
-    let x = stored_same v.v.x c.struct_told-1.given.0.1 in
-    let y = stored_same v.v.y c.struct_told-2-1.given.1.0.1 in
-    let z = stored_same v.v.z c.struct_told-3-1.given.1.1.0.1 in
-    (λ i. set (set (set v.xs.now k (x i)) (k + 1) (y i)) (k + 2) (z i)) ∙ stored_put k (three v.v) v.xs.now s.requires
+    (λ i. set (set (set v.xs.now k (stored_same v.v.x c.struct_told-1.given.0.1 i)) (k + 1) (stored_same v.v.y c.struct_told-2-1.given.1.0.1 i)) (k + 2) (stored_same v.v.z c.struct_told-3-1.given.1.1.0.1 i))
+    ∙ stored_put k (three v.v) v.xs.now c.requires

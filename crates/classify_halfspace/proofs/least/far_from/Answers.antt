@@ -6,7 +6,7 @@ use mir.Val.{to_z, of_z}
 use lib.IntN.{ℤ}
 use Rattle.algebra.proofs.Sizes.{Upto}
 use Rattle.algebra.proofs.Sized.{held}
-use Rattle.algebra.proofs.Tests.{and_then, and_no_left, and_no_right}
+use Rattle.algebra.proofs.Tests.{and_then, and_no_right}
 use Rattle.vector.specs.declared.Vec3.{Vec3}
 use Rattle.vector.specs.Vectors.{dot}
 use Rattle.vector.proofs.Sizes.{Small}
@@ -70,6 +70,3 @@ returns-in-Some c =
     let p = c.in-Some.ensures in
     c.far_at_reach.ensures ∙ same h m.small c.dot.ensures.value c.dot-2.ensures.value t m.value _ ∙ far_by_law h t (reach_of s m.value c.in-Some.p p.1 p.2)
     ∙ and_then _ (sym (ahead_is s m.value) ∙ p.0)
-
-pub returns-in-None : goal.returns-in-None
-returns-in-None c = sym (and_no_left _ (sym (ahead_is c.requires.small_trixel.1 c.middle_of-b.ensures.value) ∙ c.in-None.ensures))

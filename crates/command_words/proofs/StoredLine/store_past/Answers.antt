@@ -4,13 +4,14 @@ use Rattle.std.specs.Option.{is_some}
 use Rattle.command_words.proofs.FileLaws.{other, first_digit, second_digit}
 use Rattle.command_words.proofs.StoredLine.store_past.Goals as goal
 
-pub returns-then-is_none : goal.returns-then-is_none
-returns-then-is_none c = other _ _ _ _ c.requires.n_in_bounds c.requires.file_bound (sym (ap is_some c.digit.ensures.value) ∙ c.if-is_none.ensures)
+pub returns-then-is_none-clause-stored : goal.returns-then-is_none-clause-stored
+returns-then-is_none-clause-stored c =
+    other _ _ _ _ c.requires.n_in_bounds c.requires.file_bound (sym (ap is_some c.digit.ensures.value) ∙ c.if-is_none.ensures)
 
-pub returns-then-self-file-gt-FILE_DIGITS : goal.returns-then-self-file-gt-FILE_DIGITS
-returns-then-self-file-gt-FILE_DIGITS c =
+pub returns-then-n-file-gt-FILE_DIGITS-clause-stored : goal.returns-then-n-file-gt-FILE_DIGITS-clause-stored
+returns-then-n-file-gt-FILE_DIGITS-clause-stored c =
     second_digit _ _ _ _ c.requires.n_in_bounds c.requires.file_bound (omega arith) (sym (ap is_some c.digit.ensures.value) ∙ c.if-is_none.ensures)
 
-pub returns : goal.returns
-returns c =
-    first_digit _ _ _ _ c.requires.n_in_bounds c.requires.file_bound (omega arith) (sym (ap is_some c.digit.ensures.value) ∙ c.if-is_none.ensures) c.push.ensures
+pub returns-clause-stored : goal.returns-clause-stored
+returns-clause-stored c =
+    first_digit _ _ _ _ c.requires.n_in_bounds c.requires.file_bound (omega arith) (sym (ap is_some c.digit.ensures.value) ∙ c.if-is_none.ensures) c.push.ensures.pushed

@@ -1,21 +1,15 @@
-use native.Mathlib.Omega.{arith}
-use Rattle.ranges_stored.proofs.HintLaws.{first_here, first_later, first_none}
+-- `Differences::first_at` finds the first difference that is the floor, from the hint's number on. Assumes nothing.
+use Rattle.std.specs.Prelude.{◌≡◌, ◌≢◌}
+use Rattle.std.proofs.Common.{rules}
+use borrow.Author.Tests.{tests}
+use Rattle.std.proofs.lemmas.Iterator.{first_from_Range}
+use Rattle.ranges_stored.proofs.HintLaws.{first_found, read}
 use Rattle.ranges_stored.proofs.Differences.first_at.Goals as goal
-
-pub returns-then-here-hint : goal.returns-then-here-hint
-returns-then-here-hint c =
-    let d = c.args.self.now in record {
-      first_at = first_here d.start d.less d.count d.list.now d.inside c.args.hint.floor c.loop-i.i c.at-here.result c.loop-i.invariant (omega arith) c.at-here.ensures (omega arith);
-      upper_bound = omega arith;
-    }
-
-pub loop-i-preserved : goal.loop-i-preserved
-loop-i-preserved c =
-    let d = c.args.self.now in first_later d.start d.less d.count d.list.now d.inside c.args.hint.floor c.loop-i.i c.at-here.result c.loop-i.invariant (omega arith) c.at-here.ensures c.if-here-hint.false
 
 pub returns : goal.returns
 returns c =
-    let d = c.args.self.now in record {
-      first_at = first_none d.start d.less d.count d.list.now d.inside c.args.hint.floor c.loop-i.i c.loop-i.invariant (omega arith);
-      upper_bound = omega arith;
-    }
+    let d = c.args.self.now in
+    let h = c.args.hint in
+    first_found d.start d.less d.count d.list.now d.inside h.floor h.from c.find.result c.requires
+    (first_from_Range _ _ _ c.find.result (λ i. read d.start d.less d.count d.list.now d.inside i ≡ h.floor) (λ i. read d.start d.less d.count d.list.now d.inside i ≢ h.floor) c.find.ensures.ran
+    (λ x q k. search (rules, tests)) (λ x q k. search (rules, tests)))
