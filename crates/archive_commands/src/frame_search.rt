@@ -8,9 +8,11 @@ use std::fmt::Write;
 // frames OWNER HEX
 pub fn frames(index: &[i64], mut words: Words<'_>, out: &mut Output) -> Result<(), Fault> {
     let owner = words.natural()?;
-    let mut bytes = [0u8; FILE_CAPACITY];
-    let file = words.file(&mut bytes)?;
+    let mut hex = words;
+    words.word()?;
     words.end()?;
+    let mut bytes = [0u8; FILE_CAPACITY];
+    let file = hex.file(&mut bytes)?;
     let mut ranges = [0u64; RANGES_LENGTH];
     let mut numbers = [0u32; OWNER_CAPACITY];
     let counts = htm::frames(index, owner, file, &mut ranges, &mut numbers)?;

@@ -9,11 +9,13 @@ use trial::{Choice, Setting, SettingResult, Trial};
 // trial OWNER HEX D1 B1 D2 B2
 pub fn trial(index: &[i64], mut words: Words<'_>, out: &mut Output) -> Result<(), Fault> {
     let owner = words.natural()?;
-    let mut bytes = [0u8; FILE_CAPACITY];
-    let file = words.file(&mut bytes)?;
+    let mut hex = words;
+    words.word()?;
     let s = setting(&mut words)?;
     let t = setting(&mut words)?;
     words.end()?;
+    let mut bytes = [0u8; FILE_CAPACITY];
+    let file = hex.file(&mut bytes)?;
     let mut first = [0u64; RANGES_LENGTH];
     let mut second = [0u64; RANGES_LENGTH];
     let result = htm::trial(index, owner, file, s, t, &mut first, &mut second);

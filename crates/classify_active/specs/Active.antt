@@ -38,7 +38,7 @@ abbrev pub ActivePrepared : List PreparedHalfspace → List ℕ → HalfspaceLis
 ActivePrepared xs es a r = (g : Region) → Prepared g xs es → (h : Region) × Prepared h (halfspaces_in a) (ends_in a) × Alike r g h
 
 -- what goes with a trixel of the cutting: an anchor, and the active halfspaces beside it, if any
-pub record ActiveListsIn (p : HalfspaceLists 512 64) (a : ActiveHalfspaces) : Type 0 where
+pub record ActiveListsIn (p : HalfspaceLists 512 65) (a : ActiveHalfspaces) : Type 0 where
   pub anchor : IsAnchor a.anchor
   pub active : 0 < a.lists.count → ActivePrepared (halfspaces_in p) (ends_in p) a.lists a.anchor
 

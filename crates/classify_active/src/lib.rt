@@ -6,7 +6,7 @@ ghost use Rattle.mesh_trixels.specs.Corners.{SmallTrixel};
 ghost use Rattle.classify_prepared.specs.Measures.{RaysOf};
 ghost use Rattle.classify_cap.specs.Middle.{IsBoundingCap};
 ghost use Rattle.classify_prepared.specs.PreparedLists.{Ready, ReadyConvex};
-ghost use Rattle.classify_prepared.specs.PreparedRegions.{halfspaces_in, ends_in, ReadyRegion, ClassedBy};
+ghost use Rattle.classify_prepared.specs.PreparedRegions.{halfspaces_in, ends_in, HasRoom, ReadyRegion, ClassedBy};
 ghost use Rattle.classify_active.specs.Anchor.{IsAnchor};
 ghost use Rattle.classify_active.specs.Active.{ActivePrepared, ActiveListsIn, ByActive, ActiveConvex, AddedConvex, active_stored_count, active_stored_list};
 
@@ -92,9 +92,9 @@ fn add_convex(
     most: usize,
 ) -> Result<(), NotStored>
     requires anchor { IsAnchor r }
-    requires few { most ≤ 32 }
+    requires few { HasRoom active.old × (most ≤ 32) }
     requires ready { ReadyConvex convex.now × ReadyRegion active.old }
-    ensures { IfOk result (λ _. AddedConvex r convex.now active.old active.new) }
+    ensures { IfOk result (λ _. HasRoom active.new × AddedConvex r convex.now active.old active.new) }
 {
     let w = active.count;
     let Some(m) = active_in_convex(r, convex, &mut active.halfspaces, w, most)? else {

@@ -6,6 +6,7 @@ use limits::{CONVEXES, HALFSPACES};
 
 // The halfspaces of a region, prepared, convex after convex, and for each convex the number of halfspaces before its end. There is room for H halfspaces
 // in C convexes; places behind the counts are not used.
+// Kept: that the counts are within the arrays is a clause where it is needed, `HasRoom`, since `prepare` and `find_active` fill what any counts stood in.
 // Kept: that some region was prepared to the lists is a clause, `ReadyRegion`: a ghost field tells only that there is one, and callees ask for its halfspaces.
 // Kept: arrays with counts, and no Vec: nothing is allocated (docs/C.md), and each level of the cutting that finds halfspaces has its lists on the stack.
 #[derive(Clone, Copy)]
@@ -14,23 +15,21 @@ pub struct HalfspaceLists<const H: usize, const C: usize> {
     pub ends: [usize; C],
     pub count: usize,
     pub convexes: usize,
-    ghost count_within: { count ≤ H },
-    ghost convexes_within: { convexes ≤ C },
 }
 
 impl<const H: usize, const C: usize> HalfspaceLists<H, C> {
-    // The prepared halfspaces.
+    // The prepared halfspaces: all that there are where the count is larger.
     pub fn halfspaces(&self) -> &[PreparedHalfspace]
         ensures { result.now ≡ take self.now.count self.now.halfspaces }
     {
-        &self.halfspaces[..self.count]
+        &self.halfspaces[..self.count.min(H)]
     }
 
-    // The ends of the convexes.
+    // The ends of the convexes: all that there are where their number is larger.
     pub fn ends(&self) -> &[usize]
         ensures { result.now ≡ take self.now.convexes self.now.ends }
     {
-        &self.ends[..self.convexes]
+        &self.ends[..self.convexes.min(C)]
     }
 
     // Whether there is no halfspace.
@@ -50,5 +49,8 @@ impl<const H: usize, const C: usize> HalfspaceLists<H, C> {
     }
 }
 
+// So many ends a region has room for: those of every accepted file, and one more, since the functions that take a region answer for 65 convexes too.
+pub const ENDS: usize = CONVEXES + 1;
+
 // Room for every accepted file.
-pub type PreparedRegion = HalfspaceLists<HALFSPACES, CONVEXES>;
+pub type PreparedRegion = HalfspaceLists<HALFSPACES, ENDS>;

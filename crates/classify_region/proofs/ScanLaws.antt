@@ -1,12 +1,14 @@
 -- The scan of convexes and their halfspaces, step by step: what is left to be scanned and the class found so far together give the region's class.
 -- The class of a convex is the meet of its halfspaces' classes, that of a region the join of its convexes'. Assumes nothing.
-use Prim.Native.Nat.{ℕ, suc, ◌+◌, ◌-◌, ◌≤◌, ◌<◌}
+use Prim.Native.Nat.{ℕ, zero, suc, ◌+◌, ◌-◌, ◌≤◌, ◌<◌}
+use native.Mathlib.Nat.{le_refl}
 use native.Mathlib.Omega.{arith}
 use mathlib.Core.Path.{◌≡◌, refl, sym, ap, subst, ◌∙◌}
 use mathlib.Core.Bool.{Bool, true, false, false≢true, cond, ◌&&◌, ◌||◌}
 use mathlib.Core.List.{List, [], ◌∷◌, ◌++◌, append-nil}
 use lib.ListN.{length, get_or, take, drop, length-drop, length-append}
-use lib.Seq.{drop-length, drop-cons, drop-drop, take_at, drop_at}
+use lib.Seq.{take-nil, drop-length, drop-cons, drop-drop, take_at, drop_at}
+use Rattle.std.proofs.lemmas.List.{take_rest}
 use Rattle.std.specs.Ordering.{ord_min, ord_max}
 use Rattle.algebra.specs.Lists.{every, some}
 use Rattle.algebra.proofs.Tests.{and_left, and_right}
@@ -15,7 +17,7 @@ use Rattle.mesh.specs.declared.Trixel.{Trixel}
 use Rattle.region.specs.declared.Halfspace.{Halfspace}
 use Rattle.region.specs.Regions.{Convex, Region}
 use Rattle.region.specs.Building.{total, is_offset}
-use Rattle.region.proofs.GoodRegions.{good_halfspace, good_convex}
+use Rattle.region.proofs.GoodRegions.{good_halfspace, good_convex, good}
 use Rattle.region.proofs.FilledLaws.{Filled}
 use Rattle.classify.specs.declared.Class.{Class}
 use Rattle.classify.specs.declared.Class.TheVariants.{Outside, Partial, Full}
@@ -26,7 +28,7 @@ use Rattle.classify_prepared.specs.Measures.{prepared, SoundHalfspace}
 use Rattle.classify_halfspace.specs.Halfspaces.{prepared_class}
 use Rattle.classify_prepared.specs.PreparedLists.{convex_prepared, region_prepared, ends_from, Prepared, PreparedConvex, RegionAt, Ready, Classed, ReadyConvex, ClassedConvex, meet, join}
 use Rattle.classify_halfspace.proofs.ClassLaws.{prepared_class_is}
-use Rattle.classify_prepared.proofs.PreparingLaws.{length_convex, length_ends, region_good, convex_good}
+use Rattle.classify_prepared.proofs.PreparingLaws.{length_convex, length_region, length_ends, region_good, convex_good}
 
 -- ---- classes put together
 
@@ -91,8 +93,10 @@ join_outside Outside = refl
 join_outside Partial = refl
 join_outside Full = refl
 
-outside_stays : (b : Class) → meet Outside b ≡ Outside
-outside_stays b = refl
+outside_stays : (a b : Class) → is_outside a ≡ true → meet a b ≡ a
+outside_stays Outside b e = refl
+outside_stays Partial b e = absurd (false≢true e)
+outside_stays Full b e = absurd (false≢true e)
 
 meet_cons : (a : Class) (o f : Bool) → cond (is_outside a || o) Outside (cond (is_full a && f) Full Partial) ≡ meet a (cond o Outside (cond f Full Partial))
 meet_cons Outside o f = refl
@@ -195,6 +199,19 @@ convex_end v xs p e t = no_convex v t (omega (arith, length_convex v, ap length 
 pub from_next : {A : Type 0} (xs : List A) (j : ℕ) (d : A) → j < length xs → drop j xs ≡ get_or xs j d ∷ drop (j + 1) xs
 from_next xs j d h = let one : suc j ≡ j + 1 = omega arith in drop-cons xs j d h ∙ ap (λ m. get_or xs j d ∷ drop m xs) one
 
+-- what stands from number j on among the first m, also where these are fewer
+drop_take : {A : Type 0} (j m : ℕ) (xs : List A) → drop j (take m xs) ≡ take (m - j) (drop j xs)
+drop_take zero m xs = let e : m ≡ m - 0 = omega arith in ap (λ n. take n xs) e
+drop_take (suc j) zero xs = let e : 0 ≡ 0 - suc j = omega arith in ap (λ n. take n (drop (suc j) xs)) e
+drop_take (suc j) (suc m) [] = sym (take-nil (suc m - suc j))
+drop_take (suc j) (suc m) (x ∷ xs) = let e : m - j ≡ suc m - suc j = omega arith in drop_take j m xs ∙ ap (λ n. take n (drop j xs)) e
+
+-- the elements from number i up to number `end`, but for the first j
+part_left : {A : Type 0} (i j end : ℕ) (xs : List A) → drop j (take (end - i) (drop i xs)) ≡ take (end - (i + j)) (drop (i + j) xs)
+part_left i j end xs =
+    let e : end - i - j ≡ end - (i + j) = omega arith in
+    drop_take j (end - i) (drop i xs) ∙ ap (take (end - i - j)) (drop-drop j i xs) ∙ ap (λ m. take m (drop (i + j) xs)) e
+
 -- ---- the next convex of a region
 
 module _ (xs : List PreparedHalfspace) (es : List ℕ) where
@@ -249,6 +266,10 @@ module _ (xs : List PreparedHalfspace) (es : List ℕ) where
     region_end [] a h t = no_region [] t a.filled no_total
     region_end (v ∷ vs) a h t = absurd (omega (arith, ap length a.ends, length_ends i (v ∷ vs), length-drop k es))
 
+    -- no halfspace is left, so no convex is: each has one
+    pub halfspaces_end : (g : Region) → RegionAt xs es i k g → length xs ≤ i → (t : Trixel) → region_class g t ≡ Outside
+    halfspaces_end g a h t = no_region g t a.filled (omega (arith, ap length a.halfspaces, length_region g, length-drop i xs))
+
 -- ---- where the scan of a convex stands
 
 module _ (t : Trixel) (xs : List PreparedHalfspace) where
@@ -298,8 +319,7 @@ module _ (t : Trixel) (xs : List PreparedHalfspace) where
   pub convex_left_out : {j : ℕ} {a : Class} → InConvex j a → a ≡ Outside → ClassedConvex t xs a
   convex_left_out {j} {a} o e v p =
       let s = o v p in
-      let stays : meet a (convex_class s.left t) ≡ a = ap (λ y. meet y (convex_class s.left t)) e ∙ outside_stays (convex_class s.left t) ∙ sym e in
-      sym stays ∙ s.class
+      sym (outside_stays a (convex_class s.left t) (ap is_outside e)) ∙ s.class
 
 -- ---- where the scan of a region stands
 
@@ -312,6 +332,33 @@ module _ (t : Trixel) (xs : List PreparedHalfspace) (es : List ℕ) where
 
   abbrev pub InRegion : ℕ → ℕ → Class → Type 0
   InRegion i k c = (g : Region) → Prepared g xs es → AtConvex g i k c
+
+  -- before halfspace number i, in convex number k, which ends before halfspace number `end`; a is the class of the convex so far
+  pub record AtHalfspaceOf (g : Region) (k end i : ℕ) (c a : Class) : Type 0 where
+    pub convex : Convex
+    pub at : PreparedConvex convex (take (end - i) (drop i xs))
+    pub left : Region
+    pub after : RegionAt xs es end (k + 1) left
+    pub class : join c (join (meet a (convex_class convex t)) (region_class left t)) ≡ region_class g t
+
+  module _ {g : Region} {k end i : ℕ} {c a : Class} (s : AtHalfspaceOf g k end i c a) where
+    -- what is left of the convex changes nothing
+    convex_passed : meet a (convex_class s.convex t) ≡ a → AtConvex g end (k + 1) (join c a)
+    convex_passed settled = record {
+      left = s.left;
+      at = s.after;
+      class = join_assoc c a (region_class s.left t) ∙ ap (λ y. join c (join y (region_class s.left t))) (sym settled) ∙ s.class;
+    }
+
+    -- the convex is at its end
+    exhausted_of : end ≤ i → AtConvex g end (k + 1) (join c a)
+    exhausted_of h =
+        let none : end - i ≡ 0 = omega arith in
+        convex_passed (ap (meet a) (convex_end s.convex (take (end - i) (drop i xs)) s.at (ap (λ m. length (take m (drop i xs))) none) t) ∙ meet_full a)
+
+  -- the trixel is outside of the convex, whatever is left of it
+  pub left_out : {g : Region} {k end i : ℕ} {c a : Class} → AtHalfspaceOf g k end i c a → is_outside a ≡ true → AtConvex g end (k + 1) (join c a)
+  left_out {a = a} s e = convex_passed s (outside_stays a (convex_class s.convex t) e)
 
   module _ {i k : ℕ} {c : Class} (o : InRegion i k c) (l : k < length es) where
     -- the next convex
@@ -336,14 +383,26 @@ module _ (t : Trixel) (xs : List PreparedHalfspace) (es : List ℕ) where
               ∙ ap (join c) (sym (n.class t)) ∙ (o g p).class;
         }
 
+    -- it is scanned up to its halfspace number j
+    within : {j : ℕ} {a : Class} → InConvex t (take (get_or es k 0 - i) (drop i xs)) j a → (g : Region) → Prepared g xs es → AtHalfspaceOf g k (get_or es k 0) (i + j) c a
+    within {j} s g p =
+        let n = opened g p in
+        let w = s n.convex n.at in
+        record {
+          convex = w.left;
+          at = subst (PreparedConvex w.left) (part_left i j (get_or es k 0) xs) w.at;
+          left = n.rest;
+          after = n.after;
+          class = ap (λ y. join c (join y (region_class n.rest t))) w.class ∙ ap (join c) (sym (n.class t)) ∙ (o g p).class;
+        }
+
+    -- the trixel is outside of it, whatever is left of it
+    pub left_out_in : {j : ℕ} {a : Class} → InConvex t (take (get_or es k 0 - i) (drop i xs)) j a → a ≡ Outside → InRegion (get_or es k 0) (k + 1) (ord_max cmp-value.it c a)
+    left_out_in {a = a} s e g p = subst (AtConvex g (get_or es k 0) (k + 1)) (sym (max_is_join c a)) (left_out (within s g p) (ap is_outside e))
+
   -- no convex is left
   pub ended : {i k : ℕ} {c : Class} → InRegion i k c → length es ≤ k → Classed t xs es c
   ended {i} {k} {c} o h g p = let a = o g p in sym (join_outside c) ∙ ap (join c) (sym (region_end xs es i k a.left a.at h t)) ∙ a.class
-
-  -- the trixel is outside of the convex, whatever is left of it
-  pub left_out : {i k j : ℕ} {c a : Class} (o : InRegion i k c) (l : k < length es) → InConvex t (take (get_or es k 0 - i) (drop i xs)) j a → a ≡ Outside
-      → InRegion (get_or es k 0) (k + 1) (ord_max cmp-value.it c a)
-  left_out {i} {k} o l s e = closed o l (convex_left_out t (take (get_or es k 0 - i) (drop i xs)) s e) refl
 
   -- the region is full, whatever is left
   pub full : (g : Region) (i k : ℕ) (c : Class) → c ≡ Full → AtConvex g i k c → c ≡ region_class g t
@@ -356,6 +415,17 @@ module _ (t : Trixel) (xs : List PreparedHalfspace) (es : List ℕ) where
 
 -- ---- a region of one convex
 
+module _ (t : Trixel) (xs : List PreparedHalfspace) (es : List ℕ) where
+  -- before halfspace number i of the first convex, which ends with all halfspaces; a is the class of those before it
+  abbrev pub InOnly : ℕ → Class → Type 0
+  InOnly i a = (g : Region) → Prepared g xs es → AtHalfspaceOf t xs es g 0 (length xs) i Outside a
+
+  -- where no halfspace is left, what the scan has is the class for the region
+  pub only_end : {i : ℕ} {a : Class} → InOnly i a → length xs ≤ i → Classed t xs es a
+  only_end {a = a} o h g p =
+      let s = exhausted_of t xs es (o g p) h in
+      sym (join_outside a) ∙ ap (join a) (sym (halfspaces_end xs es (length xs) 1 s.left s.at (le_refl (length xs)) t)) ∙ s.class
+
 module _ (t : Trixel) {xs : List PreparedHalfspace} {es : List ℕ} (one : length es ≡ 1) where
   -- its halfspaces are all
   only_prepared : (v : Convex) → Prepared (v ∷ []) xs es → PreparedConvex v xs
@@ -367,13 +437,25 @@ module _ (t : Trixel) {xs : List PreparedHalfspace} {es : List ℕ} (one : lengt
   only_ready (v ∷ [], p) = (v, only_prepared v p)
   only_ready (v ∷ w ∷ vs, p) = absurd (omega (arith, ap length p.ends, length_ends 0 (v ∷ w ∷ vs)))
 
+  -- behind its only convex there is none
+  none_after : (v : Convex) → Prepared (v ∷ []) xs es → RegionAt xs es (length xs) 1 []
+  unfolding region_prepared ends_from good every
+  none_after v p = record { filled = tt; good = refl; halfspaces = drop-length xs; ends = ap (drop 1) p.ends }
+
+  -- the scan of its only convex is that of the region
+  pub only_scan : {j : ℕ} {a : Class} → InConvex t xs j a → InOnly t xs es j a
+  only_scan s [] p = absurd (omega (arith, ap length p.ends, length_ends 0 []))
+  only_scan {j} s (v ∷ []) p =
+      let w = s v (only_prepared v p) in
+      record {
+        convex = w.left;
+        at = subst (PreparedConvex w.left) (sym (take_rest xs j)) w.at;
+        left = [];
+        after = none_after v p;
+        class = ap (λ y. join y (region_class [] t)) w.class ∙ sym (region_cons v [] t);
+      }
+  only_scan s (v ∷ w ∷ vs) p = absurd (omega (arith, ap length p.ends, length_ends 0 (v ∷ w ∷ vs)))
+
   -- the class for the only convex of a region is that for the region
   pub only_convex : {c : Class} → ClassedConvex t xs c → Classed t xs es c
-  only_convex f [] p = absurd (omega (arith, ap length p.ends, length_ends 0 []))
-  only_convex f (v ∷ []) p =
-      f v (only_prepared v p) ∙ sym (join_outside (convex_class v t)) ∙ ap (join (convex_class v t)) (sym (no_region [] t p.filled.1 no_total)) ∙ sym (region_cons v [] t)
-  only_convex f (v ∷ w ∷ vs) p = absurd (omega (arith, ap length p.ends, length_ends 0 (v ∷ w ∷ vs)))
-
-  -- where its only convex is at its end, what the scan has is the class for the region
-  pub only_end : {j : ℕ} {a : Class} → InConvex t xs j a → length xs ≤ j → Classed t xs es a
-  only_end o h = only_convex (exhausted t xs o h)
+  only_convex f = only_end t xs es (only_scan (at_end t xs f)) (le_refl (length xs))

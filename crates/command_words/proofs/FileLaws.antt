@@ -145,12 +145,13 @@ module _ (p n b : ℕ) (line : List ℕ) (within : n ≤ length line) where
   stored_pushed {after} {r} {q} one done =
       let long : length (line_with q stored b) ≡ n + 1 = ap length one ∙ length_pushed in
       record {
-        fits = λ k.
+        fits = λ _ k.
             let new = done.fits (omega arith) in
             let all : take (n + 1) (set line n b) ≡ stored ++ (b ∷ []) = rw (add-one n) (take-suc-set line n b (omega arith)) in
             ap (λ (m : ℕ). take m after) long ∙ ap (λ (w : List ℕ). take (n + 1) w) new.1 ∙ all ∙ sym one;
-        exact = λ k. let new = done.fits (omega arith) in new.0 ∙ ap (λ (m : ℕ). Some m) (sym long);
+        exact = λ _ k. let new = done.fits (omega arith) in new.0 ∙ ap (λ (m : ℕ). Some m) (sym long);
         full = λ k. let new = done.full (omega arith) in new.0;
+        over = λ k. absurd (omega arith);
       }
 
   -- with no file
@@ -184,9 +185,10 @@ module _ (p n b : ℕ) (line : List ℕ) (within : n ≤ length line) where
       let one : line_with (Some p) stored b ≡ take n (set line p b) = line_other h e in
       let long : length (line_with (Some p) stored b) ≡ n = ap length one ∙ length-take-le n (set line p b) (simp length-set within) in
       record {
-        fits = λ k. ap (λ (m : ℕ). take m (set line p b)) long ∙ sym one;
-        exact = λ k. ap (λ (m : ℕ). Some m) (sym long);
+        fits = λ _ k. ap (λ (m : ℕ). take m (set line p b)) long ∙ sym one;
+        exact = λ _ k. ap (λ (m : ℕ). Some m) (sym long);
         full = λ k. absurd (omega arith);
+        over = λ k. absurd (omega arith);
       }
 
   stored_dropped : p + FileDigits ≤ n → grown word b ≡ take FileDigits word → ByteAppended (Some p) n b line line (Some (p + FileDigits))
@@ -194,9 +196,10 @@ module _ (p n b : ℕ) (line : List ℕ) (within : n ≤ length line) where
       let one : line_with (Some p) stored b ≡ take (p + FileDigits) line = line_dropped h e in
       let long : length (line_with (Some p) stored b) ≡ p + FileDigits = ap length one ∙ length-take-le (p + FileDigits) line (omega arith) in
       record {
-        fits = λ k. ap (λ (m : ℕ). take m line) long ∙ sym one;
-        exact = λ k. ap (λ (m : ℕ). Some m) (sym long);
+        fits = λ _ k. ap (λ (m : ℕ). take m line) long ∙ sym one;
+        exact = λ _ k. ap (λ (m : ℕ). Some m) (sym long);
         full = λ k. absurd (omega arith);
+        over = λ k. absurd (omega arith);
       }
 
   pub short : {after : List ℕ} {r : Option ℕ} → n - p < FileDigits → BytePushed n b line after r → ByteAppended (Some p) n b line after r

@@ -11,7 +11,7 @@
 --   line_with p s b       what is stored of a line with a file from p on, or with none, when s is stored of it and b follows
 --   file_place b p        where the file of a line begins that had one from p on when b follows: nowhere after a blank, which ends it
 --   BytePushed, ByteAppended   a byte is appended to a list of which n bytes are stored: so many are stored then as r says, none where the list cannot
---                        hold them
+--                        hold them or has less than n
 --   ByteStored           as above, where n is an Option too: of a line that was too long nothing is stored
 use Rattle.std.specs.Prelude.{ℕ, ◌+◌, ◌-◌, ◌*◌, ◌/◌, ◌≤◌, ◌<◌, ◌≡◌, Bool, cond, ◌&&◌, List, [], ◌∷◌, ◌++◌, leb, eqb, length, get_or, take, drop, set, Option, Some, None}
 use Rattle.std.specs.Borrow.{Bor}
@@ -79,9 +79,10 @@ pub record BytePushed (n b : ℕ) (line after : List ℕ) (r : Option ℕ) : Typ
   pub full : length line ≤ n → (r ≡ None) × (after ≡ line)
 
 pub record ByteAppended (p : Option ℕ) (n b : ℕ) (line after : List ℕ) (r : Option ℕ) : Type 0 where
-  pub fits : length (line_with p (take n line) b) ≤ length line → take (length (line_with p (take n line) b)) after ≡ line_with p (take n line) b
-  pub exact : length (line_with p (take n line) b) ≤ length line → r ≡ Some (length (line_with p (take n line) b))
+  pub fits : n ≤ length line → length (line_with p (take n line) b) ≤ length line → take (length (line_with p (take n line) b)) after ≡ line_with p (take n line) b
+  pub exact : n ≤ length line → length (line_with p (take n line) b) ≤ length line → r ≡ Some (length (line_with p (take n line) b))
   pub full : length line < length (line_with p (take n line) b) → r ≡ None
+  pub over : length line < n → r ≡ None
 
 abbrev pub ByteStored : Option ℕ → Option ℕ → ℕ → List ℕ → List ℕ → Option ℕ → Type 0
 ByteStored p (Some n) b line after r = ByteAppended p n b line after r

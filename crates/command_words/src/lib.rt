@@ -1,7 +1,7 @@
 // A command line as it is stored, and its words: numbers, pointings, files and floats in hexadecimal digits, lists of numbers.
 #![tactic(auto)]
 
-ghost use Rattle.std.specs.Prelude.{◌≡◌, [], ◌∷◌, ◌+◌, ◌-◌, ◌^◌, ◌<◌, ◌≤◌, length, IfSome, Some, None};
+ghost use Rattle.std.specs.Prelude.{◌≡◌, [], ◌∷◌, ◌+◌, ◌-◌, ◌^◌, ◌<◌, ◌≤◌, length, IfSome, Some};
 ghost use Rattle.std.specs.Iterator.{at_most};
 ghost use Rattle.std.specs.Option.{ForSome, OnSome, is_none, option_map, option_map_or};
 ghost use Rattle.std.specs.Result.{result_ok, is_ok, IfOk, OnOk};
@@ -10,8 +10,8 @@ ghost use Rattle.command_words.specs.Files.{FileDigits, hex_value, bytes_in, fil
 ghost use Rattle.command_words.specs.Words.{left, blank_in, first_word, after_word, words_in, number_next, whole_next, point_next, file_next};
 
 use limits::MAX_FILE_BYTES;
-use lines::{LINE_FEED, Line};
-use print::{Buffer, Fault};
+pub use lines::StoredLine;
+use print::Fault;
 
 pub mod lines;
 
@@ -34,144 +34,76 @@ const LARGEST_NEGATIVE: u64 = LARGEST + 1;
 const FILE_DIGITS: usize = 2 * FILE_CAPACITY - 1;
 
 // What is stored of a line while it comes: how many bytes, none where it is too long to be stored, and the place where its file begins while that comes.
-// Kept: a buffer and a count, and no Vec, as the programs take no heap.
 #[derive(Clone, Copy)]
-pub struct StoredLine {
-    line: Buffer,
-    bytes: Option<usize>,
-    file: Option<usize>,
-    ghost within: { ForSome bytes (λ n. n ≤ 65536) },
+pub struct StoredBytes {
+    pub bytes: Option<usize>,
+    pub file: Option<usize>,
 }
 
-impl StoredLine {
-    // A line of which nothing has come.
-    pub fn empty() -> StoredLine
-        ensures { (result.bytes ≡ Some 0) × (result.file ≡ None) }
-    {
-        StoredLine {
-            line: io::large_buffer(),
-            bytes: Some(0),
-            file: None,
-        }
+// Appends a byte to a line of which so many bytes are stored. A count above the line's length counts as too long. Of a file only as many digits are stored
+// as show that it is too long for a region file, so a line with a file may have any length.
+pub fn append_byte(line: &mut [u8], stored: StoredBytes, b: u8) -> StoredBytes
+    ensures appended { ByteStored (file_place b stored.file) stored.bytes b line.old line.new result.bytes }
+    ensures in_bounds { ForSome result.bytes (λ n. n ≤ length line.old) }
+{
+    if b == BLANK {
+        let file = file_after(line, stored.bytes);
+        let bytes = store(line, stored.bytes, None, b);
+        return StoredBytes { bytes, file };
     }
+    let bytes = store(line, stored.bytes, stored.file, b);
+    StoredBytes {
+        bytes,
+        file: stored.file,
+    }
+}
 
-    // The next line: nothing has come of it.
-    fn clear(&mut self) {
-        self.bytes = Some(0);
-        self.file = None;
-    }
+// Where a file begins that follows the bytes so far and a blank, if the line has room for that.
+fn file_after(line: &[u8], bytes: Option<usize>) -> Option<usize> {
+    let n = bytes.filter(|n| *n < line.len())?;
+    is_before_file(&line[..n]).then_some(n + 1)
+}
 
-    // Appends a byte. Of a file only as many digits are stored as show that it is too long for a region file, so a line with a file may have any
-    // length.
-    pub fn append(&mut self, b: u8)
-        ensures { ByteStored (file_place b self.old.file) self.old.bytes b self.old.line self.new.line self.new.bytes }
-    {
-        if b == BLANK {
-            let file = self.file_after();
-            self.store(None, b);
-            self.file = file;
-            return;
-        }
-        self.store(self.file, b);
+// Appends a byte, with a file from `file` on.
+fn store(line: &mut [u8], bytes: Option<usize>, file: Option<usize>, b: u8) -> Option<usize>
+    ensures stored { ByteStored file bytes b line.old line.new result }
+    ensures in_bounds { ForSome result (λ k. k ≤ length line.old) }
+{
+    let n = bytes.filter(|n| *n <= line.len())?;
+    match file {
+        Some(p) if FILE_DIGITS <= n.saturating_sub(p) => store_past(line, p, n, b),
+        _ => push(line, n, b),
     }
+}
 
-    // Where a file begins that follows the bytes so far and a blank.
-    fn file_after(&self) -> Option<usize> {
-        let n = self.bytes?;
-        is_before_file(&self.line[..n]).then_some(n + 1)
+// As above, where FILE_DIGITS of the file are stored: a digit is stored until a second one comes, and then both are dropped. Another byte takes the
+// place of the first digit, so that there is no file. How many bytes are stored then, out of n.
+fn store_past(line: &mut [u8], file: usize, n: usize, b: u8) -> Option<usize>
+    requires file_bound { file + FileDigits ≤ n }
+    requires n_in_bounds { n ≤ length line.old }
+    ensures stored { ByteAppended (Some file) n b line.old line.new result }
+    ensures in_bounds { ForSome result (λ k. k ≤ length line.old) }
+{
+    if digit(b).is_none() {
+        line[file] = b;
+        return Some(n);
     }
+    if FILE_DIGITS < n - file {
+        return Some(file + FILE_DIGITS);
+    }
+    push(line, n, b)
+}
 
-    // Appends a byte, with a file from `file` on.
-    fn store(&mut self, file: Option<usize>, b: u8)
-        ensures { ByteStored file self.old.bytes b self.old.line self.new.line self.new.bytes }
-    {
-        let Some(n) = self.bytes else {
-            return;
-        };
-        self.bytes = match file {
-            Some(p) if FILE_DIGITS <= n.saturating_sub(p) => self.store_past(p, n, b),
-            _ => self.push(n, b),
-        };
+// Stores a byte behind the first n: how many they are then.
+fn push(line: &mut [u8], n: usize, b: u8) -> Option<usize>
+    ensures pushed { BytePushed n b line.old line.new result }
+    ensures in_bounds { ForSome result (λ k. k ≤ length line.old) }
+{
+    if n < line.len() {
+        line[n] = b;
+        return Some(n + 1);
     }
-
-    // As above, where FILE_DIGITS of the file are stored: a digit is stored until a second one comes, and then both are dropped. Another byte takes the
-    // place of the first digit, so that there is no file. How many bytes are stored then, out of n.
-    fn store_past(&mut self, file: usize, n: usize, b: u8) -> Option<usize>
-        requires file_bound { file + FileDigits ≤ n }
-        requires n_in_bounds { n ≤ length self.old.line }
-        ensures stored { ByteAppended (Some file) n b self.old.line self.new.line result }
-        ensures in_bounds { ForSome result (λ k. k ≤ 65536) }
-    {
-        if digit(b).is_none() {
-            self.line[file] = b;
-            return Some(n);
-        }
-        if FILE_DIGITS < n - file {
-            return Some(file + FILE_DIGITS);
-        }
-        self.push(n, b)
-    }
-
-    // Stores a byte behind the first n: how many they are then.
-    fn push(&mut self, n: usize, b: u8) -> Option<usize>
-        requires { n ≤ length self.old.line }
-        ensures pushed { BytePushed n b self.old.line self.new.line result }
-        ensures in_bounds { ForSome result (λ k. k ≤ 65536) }
-    {
-        if n < self.line.len() {
-            self.line[n] = b;
-            return Some(n + 1);
-        }
-        None
-    }
-
-    // Appends bytes as they come, in which a file may begin.
-    fn extend(&mut self, part: &[u8]) {
-        for b in part {
-            self.append(*b);
-        }
-    }
-
-    // The line that ends with this part of the input, if it does: the part is all of it, or stands behind what is stored. A part that ends no line is stored.
-    fn ended<'a>(&'a mut self, part: &'a [u8]) -> Option<Line<'a>> {
-        let Some(text) = part.strip_suffix(&[LINE_FEED]) else {
-            self.extend(part);
-            return None;
-        };
-        if self.bytes == Some(0) {
-            return Some(Line {
-                text,
-                with_feed: part,
-            });
-        }
-        self.extend(text);
-        let to = self.bytes;
-        self.store(None, LINE_FEED);
-        let after = self.bytes;
-        Some(Line {
-            text: self.first(to),
-            with_feed: self.first(after),
-        })
-    }
-
-    // The last line, which has no line feed, if something has come of it.
-    fn last(&self) -> Option<Line<'_>> {
-        if self.bytes == Some(0) {
-            return None;
-        }
-        let text = self.first(self.bytes);
-        Some(Line {
-            text,
-            with_feed: text,
-        })
-    }
-
-    // The first n bytes. A line that is too long to be stored has none.
-    fn first(&self, n: Option<usize>) -> &[u8]
-        requires { ForSome n (λ k. k ≤ 65536) }
-    {
-        &self.line[..n.unwrap_or(0)]
-    }
+    None
 }
 
 // Whether the word after these is a file, or a catalogue line, in digits: after the command's name or, for some commands, after the owner.

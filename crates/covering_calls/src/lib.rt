@@ -14,12 +14,12 @@ ghost use Rattle.covering_walk.specs.Walk.{RootNeeds, RootsGive, Finishes, Cover
 ghost use Rattle.mesh.specs.Trixels.{root_trixel};
 
 use classify_active::ActiveHalfspaces;
-use classify_prepared::prepared_region::{HalfspaceLists, PreparedRegion};
+use classify_prepared::prepared_region::{ENDS, HalfspaceLists, PreparedRegion};
 use covering::Counts;
 use covering_tally::Tally;
 use covering_walk::Level;
 use covering_walk::stored_trixel::StoredTrixel;
-use limits::{CONVEXES, HALFSPACES};
+use limits::HALFSPACES;
 
 // Root number k, with its first ray.
 fn root(k: u64) -> StoredTrixel
@@ -134,7 +134,7 @@ pub fn cover(
 {
     let mut region = HalfspaceLists {
         halfspaces: [classify_prepared::NO_HALFSPACE; HALFSPACES],
-        ends: [0; CONVEXES],
+        ends: [0; ENDS],
         count: 0,
         convexes: 0,
     };

@@ -155,7 +155,7 @@ module _ {j : ClassifiedTrixel} {l : Level} {s r : Tally} {out out' : List ℕ} 
   pub to_be_cut : j.class ≡ Partial → 1 ≤ l.left → r ≡ one_more s → out' ≡ out → AcceptedOrCut false j l s out r out'
   to_be_cut d a q same = record { done = λ e. absurd (false≢true e); cut = λ e. record { partial = d; above = a; tally = q; list = same } }
 
-module _ {t : Trixel} {rg : HalfspaceLists 512 64} {j : ClassifiedTrixel} {l : Level} {b : Bool} {s s₁ : Tally} {out out₁ : List ℕ}
+module _ {t : Trixel} {rg : HalfspaceLists 512 65} {j : ClassifiedTrixel} {l : Level} {b : Bool} {s s₁ : Tally} {out out₁ : List ℕ}
     (k : ClassifiedOf t rg j) (h : AcceptedOrCut b j l s out s₁ out₁) where
   pub visited_done : ReadyRegion rg → b ≡ true → Gives rg 1 l.left (found_in l t) s out s₁ out₁
   visited_done r e =
@@ -176,7 +176,7 @@ module _ {t : Trixel} {rg : HalfspaceLists 512 64} {j : ClassifiedTrixel} {l : L
         seen = omega (arith, v.seen, ap (λ q. q.seen) c.tally, levels z);
       }
 
-pub cut_needs : {t : Trixel} {rg : HalfspaceLists 512 64} {j : ClassifiedTrixel} {l : Level} {b : Bool} {s s₁ : Tally} {out out₁ : List ℕ} → ClassifiedOf t rg j → AcceptedOrCut b j l s out s₁ out₁
+pub cut_needs : {t : Trixel} {rg : HalfspaceLists 512 65} {j : ClassifiedTrixel} {l : Level} {b : Bool} {s s₁ : Tally} {out out₁ : List ℕ} → ClassifiedOf t rg j → AcceptedOrCut b j l s out s₁ out₁
     → b ≡ false → Needs l rg s out → CutNeeds t j l rg s₁ out₁
 cut_needs {l = l} {s₁ = s₁} k h e n =
     let c = h.cut e in
@@ -192,7 +192,7 @@ cut_needs {l = l} {s₁ = s₁} k h e n =
 
 -- ---- its four children
 
-module _ {t : Trixel} {j : ClassifiedTrixel} {l : Level} {rg : HalfspaceLists 512 64} {ac : ActiveHalfspaces} {s₀ : Tally} {out₀ : List ℕ} {c : Cut} {r : Vec3} where
+module _ {t : Trixel} {j : ClassifiedTrixel} {l : Level} {rg : HalfspaceLists 512 65} {ac : ActiveHalfspaces} {s₀ : Tally} {out₀ : List ℕ} {c : Cut} {r : Vec3} where
   pub dividing_start : CutNeeds t j l rg s₀ out₀ → ActiveListsIn rg ac → SmallTrixel t → (c ≡ cut t) × SmallCut c → r ≡ ray0 t
       → Dividing t j l rg ac s₀ out₀ c r 0 s₀ out₀
   unfolding first_found
@@ -262,7 +262,7 @@ root_seen left now seen k d h s =
     omega (arith, pow-suc 4 left, m)
 
 -- the first k roots are cut
-pub record Rooting (depth : ℕ) (rg : HalfspaceLists 512 64) (ac : ActiveHalfspaces) (left span : ℕ) (s₀ : Tally) (out₀ : List ℕ) (k : ℕ) (s : Tally) (out : List ℕ) : Type 0 where
+pub record Rooting (depth : ℕ) (rg : HalfspaceLists 512 65) (ac : ActiveHalfspaces) (left span : ℕ) (s₀ : Tally) (out₀ : List ℕ) (k : ℕ) (s : Tally) (out : List ℕ) : Type 0 where
   pub needs : RootNeeds depth rg s₀ out₀
   pub active : ActiveListsIn rg ac
   pub above : left ≡ depth - 1
@@ -273,7 +273,7 @@ pub record Rooting (depth : ℕ) (rg : HalfspaceLists 512 64) (ac : ActiveHalfsp
   pub seen : 3 * s.seen ≤ k * 2 ^ 24
   pub tally : (g : Region) → Prepared g (halfspaces_in rg) (ends_in rg) → TallyHolds s.budget out₀ (found_to (depth - 1) g k) s out
 
-module _ {depth : ℕ} {rg : HalfspaceLists 512 64} {ac : ActiveHalfspaces} {left span : ℕ} {s₀ : Tally} {out₀ : List ℕ} where
+module _ {depth : ℕ} {rg : HalfspaceLists 512 65} {ac : ActiveHalfspaces} {left span : ℕ} {s₀ : Tally} {out₀ : List ℕ} where
   pub rooting_start : RootNeeds depth rg s₀ out₀ → ActiveListsIn rg ac → left ≡ depth - 1 → span ≡ 4 ^ left → Rooting depth rg ac left span s₀ out₀ 0 s₀ out₀
   unfolding found_to
   rooting_start n b e p = record {
@@ -330,17 +330,17 @@ module _ {depth : ℕ} {rg : HalfspaceLists 512 64} {ac : ActiveHalfspaces} {lef
 
 -- ---- the cover
 
-pub cover_start : {depth b : ℕ} {rg : HalfspaceLists 512 64} {s : Tally} {out : List ℕ} → (1 ≤ depth) × (depth ≤ 12) → ReadyRegion rg
+pub cover_start : {depth b : ℕ} {rg : HalfspaceLists 512 65} {s : Tally} {out : List ℕ} → (1 ≤ depth) × (depth ≤ 12) → ReadyRegion rg
     → (1 ≤ b) × (4 * b ≤ length out) → s ≡ no_tally b → RootNeeds depth rg s out
 cover_start {depth} {rg = rg} {out = out} d r h e =
     subst (λ q. RootNeeds depth rg q out) (sym e) (record { low = d.0; high = d.1; ready = r; fresh = refl; budget = h.0; list = h.1 })
 
 -- what the end of both lists needs
-pub cover_contained : {depth : ℕ} {rg : HalfspaceLists 512 64} {s₀ s : Tally} {out₀ out : List ℕ} → RootsGive depth rg s₀ out₀ s out → ReadyRegion rg → depth ≤ 12
+pub cover_contained : {depth : ℕ} {rg : HalfspaceLists 512 65} {s₀ s : Tally} {out₀ out : List ℕ} → RootsGive depth rg s₀ out₀ s out → ReadyRegion rg → depth ≤ 12
     → CountsContained s out
 cover_contained {depth} r h d = cutting_contained depth h.0 (r.cut h.0 h.1) r.invariant.budget r.invariant.outer d
 
-pub cover_end : {depth b : ℕ} {rg : HalfspaceLists 512 64} {s₀ s : Tally} {out₀ out out' : List ℕ} {c : Counts} → RootsGive depth rg s₀ out₀ s out → s₀ ≡ no_tally b
+pub cover_end : {depth b : ℕ} {rg : HalfspaceLists 512 65} {s₀ s : Tally} {out₀ out out' : List ℕ} {c : Counts} → RootsGive depth rg s₀ out₀ s out → s₀ ≡ no_tally b
     → 4 * b ≤ length out₀ → Finishes s out c out' → Covers rg b depth out₀ c out'
 cover_end {depth} {b} {s = s} {out₀} {out} {out'} {c} r e long f g p =
     let same : s.budget ≡ b = r.budget ∙ ap (λ q. q.budget) e in

@@ -17,7 +17,7 @@ pub record OtherRays (t : Trixel) (j : ClassifiedTrixel) : Type 0 where
   pub second : j.second ≡ ray1 t
   pub third : j.third ≡ ray2 t
 
-pub record ClassifiedOf (t : Trixel) (p : HalfspaceLists 512 64) (j : ClassifiedTrixel) : Type 0 where
+pub record ClassifiedOf (t : Trixel) (p : HalfspaceLists 512 65) (j : ClassifiedTrixel) : Type 0 where
   pub class : ClassedBy t p j.class
   pub rays : OtherRays t j
 

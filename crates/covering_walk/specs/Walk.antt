@@ -72,19 +72,19 @@ pub record Divisible (l : Level) : Type 0 where
 
 -- ---- what a cutting needs, and what it gives
 
-pub record Needs (l : Level) (p : HalfspaceLists 512 64) (s : Tally) (out : List ℕ) : Type 0 where
+pub record Needs (l : Level) (p : HalfspaceLists 512 65) (s : Tally) (out : List ℕ) : Type 0 where
   pub ready : ReadyRegion p
   pub invariant : TallyInvariant s out
   pub level : LevelFits l.id l.left l.span s.seen
 
-pub record CutNeeds (t : Trixel) (classified : ClassifiedTrixel) (l : Level) (p : HalfspaceLists 512 64) (s : Tally) (out : List ℕ) : Type 0 where
+pub record CutNeeds (t : Trixel) (classified : ClassifiedTrixel) (l : Level) (p : HalfspaceLists 512 65) (s : Tally) (out : List ℕ) : Type 0 where
   pub rays : OtherRays t classified
   pub ready : ReadyRegion p
   pub invariant : TallyInvariant s out
   pub divisible : Divisible l
   pub level : ChildrenFit l.id (l.left - 1) (l.span / 4) s.seen
 
-pub record Gives (p : HalfspaceLists 512 64) (k left : ℕ) (found : Region → Found)
+pub record Gives (p : HalfspaceLists 512 65) (k left : ℕ) (found : Region → Found)
     (s : Tally) (out : List ℕ) (s' : Tally) (out' : List ℕ) : Type 0 where
   pub adds : (g : Region) → Prepared g (halfspaces_in p) (ends_in p) → Adds (found g) s out s' out'
   pub invariant : TallyInvariant s' out'
@@ -107,7 +107,7 @@ pub record AcceptedOrCut (b : Bool) (classified : ClassifiedTrixel) (l : Level)
   pub done : b ≡ true → Done classified.class l s out s' out'
   pub cut : b ≡ false → ToCut classified.class l s out s' out'
 
-pub record Dividing (t : Trixel) (classified : ClassifiedTrixel) (level : Level) (p : HalfspaceLists 512 64) (a : ActiveHalfspaces)
+pub record Dividing (t : Trixel) (classified : ClassifiedTrixel) (level : Level) (p : HalfspaceLists 512 65) (a : ActiveHalfspaces)
     (s₀ : Tally) (out₀ : List ℕ) (c : Cut) (r : Vec3) (k : ℕ) (s : Tally) (out : List ℕ) : Type 0 where
   pub needs : CutNeeds t classified level p s₀ out₀
   pub active : ActiveListsIn p a
@@ -118,11 +118,11 @@ pub record Dividing (t : Trixel) (classified : ClassifiedTrixel) (level : Level)
 -- ---- the roots, and the lists
 
 -- the roots are cut: all that the cutting finds is noted
-abbrev pub RootsCut : HalfspaceLists 512 64 → ℕ → List ℕ → Tally → List ℕ → Type 0
+abbrev pub RootsCut : HalfspaceLists 512 65 → ℕ → List ℕ → Tally → List ℕ → Type 0
 RootsCut p depth before s after =
     (g : Region) → Prepared g (halfspaces_in p) (ends_in p) → TallyHolds s.budget before (cutting depth g) s after
 
-pub record RootNeeds (depth : ℕ) (p : HalfspaceLists 512 64) (s : Tally) (out : List ℕ) : Type 0 where
+pub record RootNeeds (depth : ℕ) (p : HalfspaceLists 512 65) (s : Tally) (out : List ℕ) : Type 0 where
   pub low : 1 ≤ depth
   pub high : depth ≤ 12
   pub ready : ReadyRegion p
@@ -130,7 +130,7 @@ pub record RootNeeds (depth : ℕ) (p : HalfspaceLists 512 64) (s : Tally) (out 
   pub budget : 1 ≤ s.budget
   pub list : 4 * s.budget ≤ length out
 
-pub record RootsGive (depth : ℕ) (p : HalfspaceLists 512 64) (s : Tally) (out : List ℕ) (s' : Tally) (out' : List ℕ) : Type 0 where
+pub record RootsGive (depth : ℕ) (p : HalfspaceLists 512 65) (s : Tally) (out : List ℕ) (s' : Tally) (out' : List ℕ) : Type 0 where
   pub cut : RootsCut p depth out s' out'
   pub invariant : TallyInvariant s' out'
   pub budget : s'.budget ≡ s.budget
@@ -142,7 +142,7 @@ pub record Finishes (s : Tally) (out : List ℕ) (c : Counts) (out' : List ℕ) 
   pub counts : c ≡ counts_in s inner (identifiers (ranges_in s.outer.n out))
 
 -- the lists stand in the lent list, and the counts are theirs
-abbrev pub Covers : HalfspaceLists 512 64 → ℕ → ℕ → List ℕ → Counts → List ℕ → Type 0
+abbrev pub Covers : HalfspaceLists 512 65 → ℕ → ℕ → List ℕ → Counts → List ℕ → Type 0
 Covers p b depth before c after =
     (g : Region) → Prepared g (halfspaces_in p) (ends_in p)
     → (c ≡ counts_of (listed b (cutting depth g))) × (after ≡ both_listed b (listed b (cutting depth g)) before)

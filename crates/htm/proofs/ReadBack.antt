@@ -2,7 +2,6 @@
 -- refusal, for no refusal has the number 0 (RefusalNumbers). So `htm_chosen` gives the part of that answer. Assumes nothing.
 use Prim.Native.Nat.{ℕ, zero, suc, ◌≤◌}
 use Rattle.std.specs.Prelude.{Result, Ok, Err}
-use Rattle.answer.specs.declared.Refusal.{Refusal}
 use native.Mathlib.Omega.{arith}
 use mathlib.Core.Path.{◌≡◌, refl, sym, ap, subst, ◌∙◌}
 use mathlib.Core.Bool.{true, cond}
@@ -12,7 +11,6 @@ use lib.ListN.{length}
 use lib.IntN.{pos, neg_ℤ}
 use borrow.Author.Tests.{ltb-true, ne_eqb, le-leb}
 use Rattle.answer.specs.Answer.{Answer, refused, gives, check, Space}
-use Rattle.answer.specs.Calls.{number, answer_of}
 use Rattle.answer.specs.Lent.{put, stored}
 use Rattle.answer.proofs.PutLaws.{put_length}
 use Rattle.trial.specs.declared.Choice.{Choice}
@@ -20,7 +18,7 @@ use Rattle.trial.specs.declared.Choice.TheVariants.{First, Second}
 use Rattle.trial.specs.declared.Trial.{Trial}
 use Rattle.trial.specs.Answers.{trial_list, trial_counts, of_choice}
 use Rattle.htm_abi.specs.Values.{status_of}
-use Rattle.htm_abi.specs.TrialValues.{choice_in, trial_in, numbered, answer_in, part_list}
+use Rattle.htm_abi.specs.TrialValues.{choice_in, trial_in, trial_given, answer_in, part_list}
 use Rattle.htm.specs.TrialFromC.{trial_for_c, first_after_c, second_after_c, trial_after_c, chosen_for_c, ReadBack, PartForC}
 use Rattle.htm.proofs.RefusalNumbers.{Nonzero, trial_nonzero}
 
@@ -39,9 +37,9 @@ refusal_back : (n : ℕ) (ns : List ℕ) → ltb 0 n ≡ true → answer_in (neg
 refusal_back zero ns e = absurd (omega (arith, ltb-true 0 0 e))
 refusal_back (suc n) ns e = ap (λ b. cond b (Ok (trial_in ns)) (Err (suc n))) (ne_eqb (suc n) 0 (λ z. omega arith))
 
-answer_back : (r : Result Trial Refusal) (ns : List ℕ) → Nonzero (answer_of r) → answer_in (status_of (answer_of r)) (left (answer_of r) ns) ≡ numbered r
+answer_back : (r : Result Trial ℕ) (ns : List ℕ) → Nonzero (trial_given r) → answer_in (status_of (trial_given r)) (left (trial_given r) ns) ≡ r
 answer_back (Ok t) ns e = ap Ok (read_list t ns)
-answer_back (Err r) ns e = refusal_back (number r) ns (e.number (number r) refl)
+answer_back (Err n) ns e = refusal_back n ns (e.number n refl)
 
 pub read_back : ReadBack
 unfolding trial_after_c
@@ -55,11 +53,6 @@ length_left : (a : Answer Trial) (ns : List ℕ) → trial_counts ≤ length ns 
 length_left (refused n) ns h = refl
 length_left (gives t) ns h = put_length 0 (trial_list t) ns h
 
--- the number of a refusal says nothing of the part
-part_same : (r : Result Trial Refusal) (first second : List ℕ) → part_list (numbered r) first second ≡ part_list r first second
-part_same (Ok t) first second = refl
-part_same (Err r) first second = refl
-
 pub part_for_c : PartForC
 unfolding trial_after_c chosen_for_c
 part_for_c o l f s t first second numbers part r e h k =
@@ -67,5 +60,4 @@ part_for_c o l f s t first second numbers part r e h k =
     let two = second_after_c o l f s t first second numbers in
     let a = trial_for_c o l f s t first second numbers in
     let long : leb trial_counts (length (left a numbers)) ≡ true = le-leb trial_counts (length (left a numbers)) (omega (arith, length_left a numbers h, h)) in
-    (λ i. check Space (long i) (check Space (le-leb 2 (length part) k i) (gives (part_list (read_back o l f s t first second numbers r e i) one two))))
-    ∙ ap gives (part_same r one two)
+    λ i. check Space (long i) (check Space (le-leb 2 (length part) k i) (gives (part_list (read_back o l f s t first second numbers r e i) one two)))

@@ -180,9 +180,9 @@ fn table_digit(p: Vec3, a: usize, b: usize, c: usize) -> u64
 {
     digit_by(
         p,
-        mesh_table::vector_at(a),
-        mesh_table::vector_at(b),
-        mesh_table::vector_at(c),
+        mesh_table::vector_at(&mesh_table::TABLE, a),
+        mesh_table::vector_at(&mesh_table::TABLE, b),
+        mesh_table::vector_at(&mesh_table::TABLE, c),
     )
 }
 
@@ -206,7 +206,7 @@ fn from_table(p: Vec3, root: u64) -> TableTrixel
     let e = table_digit(q, below + 21, below + 22, below + 23);
     TableTrixel {
         id: 16 * (FIRST_ROOT + root) + 4 * d + e,
-        entry: mesh_table::corners_at(below + 6 * e as usize),
+        entry: mesh_table::corners_at(&mesh_table::TABLE, below + 6 * e as usize),
         pointing: q,
     }
 }

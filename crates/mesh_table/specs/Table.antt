@@ -1,10 +1,12 @@
 -- The table of the trixels of depth 3 under S0, by the cutting rule. Document 01, 'Pointings and the mesh'; document 02, F-6.
 --   vectors_of t   corners and normals of a trixel, v0 v1 v2 p0 p1 p2, each as its numbers x y z
 --   table_from     those of so many trixels of depth 3; those of the 16 under S0, 128 to 143, are the table
+--   row_of d       those of the four trixels below child number d of S0; Row xs, that xs are those of some trixels of depth 3
+--   vector_in xs k the vector number k of a row
 --   vector_at k    the corner or normal number k of these trixels, six for each
-use Rattle.std.specs.Prelude.{ℕ, zero, suc, ◌+◌, ◌/◌, ◌%◌, cond, List, [], ◌∷◌, ◌++◌, eqb, ℤ}
+use Rattle.std.specs.Prelude.{ℕ, zero, suc, ◌+◌, ◌*◌, ◌/◌, ◌%◌, ◌≡◌, cond, List, [], ◌∷◌, ◌++◌, eqb, ℤ, pos, get_or}
 use Rattle.vector.specs.declared.Vec3.{Vec3}
-use Rattle.vector.specs.Vectors.{three}
+use Rattle.vector.specs.Vectors.{vec, three}
 use Rattle.mesh.specs.declared.Trixel.{Trixel}
 use Rattle.mesh.specs.Identifiers.{trixel}
 
@@ -15,6 +17,19 @@ vectors_of t = three t.v0 ∷ three t.v1 ∷ three t.v2 ∷ three t.p0 ∷ three
 unfoldable pub table_from : ℕ → ℕ → List (List ℤ)
 table_from zero i = []
 table_from (suc n) i = vectors_of (trixel 2 i) ++ table_from n (suc i)
+
+-- the part of the table below child number d of S0
+abbrev pub row_of : ℕ → List (List ℤ)
+row_of d = table_from 4 (128 + 4 * d)
+
+pub record Row (xs : List (List ℤ)) : Type 0 where
+  pub n : ℕ
+  pub i : ℕ
+  pub is : xs ≡ table_from n i
+
+-- vector number k of a row
+abbrev pub vector_in : List (List ℤ) → ℕ → Vec3
+vector_in xs k = vec (get_or (get_or xs k []) 0 (pos 0)) (get_or (get_or xs k []) 1 (pos 0)) (get_or (get_or xs k []) 2 (pos 0))
 
 -- corner or normal number a of a trixel: v0 v1 v2 p0 p1 p2
 abbrev pub part_of : ℕ → Trixel → Vec3

@@ -2,21 +2,21 @@
 // specs/Table defines the numbers, mesh/specs/Rotations the rotations.
 #![tactic(auto)]
 
-ghost use Rattle.std.specs.Prelude.{◌≡◌, cond, ◌+◌, ◌<◌};
+ghost use Rattle.std.specs.Prelude.{◌≡◌, cond, ◌+◌, ◌<◌, length};
 ghost use Rattle.algebra.proofs.Sizes.{Upto};
 ghost use Rattle.vector.specs.Numbers.{Kℕ};
 ghost use Rattle.vector.specs.Vectors.{vec};
 ghost use Rattle.vector.proofs.Sizes.{Small};
 ghost use Rattle.mesh.specs.Rotations as rule;
 ghost use Rattle.mesh_trixels.specs.Corners.{triple_of, SmallCorners};
-ghost use Rattle.mesh_table.specs.Table.{vector_at};
+ghost use Rattle.mesh_table.specs.Table.{Row, vector_in};
 
 use mesh::{Corners, Rotation};
 use vector::Vec3;
 
 // v0 v1 v2, then p0 p1 p2 of each trixel, in identifier order. Printed by tools/table.py.
 #[rattlefmt::skip]
-static TABLE: [[i32; 3]; 96] = [
+pub static TABLE: [[i32; 3]; 96] = [
     [1048576, 0, 0], [968758, 0, -401272], [968758, 401272, 0],
     [434333, -1048576, 1048576], [0, 0, -1048576], [0, 1048576, 0],
     [741455, 0, -741455], [856158, 428079, -428079], [968758, 0, -401272],
@@ -51,15 +51,16 @@ static TABLE: [[i32; 3]; 96] = [
     [1048576, -349525, 349525], [-349525, -349525, -1048576], [-349525, 1048576, 349525],
 ];
 
-// Vector k of the table: corner or normal number k % 6 of its trixel k / 6.
-pub fn vector_at(k: usize) -> Vec3
-    requires { k < 96 }
-    ensures { (result ≡ vector_at k) × Small result }
+// Vector k of a row: corner or normal number k % 6 of its trixel k / 6.
+pub fn vector_at(row: &[[i32; 3]], k: usize) -> Vec3
+    requires row { Row row.now }
+    requires k_bound { k < length row.now }
+    ensures { (result ≡ vector_in row.now k) × Small result }
 {
     Vec3 {
-        x: TABLE[k][0] as i64,
-        y: TABLE[k][1] as i64,
-        z: TABLE[k][2] as i64,
+        x: row[k][0] as i64,
+        y: row[k][1] as i64,
+        z: row[k][2] as i64,
     }
 }
 
@@ -127,13 +128,18 @@ fn turned(k: Rotation, a: Vec3) -> Vec3
     signed(k, swapped_if(k.swaps, a))
 }
 
-// The corners v0 v1 v2 of the entry that begins at vector i.
-pub fn corners_at(i: usize) -> Corners
-    requires { i + 2 < 96 }
-    ensures value { result ≡ triple_of (vector_at i) (vector_at (i + 1)) (vector_at (i + 2)) }
+// The corners v0 v1 v2 of the entry that begins at vector i of a row.
+pub fn corners_at(row: &[[i32; 3]], i: usize) -> Corners
+    requires row { Row row.now }
+    requires i_bound { i + 2 < length row.now }
+    ensures value { result ≡ triple_of (vector_in row.now i) (vector_in row.now (i + 1)) (vector_in row.now (i + 2)) }
     ensures small_corners { SmallCorners result }
 {
-    mesh_trixels::triple(vector_at(i), vector_at(i + 1), vector_at(i + 2))
+    mesh_trixels::triple(
+        vector_at(row, i),
+        vector_at(row, i + 1),
+        vector_at(row, i + 2),
+    )
 }
 
 // The corners of an entry of S0's, turned to a root.

@@ -15,15 +15,15 @@ use std::fmt::Write;
 // The elements of two lists of pairs, each within the largest budget.
 pub const RANGES_LENGTH: usize = 4 * MAX_BUDGET as usize;
 
-// The lines of the cover of a file, with `separator` between them; or its refusal.
-pub fn lines(out: &mut Output, file: &[u8], separator: char) -> Result<(), Fault> {
+// The lines of the cover of a file, with the byte `separator` between them; or its refusal.
+pub fn lines(out: &mut Output, file: &[u8], separator: u8) -> Result<(), Fault> {
     let mut lists = [0u64; RANGES_LENGTH];
     let counts = htm::cover(file, &mut lists)?;
     let settings = settings_of(file)?;
     let inner = inner_start(settings.budget);
     first_line(out, settings.depth, counts)?;
-    named(out, separator, 'o', pairs(&lists, 0, counts.outer))?;
-    named(out, separator, 'i', pairs(&lists, inner, counts.inner))?;
+    named(out, separator, b'o', pairs(&lists, 0, counts.outer))?;
+    named(out, separator, b'i', pairs(&lists, inner, counts.inner))?;
     out.write_str("\n")?;
     Ok(())
 }
@@ -57,9 +57,9 @@ fn pairs(lists: &[u64], from: usize, count: u64) -> &[[u64; 2]] {
 }
 
 // The ranges of a list by the names of their first and last trixel, each behind the separator and the list's letter.
-fn named(out: &mut Output, separator: char, letter: char, ranges: &[[u64; 2]]) -> fmt::Result {
+fn named(out: &mut Output, separator: u8, letter: u8, ranges: &[[u64; 2]]) -> fmt::Result {
     for [low, high] in ranges {
-        write!(out, "{separator}{letter} ")?;
+        out.bytes(&[separator, letter, b' '])?;
         out.name(*low)?;
         out.write_str(" ")?;
         out.name(*high)?;

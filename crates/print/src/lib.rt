@@ -101,7 +101,7 @@ impl Output {
         let mut name = [0u8; NAME_BYTES];
         match htm::name(id, &mut name) {
             Ok(n) => self.bytes(&name[..least(n, NAME_BYTES)]),
-            Err(n) => write!(self, "{}", Refused(n)),
+            Err(n) => write!(self, "{}", Refused(n.number())),
         }
     }
 
@@ -130,7 +130,7 @@ impl Output {
         match answer {
             Ok(()) => Ok(()),
             Err(Fault::Malformed) => self.write_str("usage\n"),
-            Err(Fault::Refused(n)) => writeln!(self, "{}", Refused(n)),
+            Err(Fault::Refused(n)) => writeln!(self, "{}", Refused(n.number())),
             Err(Fault::Lost) => Err(fmt::Error),
         }
     }
@@ -155,15 +155,15 @@ impl Write for Output {
     }
 }
 
-// A refusal, as it is printed.
+// A refusal by its number, as it is printed.
 #[derive(Clone, Copy)]
-pub struct Refused(pub Refusal);
+pub struct Refused(pub u32);
 
 impl fmt::Display for Refused {
     ghost output = { λ r. Some (refused_text r.0) };
 
     fn fmt<W: fmt::Write>(&self, f: &mut fmt::Formatter<W>) -> fmt::Result {
-        write!(f, "refused {}", self.0.number())
+        write!(f, "refused {}", self.0)
     }
 }
 

@@ -12,9 +12,11 @@ const ROWS: usize = 5 * HALFSPACES;
 
 // rows HEX
 pub fn rows(mut words: Words<'_>, out: &mut Output) -> Result<(), Fault> {
-    let mut bytes = [0u8; FILE_CAPACITY];
-    let file = words.file(&mut bytes)?;
+    let mut hex = words;
+    words.word()?;
     words.end()?;
+    let mut bytes = [0u8; FILE_CAPACITY];
+    let file = hex.file(&mut bytes)?;
     let mut rows = [0i32; ROWS];
     let header = htm::read(file, &mut rows)?;
     let n = print::least(header.count as u64 * 5, ROWS);
@@ -38,9 +40,11 @@ pub fn file(style: Style, mut words: Words<'_>, out: &mut Output) -> Result<(), 
 
 // togrouped HEX, toplain HEX
 pub fn convert(style: Style, mut words: Words<'_>, out: &mut Output) -> Result<(), Fault> {
-    let mut given = [0u8; FILE_CAPACITY];
-    let file = words.file(&mut given)?;
+    let mut hex = words;
+    words.word()?;
     words.end()?;
+    let mut given = [0u8; FILE_CAPACITY];
+    let file = hex.file(&mut given)?;
     let mut bytes = [0u8; MAX_FILE_BYTES];
     let length = match style {
         Style::Plain => htm::to_plain(file, &mut bytes),

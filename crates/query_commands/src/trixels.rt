@@ -14,10 +14,12 @@ pub fn lookup(mut words: Words<'_>, out: &mut Output) -> Result<(), Fault> {
 
 // line HEX DEPTH
 pub fn line(mut words: Words<'_>, out: &mut Output) -> Result<(), Fault> {
-    let mut bytes = [0u8; FILE_CAPACITY];
-    let line = words.file(&mut bytes)?;
+    let mut hex = words;
+    words.word()?;
     let depth = words.natural()?;
     words.end()?;
+    let mut bytes = [0u8; FILE_CAPACITY];
+    let line = hex.file(&mut bytes)?;
     out.located(htm::locate_line(line, depth)?)?;
     Ok(())
 }

@@ -2,7 +2,7 @@
 // and a failure is said on standard error.
 #![tactic(auto)]
 
-ghost use Rattle.std.specs.Prelude.{◌≤◌, length, IfSome};
+ghost use Rattle.std.specs.Prelude.{◌≡◌, ◌≤◌, length, IfSome, Err};
 ghost use Rattle.std.specs.Io.{ReadsAtMost};
 ghost use Rattle.std.specs.Io.KnownBytes.{ReadConsumes};
 ghost use Rattle.streams.specs.Input.{BytesIn};
@@ -48,10 +48,15 @@ impl Streams {
         ensures { BytesIn to.new result }
     {
         let mut input = self.input;
-        read_from(&mut input, to).inspect_err(|e| self.say(
-            "standard input is not read to its end",
-            e,
-        ))
+        read_from(&mut input, to).or_else(|e| self.failed(e))
+    }
+
+    // A read has failed: that is said, and its error is given.
+    fn failed(self, failure: io::Error) -> io::Result<usize>
+        ensures { result ≡ Err failure }
+    {
+        self.say("standard input is not read to its end", &failure);
+        Err(failure)
     }
 
     // Reads to the end of the input, or until `to` is full.

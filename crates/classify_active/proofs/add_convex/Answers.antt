@@ -12,7 +12,8 @@ within : (c : Else-m-w) → (c.args.active.now.count ≤ length c.args.active.no
 within c =
     let long : 32 ≤ length c.args.active.now.halfspaces = search rules in
     let wide : 32 ≤ length c.args.active.now.ends = search rules in
-    (omega (arith, c.args.active.now.count_within), omega (arith, c.args.active.now.convexes_within))
+    let room = c.requires.few.0 in
+    (omega (arith, room.0), omega (arith, room.1))
 
 -- what was found of the convex
 module _ (c : Else-m-w) (v : Convex) (k : PreparedConvex v c.args.convex.now) where
@@ -30,31 +31,30 @@ place c =
     end_place g.0 a.halfspaces a.ends a.count a.convexes g.1 w.0 w.1 f.0 f.1 f.2 (omega (arith, c.if-m-w.false))
 
 pub returns-in_default : goal.returns-in_default
-returns-in_default c g p v k =
+returns-in_default c =
     let a = c.args.active.now in
+    let w = c.requires.few.0 in
     let long : 32 ≤ length a.halfspaces = search rules in
     let wide : 32 ≤ length a.ends = search rules in
-    let f = subst (λ o. ActiveResultOf c.args.r v a.count a.halfspaces c.active_in_convex.new.active (Ok o)) c.in_default.is (c.in_ok-m.ensures v k) in
-    (g, still_prepared g a.halfspaces a.ends a.count a.convexes p (omega (arith, a.count_within)) (omega (arith, a.convexes_within)) f.0 f.1, added_outside c.args.r g v f.2)
+    let f = λ (v : Convex) (k : PreparedConvex v c.args.convex.now).
+    subst (λ o. ActiveResultOf c.args.r v a.count a.halfspaces c.active_in_convex.new.active (Ok o)) c.in_default.is (c.in_ok-m.ensures v k) in
+    (w, λ g p v k. (g, still_prepared g a.halfspaces a.ends a.count a.convexes p (omega (arith, w.0)) (omega (arith, w.1)) (f v k).0 (f v k).1, added_outside c.args.r g v (f v k).2))
 
 pub bounds-active-active : goal.bounds-active-active
 bounds-active-active c = (place (goal.at.bounds-active-active c).Else-m-w).0
 
-pub invariant_of-active-2 : goal.invariant_of-active-2
-invariant_of-active-2 c = let h = place (goal.at.invariant_of-active-2 c).Else-m-w in record {
-  count_within = h.1;
-  convexes_within = omega (arith, h.0);
-}
-
 pub returns : goal.returns
-returns c g p v k =
+returns c =
     let a = c.args.active.now in
     let e = (goal.at.returns c).Else-m-w in
     let w = within e in
-    let f = found e v k in
+    let f = found e in
     let wide : 32 ≤ length c.args.active.now.ends = search rules in
     let h = place e in (
-      _,
-      more_prepared g a.halfspaces a.ends a.count a.convexes p w.0 w.1 f.0 f.1 f.2 (omega (arith, c.if-m-w.false)) (omega (arith, h.0)),
-      added_active c.args.r g v f.0 f.3,
+      (h.1, omega (arith, h.0)),
+      λ g p v k. (
+        _,
+        more_prepared g a.halfspaces a.ends a.count a.convexes p w.0 w.1 (f v k).0 (f v k).1 (f v k).2 (omega (arith, c.if-m-w.false)) (omega (arith, h.0)),
+        added_active c.args.r g v (f v k).0 (f v k).3,
+      ),
     )

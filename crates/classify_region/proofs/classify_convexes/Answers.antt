@@ -1,20 +1,24 @@
-use Rattle.std.proofs.Common.{rules, arith, ◌∙◌, sym, subst, get_or, take, drop, ◌-◌}
+use Rattle.std.proofs.Common.{rules, arith, ◌∙◌, refl, sym, subst, get_or, ◌+◌}
+use Rattle.std.specs.Ordering.{ord_max}
 use Rattle.classify.specs.declared.Class.{Class}
-use Rattle.classify_prepared.specs.PreparedLists.{ClassedConvex}
-use Rattle.classify_region.proofs.ScanLaws.{outside_is, full_is, halfspace_sound, halfspace_taken, exhausted, convex_left_out, opened_within, opened_ready, closed, ended, full_in}
+use Rattle.classify.specs.contracts.ClassOrd.TheImpl.{cmp-value}
+use Rattle.classify_region.proofs.ScanLaws.{outside_is, full_is, InRegion, halfspace_sound, halfspace_taken, exhausted, opened_within, opened_ready, closed, left_out_in, ended, full_in}
 use Rattle.classify_region.proofs.classify_convexes.Goals as goal
 use Rattle.classify_region.proofs.classify_convexes.Goals.{Left-halfspaces, else-halfspaces-test, then-halfspaces-test+then-is_outside}
 
--- where the scan of a convex has ended, at its own end or at a halfspace that leaves the trixel outside
+-- the scan of a convex has ended, at its own end or at a halfspace that leaves the trixel outside: where the scan of the region stands
 module _ (c : Left-halfspaces) where
-  abbrev Scanned : Class → Type 0
-  Scanned class = ClassedConvex c.args.t.now (take (get_or c.args.ends.now c.convexes.end-index 0 - c.convexes.start) (drop c.convexes.start c.args.halfspaces.now)) class
+  abbrev Passed : Class → Type 0
+  Passed class =
+      InRegion c.args.t.now c.args.halfspaces.now c.args.ends.now (get_or c.args.ends.now c.convexes.end-index 0) (c.convexes.end-index + 1) (ord_max cmp-value.it c.convexes.settled class)
 
-  scanned : Scanned c.halfspaces-test.class
-  scanned = elim c.halfspaces-test.branch [
-    | else-halfspaces-test w ↦ subst Scanned (sym w.class-is) (exhausted _ _ c.halfspaces.invariant w.halfspaces-test.false)
-    | then-halfspaces-test+then-is_outside w ↦ subst Scanned (sym w.class-is)
-        (convex_left_out _ _ (halfspace_taken _ _ c.halfspaces.invariant _ w.halfspaces-test.true w.classify_one.ensures w.min-class.ensures)
+  passed : Passed c.halfspaces-test.class
+  passed = elim c.halfspaces-test.branch [
+    | else-halfspaces-test w ↦ subst Passed (sym w.class-is)
+        (closed _ _ _ c.convexes.invariant c.convexes-test.true (exhausted _ _ c.halfspaces.invariant w.halfspaces-test.false) refl)
+    | then-halfspaces-test+then-is_outside w ↦ subst Passed (sym w.class-is)
+        (left_out_in _ _ _ c.convexes.invariant c.convexes-test.true
+        (halfspace_taken _ _ c.halfspaces.invariant _ w.halfspaces-test.true w.classify_one.ensures w.min-class.ensures)
         (outside_is _ (sym w.is_outside.ensures ∙ w.if-is_outside.true)))
   ]
 
@@ -39,12 +43,12 @@ pub halfspaces-preserved : goal.halfspaces-preserved
 halfspaces-preserved c = halfspace_taken _ _ c.halfspaces.invariant _ c.halfspaces-test.true c.classify_one.ensures c.min-class.ensures
 
 pub convexes-preserved : goal.convexes-preserved
-convexes-preserved c = closed _ _ _ c.convexes.invariant c.convexes-test.true (scanned (goal.at.convexes-preserved c).Left-halfspaces) c.max-settled.ensures
+convexes-preserved c = subst (InRegion _ _ _ _ _) (sym c.max-settled.ensures) (passed (goal.at.convexes-preserved c).Left-halfspaces)
 
 pub returns-after-convexes : goal.returns-after-convexes
 returns-after-convexes c = ended _ _ _ c.convexes.invariant c.convexes-test.false
 
 pub returns-then-is_full : goal.returns-then-is_full
 returns-then-is_full c =
-    full_in _ _ _ (closed _ _ _ c.convexes.invariant c.convexes-test.true (scanned (goal.at.returns-then-is_full c).Left-halfspaces) c.max-settled.ensures)
+    full_in _ _ _ (subst (InRegion _ _ _ _ _) (sym c.max-settled.ensures) (passed (goal.at.returns-then-is_full c).Left-halfspaces))
     (full_is _ (sym c.is_full.ensures ∙ c.if-is_full.true))

@@ -16,11 +16,11 @@ cover_prepared-requires c =
     let p = c.prepare.ensures in
     record {
       le_depth = c.requires.le_depth;
-      ready = (r.0, rows_ready r.0 _ _ r.1 _ _ (le_refl _) (le_refl _) p.halfspaces_after p.ends_after p.counts.0 p.counts.1);
+      ready = (r.0, rows_ready r.0 _ _ r.1 _ _ (le_refl _) (search rules) p.halfspaces_after p.ends_after p.counts.0 p.counts.1);
       le_budget = c.requires.le_budget;
     }
 
 pub returns : goal.returns
 returns c g r =
     let p = c.prepare.ensures in
-    c.cover_prepared.ensures g (rows_ready g _ _ r _ _ (le_refl _) (le_refl _) p.halfspaces_after p.ends_after p.counts.0 p.counts.1)
+    c.cover_prepared.ensures g (rows_ready g _ _ r _ _ (le_refl _) (search rules) p.halfspaces_after p.ends_after p.counts.0 p.counts.1)

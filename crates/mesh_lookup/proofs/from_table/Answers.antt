@@ -4,6 +4,7 @@ use Prim.Native.Nat.{ℕ, ◌+◌, ◌*◌, ◌<◌}
 use native.Mathlib.Omega.{arith}
 use mathlib.Core.Path.{◌≡◌, refl, sym, ap, ◌∙◌}
 use Rattle.mesh.specs.Rotations.{turned_by}
+use Rattle.mesh_table.proofs.Numbers.{table_row, corners_of_table}
 use Rattle.mesh_lookup.proofs.TableLaws.{root_digit, child_digit, table_start, entry_of}
 use Rattle.mesh_lookup.proofs.from_table.Goals as goal
 
@@ -12,6 +13,9 @@ small_id k d e h i j = omega arith
 
 first_id : (k d e : ℕ) → 16 * (8 + k) + 4 * d + e ≡ 128 + 16 * k + 4 * d + e
 first_id k d e = omega arith
+
+pub corners_at-requires-clause-row : goal.corners_at-requires-clause-row
+corners_at-requires-clause-row c = table_row
 
 pub returns : goal.returns
 returns c =
@@ -25,13 +29,14 @@ returns c =
     let d = c.table_digit-d.result in
     let e = c.table_digit-e.result in
     let t = c.corners_at.ensures in
+    let corners = t.value ∙ corners_of_table (24 * d + 6 * e) (omega (arith, first.upper_bound, second.upper_bound)) in
     let ed = first.value ∙ root_digit r h p q there refl refl refl in
     let ee = second.value ∙ child_digit r h p q there d first.upper_bound refl refl refl in
     record {
       back = there;
       pointing = c.turned_back-q.ensures.1;
-      entry = entry_of d e first.upper_bound second.upper_bound _ t.value;
+      entry = entry_of d e first.upper_bound second.upper_bound _ corners;
       small = t.small_corners;
       low = small_id r d e h first.upper_bound second.upper_bound;
-      goes_on = table_start p r d e _ _ h ed ee first.upper_bound second.upper_bound (first_id r d e) t.value;
+      goes_on = table_start p r d e _ _ h ed ee first.upper_bound second.upper_bound (first_id r d e) corners;
     }

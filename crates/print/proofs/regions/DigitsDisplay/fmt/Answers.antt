@@ -1,18 +1,31 @@
--- Two digits more.
-use Rattle.std.proofs.Common.{rules, ℕ, false, List, [], ap, ◌∙◌, sym, take, get_or}
-use Rattle.std.proofs.Output.{has_written_append, has_written_of_eq}
-use Rattle.std.proofs.lemmas.Fmt.{hex_byte}
-use Rattle.std.proofs.lemmas.List.{take_more, flat_map_more}
-use Rattle.std.specs.Fmt.{HasWritten}
+-- The digits of a part are text, and they come behind those of the parts before it.
+use Rattle.std.proofs.Common.{rules, ◌≡◌, List, ℕ, ◌++◌, append_assoc, ap, sym, ◌∙◌}
+use Rattle.std.proofs.Output.{has_written_append}
+use Rattle.std.proofs.lemmas.List.Concat.{flat_map-append}
+use Rattle.std.proofs.lemmas.Str.{IsUtf8-from_ascii}
+use Rattle.std.specs.Slice.Iter.{chunks_rest}
 use Rattle.print.specs.Texts.{byte_text, digits_text}
 use Rattle.print.proofs.regions.DigitsDisplay.fmt.Goals as goal
 
-pub loop-b-preserved : goal.loop-b-preserved
-loop-b-preserved g c p =
-    let xs : List ℕ = c.args.self.now.0.now in
-    let i : ℕ = c.loop-b.b-index in
-    let now : HasWritten g.W.Write.write_str_gives c.loop-b.f (byte_text (get_or xs i 0)) c.write.new.self =
-    has_written_of_eq g.W.Write.write_str_gives _ _ _ _ (hex_byte false (get_or xs i 0) (search rules)) (search rules) in
-    has_written_of_eq g.W.Write.write_str_gives _ _ _ _
-    (flat_map_more byte_text [] (take i xs) (get_or xs i 0) ∙ ap digits_text (sym (take_more xs i 0 c.loop-b-test.true)))
-    (has_written_append g.W.Write.write_str_gives _ _ _ _ _ (c.loop-b.invariant p) now)
+pub unreachable-requires : goal.unreachable-requires
+unreachable-requires g c =
+    c.in_default.ensures.cases.0 (rw c.put_digits.ensures.digits (IsUtf8-from_ascii (digits_text c.in-Some.part.now) c.put_digits.ensures.ascii))
+
+pub loop-part-preserved : goal.loop-part-preserved
+loop-part-preserved g c =
+    let part : List ℕ = c.in-Some.part.now in
+    let rest : List ℕ = chunks_rest c.next.new.self in
+    let steps = c.in-Some.ensures.steps in
+    let shown : c.in-Ok.digits.now ≡ digits_text part = c.in-Ok.ensures.cases.0 ∙ c.put_digits.ensures.digits in (
+      search rules,
+      tt,
+      steps.0 ∙ c.loop-part.invariant.2,
+      λ plain.
+          let so_far = c.loop-part.invariant.3 plain in (
+            so_far.0 ++ c.in-Ok.digits.now,
+            has_written_append _ _ _ _ _ _ so_far.1 (search rules),
+            append_assoc so_far.0 _ _
+                ∙ ap (λ (t : List ℕ). so_far.0 ++ t) (rw shown (sym (flat_map-append byte_text part rest) ∙ ap digits_text (sym steps.1.0)))
+                ∙ so_far.2,
+          ),
+    )

@@ -2,7 +2,7 @@
 use Rattle.std.proofs.Common.{sym, ap, ◌∙◌, arith}
 use Rattle.std.specs.Option.{is_some}
 use Rattle.command_words.proofs.FileLaws.{other, first_digit, second_digit}
-use Rattle.command_words.proofs.StoredLine.store_past.Goals as goal
+use Rattle.command_words.proofs.store_past.Goals as goal
 
 pub returns-then-is_none-clause-stored : goal.returns-then-is_none-clause-stored
 returns-then-is_none-clause-stored c =
