@@ -120,7 +120,7 @@ fn active_in_region(
     requires anchor { IsAnchor r }
     requires none { (active.old.count ≡ 0) × (active.old.convexes ≡ 0) × (most ≤ 32) }
     requires ready { Ready halfspaces.now ends.now }
-    ensures { IfOk result (λ _. ActivePrepared halfspaces.now ends.now active.new r) }
+    ensures { IfOk result (λ _. HasRoom active.new × ActivePrepared halfspaces.now ends.now active.new r) }
 {
     let mut start = 0;
     for &end in ends {
@@ -138,7 +138,7 @@ fn active_limit(n: usize) -> usize
 }
 
 impl Default for ActiveHalfspaces {
-    ghost is_default = { λ a. (a.lists.count ≡ 0) × IsAnchor a.anchor };
+    ghost is_default = { λ a. ((a.lists.count ≡ 0) × (a.lists.convexes ≡ 0)) × IsAnchor a.anchor };
 
     // No halfspaces are known to be active.
     fn default() -> Self {
@@ -167,7 +167,8 @@ pub fn find_active(
 )
     requires small_trixel { SmallTrixel t.now × RaysOf t.now s }
     requires ready { ReadyRegion region.now }
-    ensures { ActiveListsIn region.now active.new }
+    ensures active_lists_in { ActiveListsIn region.now active.new }
+    ensures room { HasRoom active.new.lists }
 {
     let r = crate::settling::anchor_of(t, classify_cap::cap_of(t, classify_cap::middle_of(t), s));
     active.anchor = r;
@@ -249,4 +250,19 @@ pub fn class_beside(
 // Whether to look for active halfspaces: the region has many halfspaces, and none is known to be active.
 pub fn wants_active(region: &PreparedRegion, active: &ActiveHalfspaces) -> bool {
     FEW < region.count && active.lists.is_empty()
+}
+
+#[cfg(test)]
+mod tests {
+    use super::*;
+
+    #[test]
+    fn none_is_active_at_first(rt: HostRuntime) {
+        let active = ActiveHalfspaces::default();
+        assert_eq!(rt; (active.lists.count, active.lists.convexes), (0, 0));
+        assert_eq!(rt;
+            (active.lists.halfspaces().len(), active.lists.ends().len()),
+            (0, 0)
+        );
+    }
 }

@@ -6,7 +6,7 @@ use limits::{CONVEXES, HALFSPACES};
 
 // The halfspaces of a region, prepared, convex after convex, and for each convex the number of halfspaces before its end. There is room for H halfspaces
 // in C convexes; places behind the counts are not used.
-// Kept: that the counts are within the arrays is a clause where it is needed, `HasRoom`, since `prepare` and `find_active` fill what any counts stood in.
+// Kept: that the counts are within the arrays is a clause where it is needed or given (`HasRoom`), since `prepare` and `find_active` take lists with any counts.
 // Kept: that some region was prepared to the lists is a clause, `ReadyRegion`: a ghost field tells only that there is one, and callees ask for its halfspaces.
 // Kept: arrays with counts, and no Vec: nothing is allocated (docs/C.md), and each level of the cutting that finds halfspaces has its lists on the stack.
 #[derive(Clone, Copy)]

@@ -56,7 +56,34 @@ pub fn prepare(rows: &[i32], n: usize, region: &mut PreparedRegion)
     ensures halfspaces_after { region.new.halfspaces ≡ stored 0 n rows.now region.old.halfspaces }
     ensures ends_after { region.new.ends ≡ marked 0 n rows.now region.old.ends }
     ensures counts { (region.new.count ≡ n) × (region.new.convexes ≡ convexes_of 0 n rows.now) }
+    ensures room { (region.new.count ≤ 512) × (region.new.convexes ≤ 64) }
 {
     region.convexes = prepare_rows(rows, n, &mut region.halfspaces, &mut region.ends);
     region.count = n;
+}
+
+#[cfg(test)]
+mod tests {
+    use super::*;
+    use crate::prepared_region::{ENDS, HalfspaceLists};
+    use limits::HALFSPACES;
+
+    // The row of the hemisphere about z, in the first convex.
+    const ROW: [i32; 5] = [0, 0, 0, 1048576, 0];
+
+    #[test]
+    fn rows_are_prepared_where_any_counts_stood(rt: HostRuntime) {
+        let mut region = HalfspaceLists {
+            halfspaces: [crate::NO_HALFSPACE; HALFSPACES],
+            ends: [0; ENDS],
+            count: HALFSPACES + 1,
+            convexes: ENDS + 1,
+        };
+        prepare(&ROW, 1, &mut region);
+        assert_eq!(rt; (region.count, region.convexes), (1, 1));
+        assert_eq!(rt;
+            (region.halfspaces().len(), region.ends()),
+            (1, [1].as_slice())
+        );
+    }
 }

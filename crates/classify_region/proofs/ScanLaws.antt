@@ -456,6 +456,10 @@ module _ (t : Trixel) {xs : List PreparedHalfspace} {es : List ℕ} (one : lengt
       }
   only_scan s (v ∷ w ∷ vs) p = absurd (omega (arith, ap length p.ends, length_ends 0 (v ∷ w ∷ vs)))
 
+  -- where its only convex is at its end, what the scan has is the class for the region
+  pub only_end_in : {j : ℕ} {a : Class} → InConvex t xs j a → length xs ≤ j → Classed t xs es a
+  only_end_in s = only_end t xs es (only_scan s)
+
   -- the class for the only convex of a region is that for the region
   pub only_convex : {c : Class} → ClassedConvex t xs c → Classed t xs es c
-  only_convex f = only_end t xs es (only_scan (at_end t xs f)) (le_refl (length xs))
+  only_convex f = only_end_in (at_end t xs f) (le_refl (length xs))

@@ -20,7 +20,7 @@ fn main(rt: HostRuntime) {
         return;
     };
     let mut out = Output::new(streams);
-    let answer = print::covers::lines(&mut out, &file[..n], b'\n');
+    let answer = print::covers::lines_by_byte(&mut out, &file[..n], b'\n');
     let _ = out.ended(answer);
     let _ = out.flush();
 }

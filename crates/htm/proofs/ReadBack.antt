@@ -10,7 +10,9 @@ use lib.Dec.{ltb, leb}
 use lib.ListN.{length}
 use lib.IntN.{pos, neg_ℤ}
 use borrow.Author.Tests.{ltb-true, ne_eqb, le-leb}
+use Rattle.answer.specs.declared.Refusal.{Refusal}
 use Rattle.answer.specs.Answer.{Answer, refused, gives, check, Space}
+use Rattle.answer.specs.Calls.{answer_of}
 use Rattle.answer.specs.Lent.{put, stored}
 use Rattle.answer.proofs.PutLaws.{put_length}
 use Rattle.trial.specs.declared.Choice.{Choice}
@@ -18,8 +20,8 @@ use Rattle.trial.specs.declared.Choice.TheVariants.{First, Second}
 use Rattle.trial.specs.declared.Trial.{Trial}
 use Rattle.trial.specs.Answers.{trial_list, trial_counts, of_choice}
 use Rattle.htm_abi.specs.Values.{status_of}
-use Rattle.htm_abi.specs.TrialValues.{choice_in, trial_in, trial_given, answer_in, part_list}
-use Rattle.htm.specs.TrialFromC.{trial_for_c, first_after_c, second_after_c, trial_after_c, chosen_for_c, ReadBack, PartForC}
+use Rattle.htm_abi.specs.TrialValues.{choice_in, trial_in, trial_given, numbered, answer_in, part_list}
+use Rattle.htm.specs.TrialFromC.{trial_for_c, first_after_c, second_after_c, trial_after_c, chosen_for_c, ReadBack, PartForC, CallReadBack, CallPartForC}
 use Rattle.htm.proofs.RefusalNumbers.{Nonzero, trial_nonzero}
 
 choice_back : (c : Choice) → choice_in (of_choice c 1 2) ≡ c
@@ -61,3 +63,23 @@ part_for_c o l f s t first second numbers part r e h k =
     let a = trial_for_c o l f s t first second numbers in
     let long : leb trial_counts (length (left a numbers)) ≡ true = le-leb trial_counts (length (left a numbers)) (omega (arith, length_left a numbers h, h)) in
     λ i. check Space (long i) (check Space (le-leb 2 (length part) k i) (gives (part_list (read_back o l f s t first second numbers r e i) one two)))
+
+-- ---- what a call in Rattle answered
+
+-- the number of a refusal stands for it
+called : (r : Result Trial Refusal) → trial_given (numbered r) ≡ answer_of r
+called (Ok t) = refl
+called (Err r) = refl
+
+-- and says nothing of the part
+part_called : (r : Result Trial Refusal) (first second : List ℕ) → part_list (numbered r) first second ≡ part_list r first second
+part_called (Ok t) first second = refl
+part_called (Err r) first second = refl
+
+pub call_read_back : CallReadBack
+call_read_back o l f s t first second numbers r e = read_back o l f s t first second numbers (numbered r) (called r ∙ e)
+
+pub call_part_for_c : CallPartForC
+call_part_for_c o l f s t first second numbers part r e h k =
+    part_for_c o l f s t first second numbers part (numbered r) (called r ∙ e) h k
+    ∙ ap gives (part_called r (first_after_c o l f s t first second numbers) (second_after_c o l f s t first second numbers))

@@ -6,8 +6,11 @@
 --                       10 where ns has fewer than eleven elements, or the list for the answer fewer than two; chosen_after_c: that list afterwards
 --   ReadBack            the status and the numbers of `htm_trial` say what the trial answered, a result or a refusal
 --   PartForC            so after `htm_trial`, whatever it answered, `htm_chosen` with its status, its numbers and its two buffers gives the part of that answer
+--   CallReadBack, CallPartForC   the same of what a call in Rattle answered
 use Rattle.std.specs.Prelude.{ℕ, ◌≤◌, ◌≡◌, List, leb, length, ℤ}
 use Rattle.std.specs.Prelude.{Result}
+use Rattle.answer.specs.declared.Refusal.{Refusal}
+use Rattle.answer.specs.Calls.{answer_of}
 use Rattle.answer.specs.Answer.{Answer, gives, check, with_value, Space}
 use Rattle.answer.specs.Lent.{put, stored}
 use Rattle.region.specs.Reader.{File}
@@ -15,7 +18,7 @@ use Rattle.trial.specs.declared.Setting.{Setting}
 use Rattle.trial.specs.declared.Trial.{Trial}
 use Rattle.trial.specs.Trials.{trial_of}
 use Rattle.trial.specs.Answers.{trial_into, lists_by, trial_list, trial_counts}
-use Rattle.htm_abi.specs.TrialValues.{trial_given, answer_in, part_list}
+use Rattle.htm_abi.specs.TrialValues.{trial_given, numbered, answer_in, part_list}
 use Rattle.htm_abi.specs.Values.{status_of}
 use Rattle.htm.specs.CalledFromC.{in_both}
 
@@ -64,6 +67,23 @@ abbrev pub PartForC : Type 0
 PartForC =
     (o : ℕ) (l : List ℤ) (f : List ℕ) (s t : Setting) (first second numbers part : List ℕ) (r : Result Trial ℕ)
     → trial_given r ≡ trial_for_c o l f s t first second numbers → trial_counts ≤ length numbers → 2 ≤ length part
+    → let one = first_after_c o l f s t first second numbers in
+    let two = second_after_c o l f s t first second numbers in
+    chosen_for_c (status_of (trial_for_c o l f s t first second numbers)) (trial_after_c o l f s t first second numbers) one two part
+    ≡ gives (part_list r one two)
+
+-- ---- the same of what a call in Rattle answered: a result, or one of the refusals
+
+abbrev pub CallReadBack : Type 0
+CallReadBack =
+    (o : ℕ) (l : List ℤ) (f : List ℕ) (s t : Setting) (first second numbers : List ℕ) (r : Result Trial Refusal)
+    → answer_of r ≡ trial_for_c o l f s t first second numbers
+    → answer_in (status_of (trial_for_c o l f s t first second numbers)) (trial_after_c o l f s t first second numbers) ≡ numbered r
+
+abbrev pub CallPartForC : Type 0
+CallPartForC =
+    (o : ℕ) (l : List ℤ) (f : List ℕ) (s t : Setting) (first second numbers part : List ℕ) (r : Result Trial Refusal)
+    → answer_of r ≡ trial_for_c o l f s t first second numbers → trial_counts ≤ length numbers → 2 ≤ length part
     → let one = first_after_c o l f s t first second numbers in
     let two = second_after_c o l f s t first second numbers in
     chosen_for_c (status_of (trial_for_c o l f s t first second numbers)) (trial_after_c o l f s t first second numbers) one two part

@@ -4,11 +4,14 @@
 --   trial_in ns        the result whose numbers stand at the beginning of ns, in the order of `trial_list` (trial/specs/Answers)
 --   answer_in z ns     what a trial answered that gave C the status z and left the numbers ns: the result in ns where z is 0, else the refusal of |z|
 --   trial_given r      the answer that a result, or the number of a refusal, stands for
+--   numbered r         what a trial answered, with the number of a refusal
 --   which_of r         which buffer the part is of: 1 for the first, 2 for the second, 0 after a refusal
 --   part_list r first second   that, and how many elements of it are the part (`part_of`, trial/specs/Answers)
 use Rattle.std.specs.Prelude.{ℕ, ◌+◌, cond, List, [], ◌∷◌, eqb, length, get_or, ℤ, nat_abs}
 use Rattle.std.specs.Prelude.{Result, Ok, Err}
+use Rattle.answer.specs.declared.Refusal.{Refusal}
 use Rattle.answer.specs.Answer.{Answer, gives, refused}
+use Rattle.answer.specs.Calls.{number}
 use Rattle.trial.specs.declared.Setting.{Setting}
 use Rattle.trial.specs.declared.SettingResult.{SettingResult}
 use Rattle.trial.specs.declared.Choice.{Choice}
@@ -39,6 +42,10 @@ trial_in ns = record { first = result_in ns 0; second = result_in ns 5; choice =
 abbrev pub trial_given : Result Trial ℕ → Answer Trial
 trial_given (Ok t) = gives t
 trial_given (Err n) = refused n
+
+abbrev pub numbered : Result Trial Refusal → Result Trial ℕ
+numbered (Ok t) = Ok t
+numbered (Err r) = Err (number r)
 
 abbrev pub answer_in : ℤ → List ℕ → Result Trial ℕ
 answer_in z ns = cond (eqb (nat_abs z) 0) (Ok (trial_in ns)) (Err (nat_abs z))

@@ -88,6 +88,10 @@ part_small (suc (suc (suc (suc zero)))) l h = h.p1
 part_small (suc (suc (suc (suc (suc zero))))) l h = h.p2
 part_small (suc (suc (suc (suc (suc (suc a)))))) l h = absurd (omega arith)
 
+pub vector_small : (k : ℕ) → Small (vector_at k)
+unfolding vector_at
+vector_small k = part_small (k % 6) (omega arith) (trixel_small 2 (128 + k / 6))
+
 length_from : (n i : ℕ) → length (table_from n i) ≡ 6 * n
 unfolding table_from
 length_from zero i = refl

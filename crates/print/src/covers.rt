@@ -3,6 +3,7 @@ ghost use Rattle.std.specs.Prelude.{◌≡◌};
 ghost use Rattle.answer.specs.Calls.{answer_of};
 ghost use Rattle.answer.specs.Answer.{gives};
 ghost use Rattle.region.specs.Reader.{File, Accepted};
+ghost use Rattle.print.specs.Lost.{RefusedAsRead};
 
 use crate::{Fault, Output};
 use answer::Refusal;
@@ -15,15 +16,55 @@ use std::fmt::Write;
 // The elements of two lists of pairs, each within the largest budget.
 pub const RANGES_LENGTH: usize = 4 * MAX_BUDGET as usize;
 
-// The lines of the cover of a file, with the byte `separator` between them; or its refusal.
-pub fn lines(out: &mut Output, file: &[u8], separator: u8) -> Result<(), Fault> {
+// The lines of the cover of a file, with `separator` between them; or its refusal.
+pub fn lines(out: &mut Output, file: &[u8], separator: char) -> Result<(), Fault>
+    ensures { RefusedAsRead file.now result out.old.end out.new.end }
+{
+    with_heads(
+        out,
+        file,
+        |out, letter| write!(out, "{separator}{} ", char::from(letter)),
+    )
+}
+
+// As above, with the byte `separator` between the lines.
+pub fn lines_by_byte(out: &mut Output, file: &[u8], separator: u8) -> Result<(), Fault>
+    ensures { RefusedAsRead file.now result out.old.end out.new.end }
+{
+    with_heads(out, file, |out, letter| {
+        out.bytes(&[separator, letter, b' '])
+    })
+}
+
+// As above; `head` writes what stands before a range, given the letter of its list.
+fn with_heads<F: Fn(&mut Output, u8) -> fmt::Result>(
+    out: &mut Output,
+    file: &[u8],
+    head: F,
+) -> Result<(), Fault>
+    requires { F.IsAlwaysCallable head }
+    ensures { RefusedAsRead file.now result out.old.end out.new.end }
+{
     let mut lists = [0u64; RANGES_LENGTH];
     let counts = htm::cover(file, &mut lists)?;
+    accepted(out, file, counts, &lists, &head)
+}
+
+// The lines of a file that is accepted.
+fn accepted<F: Fn(&mut Output, u8) -> fmt::Result>(
+    out: &mut Output,
+    file: &[u8],
+    counts: Counts,
+    lists: &[u64; RANGES_LENGTH],
+    head: &F,
+) -> Result<(), Fault>
+    requires { F.IsAlwaysCallable head.now }
+{
     let settings = settings_of(file)?;
     let inner = inner_start(settings.budget);
     first_line(out, settings.depth, counts)?;
-    named(out, separator, b'o', pairs(&lists, 0, counts.outer))?;
-    named(out, separator, b'i', pairs(&lists, inner, counts.inner))?;
+    named(out, head, b'o', pairs(lists, 0, counts.outer))?;
+    named(out, head, b'i', pairs(lists, inner, counts.inner))?;
     out.write_str("\n")?;
     Ok(())
 }
@@ -56,10 +97,17 @@ fn pairs(lists: &[u64], from: usize, count: u64) -> &[[u64; 2]] {
     &pairs[..crate::least(count, pairs.len())]
 }
 
-// The ranges of a list by the names of their first and last trixel, each behind the separator and the list's letter.
-fn named(out: &mut Output, separator: u8, letter: u8, ranges: &[[u64; 2]]) -> fmt::Result {
+// The ranges of a list by the names of their first and last trixel, each behind its head.
+fn named<F: Fn(&mut Output, u8) -> fmt::Result>(
+    out: &mut Output,
+    head: &F,
+    letter: u8,
+    ranges: &[[u64; 2]],
+) -> fmt::Result
+    requires { F.IsAlwaysCallable head.now }
+{
     for [low, high] in ranges {
-        out.bytes(&[separator, letter, b' '])?;
+        head(out, letter)?;
         out.name(*low)?;
         out.write_str(" ")?;
         out.name(*high)?;

@@ -185,3 +185,52 @@ pub fn least(n: u64, most: usize) -> usize
 {
     n.min(most as u64) as usize
 }
+
+#[cfg(test)]
+mod tests {
+    use super::*;
+
+    // A file of one halfspace, of depth 1 and budget 1.
+    const FILE: [u8; 32] = [
+        8, 0, 1, 0, 1, 0, 1, 0, 20, 0, 5, 0, 93, 21, 244, 255, 98, 76, 10, 0, 171, 46, 253, 255,
+        30, 34, 1, 0, 4, 0, 4, 0,
+    ];
+
+    // What is collected.
+    fn collected(out: &Output) -> Option<&[u8]> {
+        out.buffer.get(..out.end?)
+    }
+
+    #[test]
+    fn lines_of_a_cover_are_parted_by_any_character(rt: HostRuntime) {
+        let mut out = Output::new(Streams::of(&rt));
+        assert_eq!(rt; covers::lines(&mut out, &FILE, '·').is_ok(), true);
+        assert_eq!(rt;
+            collected(&out),
+            Some(
+                "depth 1 outer 1 inner 1 seen 8 full 1 partial 6 swallowed 1·o S0 N3·i S1 S1\n".as_bytes()
+            )
+        );
+    }
+
+    #[test]
+    fn lines_of_a_cover_are_parted_by_any_byte(rt: HostRuntime) {
+        let mut out = Output::new(Streams::of(&rt));
+        assert_eq!(rt; covers::lines_by_byte(&mut out, &FILE, 255).is_ok(), true);
+        assert_eq!(rt;
+            collected(&out),
+            Some(
+                b"depth 1 outer 1 inner 1 seen 8 full 1 partial 6 swallowed 1\xffo S0 N3\xffi S1 S1\n".as_slice()
+            )
+        );
+    }
+
+    #[test]
+    fn a_file_that_is_refused_has_no_lines(rt: HostRuntime) {
+        let mut out = Output::new(Streams::of(&rt));
+        let answer = covers::lines(&mut out, &FILE[..31], '|');
+        assert_eq!(rt; out.end, Some(0));
+        assert_eq!(rt; out.ended(answer).is_ok(), true);
+        assert_eq!(rt; collected(&out), Some(b"refused 2\n".as_slice()));
+    }
+}

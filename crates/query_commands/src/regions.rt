@@ -26,5 +26,5 @@ pub fn cover(mut words: Words<'_>, out: &mut Output) -> Result<(), Fault> {
     words.end()?;
     let mut bytes = [0u8; FILE_CAPACITY];
     let file = hex.file(&mut bytes)?;
-    print::covers::lines(out, file, b'|')
+    print::covers::lines_by_byte(out, file, b'|')
 }

@@ -29,4 +29,4 @@ pub loop-end-preserved : goal.loop-end-preserved
 loop-end-preserved c = let e = c.in_ok-add_convex.ensures in (e.0, search_added _ _ _ c.loop-end.invariant.1 c.loop-end-test.true e.1)
 
 pub returns : goal.returns
-returns c = region_search_end _ _ _ c.loop-end.invariant.1 c.loop-end-test.false
+returns c = (c.loop-end.invariant.0, region_search_end _ _ _ c.loop-end.invariant.1 c.loop-end-test.false)

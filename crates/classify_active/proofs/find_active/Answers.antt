@@ -12,9 +12,12 @@ kept (Ok x) f e = f
 kept (Err x) f e = absurd (false≢true (sym e))
 
 pub returns-else-is_err : goal.returns-else-is_err
-returns-else-is_err c = record {
-  anchor = c.anchor_of-r.ensures;
-  active = λ h.
-      let f = kept c.active_in_region-found.result c.active_in_region-found.ensures (sym c.is_err.ensures.value ∙ c.if-is_err.false) in
-      subst₂ (λ xs es. ActivePrepared xs es c.active_in_region-found.new.active c.anchor_of-r.result) c.halfspaces.ensures c.ends.ensures f;
-}
+returns-else-is_err c =
+    let f = kept c.active_in_region-found.result c.active_in_region-found.ensures (sym c.is_err.ensures.value ∙ c.if-is_err.false) in
+    record {
+      active_lists_in = record {
+        anchor = c.anchor_of-r.ensures;
+        active = λ h. subst₂ (λ xs es. ActivePrepared xs es c.active_in_region-found.new.active c.anchor_of-r.result) c.halfspaces.ensures c.ends.ensures f.1;
+      };
+      room = f.0;
+    }
