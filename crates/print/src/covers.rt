@@ -23,7 +23,7 @@ pub fn lines(out: &mut Output, file: &[u8], separator: char) -> Result<(), Fault
     with_heads(
         out,
         file,
-        |out, letter| write!(out, "{separator}{} ", char::from(letter)),
+        move |out, letter| write!(out, "{separator}{} ", char::from(letter)),
     )
 }
 
@@ -31,13 +31,13 @@ pub fn lines(out: &mut Output, file: &[u8], separator: char) -> Result<(), Fault
 pub fn lines_by_byte(out: &mut Output, file: &[u8], separator: u8) -> Result<(), Fault>
     ensures { RefusedAsRead file.now result out.old.end out.new.end }
 {
-    with_heads(out, file, |out, letter| {
+    with_heads(out, file, move |out, letter| {
         out.bytes(&[separator, letter, b' '])
     })
 }
 
 // As above; `head` writes what stands before a range, given the letter of its list.
-fn with_heads<F: Fn(&mut Output, u8) -> fmt::Result>(
+fn with_heads<F: Fn(&mut Output, u8) -> fmt::Result + Copy>(
     out: &mut Output,
     file: &[u8],
     head: F,
@@ -47,18 +47,18 @@ fn with_heads<F: Fn(&mut Output, u8) -> fmt::Result>(
 {
     let mut lists = [0u64; RANGES_LENGTH];
     let counts = htm::cover(file, &mut lists)?;
-    accepted(out, file, counts, &lists, &head)
+    accepted(out, file, counts, &lists, head)
 }
 
 // The lines of a file that is accepted.
-fn accepted<F: Fn(&mut Output, u8) -> fmt::Result>(
+fn accepted<F: Fn(&mut Output, u8) -> fmt::Result + Copy>(
     out: &mut Output,
     file: &[u8],
     counts: Counts,
     lists: &[u64; RANGES_LENGTH],
-    head: &F,
+    head: F,
 ) -> Result<(), Fault>
-    requires { F.IsAlwaysCallable head.now }
+    requires { F.IsAlwaysCallable head }
 {
     let settings = settings_of(file)?;
     let inner = inner_start(settings.budget);
@@ -98,13 +98,13 @@ fn pairs(lists: &[u64], from: usize, count: u64) -> &[[u64; 2]] {
 }
 
 // The ranges of a list by the names of their first and last trixel, each behind its head.
-fn named<F: Fn(&mut Output, u8) -> fmt::Result>(
+fn named<F: Fn(&mut Output, u8) -> fmt::Result + Copy>(
     out: &mut Output,
-    head: &F,
+    head: F,
     letter: u8,
     ranges: &[[u64; 2]],
 ) -> fmt::Result
-    requires { F.IsAlwaysCallable head.now }
+    requires { F.IsAlwaysCallable head }
 {
     for [low, high] in ranges {
         head(out, letter)?;
